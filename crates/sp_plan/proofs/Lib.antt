@@ -1,0 +1,2 @@
+mod LastBound
+mod Worked

@@ -1,0 +1,48 @@
+ghost use Rattle.std.specs.Prelude.{◌≡◌, ℕ, List, []};
+ghost use Rattle.std.specs.Option.{option_map, option_copied};
+ghost use Rattle.sp_plan.specs.Values.{last_bound};
+
+use crate::Event;
+use std::alloc::Global;
+use std::marker::Model;
+
+/// The events that a partial match has bound so far, each with the number of its name.
+#[derive(Drop)]
+pub struct Bound {
+    pairs: Vec<(u8, Event)>,
+}
+
+impl Model for Bound {
+    ghost use Rattle.std.specs.Prelude.{ℕ, List};
+    ghost use Rattle.sp_plan.specs.declared.event.Event.{Event};
+
+    ghost Value = { List (ℕ × Event) };
+
+    ghost view = { λ b. b.pairs.items };
+}
+
+impl Bound {
+    /// No event is bound. Takes no memory.
+    pub fn new(alloc: Global) -> Bound
+        ensures { result ≡ [] }
+    {
+        Bound {
+            pairs: Vec::new(alloc),
+        }
+    }
+
+    /// The last event bound to the name, None exactly where there is none.
+    pub fn get(&self, name: u8) -> Option<&Event>
+        ensures { option_copied result ≡ option_map (λ pair. pair.1) (last_bound name self.now) }
+    {
+        let mut left = self.pairs.len();
+        while left > 0 {
+            left -= 1;
+            let pair = &self.pairs[left];
+            if pair.0 == name {
+                return Some(&pair.1);
+            }
+        }
+        None
+    }
+}

@@ -1,0 +1,43 @@
+// Whether an event has the values that a plan's schema asks for.
+ghost use Rattle.std.specs.Prelude.{◌≡◌};
+ghost use Rattle.std.specs.List.{list_all, zip};
+ghost use Rattle.sp_plan.specs.Events.{fits, fits_kind, fits_column};
+
+use crate::{Column, Event, Kind, Plan, Value};
+
+// The greatest magnitude of a number of the input, and the last time.
+const GREATEST: i64 = 1_000_000_000_000_000;
+
+fn fits_kind(kind: Kind, value: Value) -> bool
+    ensures { result ≡ fits_kind kind value }
+{
+    match (kind, value) {
+        (Kind::Int | Kind::Dec(_), Value::Number(n)) => n.unsigned_abs() <= GREATEST as u64,
+        (Kind::Text, Value::Symbol(_)) => true,
+        _ => false,
+    }
+}
+
+fn fit_columns(columns: &[Column], values: &[Value]) -> bool
+    ensures { result ≡ list_all fits_column (zip columns.now values.now) }
+{
+    columns
+        .iter()
+        .zip(values)
+        .all(|(column, value)| fits_kind(column.kind, *value))
+}
+
+impl Plan {
+    /// Whether the event has one value of the right sort for each column, each number is at most
+    /// 10^15 in magnitude, and the time is 0 to 10^15.
+    pub fn fits(&self, event: &Event) -> bool
+        ensures { result ≡ fits self.now event.now }
+    {
+        let columns = self.schema.columns.as_slice();
+        let values = event.values.as_slice();
+        columns.len() == values.len()
+            && fit_columns(columns, values)
+            && 0 <= event.time
+            && event.time <= GREATEST
+    }
+}

@@ -1,0 +1,27 @@
+//! The compiled plan of a query, the events that it is run on, and what its predicates say of them.
+//! What a query means stands in `specs/`: values, windows, runs, the engine that goes window by
+//! window, and the text of its matches. Every other crate cites these definitions.
+#![tactic(auto)]
+
+mod bound;
+mod eval;
+mod event;
+mod fits;
+mod found;
+mod listed;
+mod places;
+mod plan;
+
+pub use bound::Bound;
+pub use eval::holds;
+pub use event::{Event, Value};
+pub use found::Match;
+pub use listed::{Listed, Text};
+pub use places::Places;
+pub use plan::{
+    Column, Compare, Element, Expr, Kind, Length, Name, Opening, Plan, Pred, Schema, Select,
+};
+use std::alloc::AllocError;
+
+/// Want of memory. Any call that allocates may answer it, and says what stands after it.
+pub type Memory = AllocError;

@@ -1,0 +1,59 @@
+// Vectors and texts as contracts see them: as lists, with neither capacity nor pointer, so that plain
+// data can be compared with the values of definitions.
+ghost use Rattle.std.specs.Prelude.{◌≡◌, List, ℕ, string_bytes};
+
+use std::marker::Model;
+
+/// A vector that contracts see as the list of its items.
+#[derive(Drop)]
+pub struct Listed<T> {
+    items: Vec<T>,
+}
+
+impl<T> Model for Listed<T> {
+    ghost Value = { List T };
+
+    ghost view = { λ s. s.items.items };
+}
+
+impl<T> Listed<T> {
+    /// The list of these items. Takes no memory.
+    pub fn of(items: Vec<T>) -> Listed<T>
+        ensures { result ≡ items.items }
+    {
+        Listed { items }
+    }
+
+    pub fn as_slice(&self) -> &[T]
+        ensures { result.now ≡ self.now }
+    {
+        &self.items
+    }
+}
+
+/// A text that contracts see as the list of its bytes.
+#[derive(Drop)]
+pub struct Text {
+    text: String,
+}
+
+impl Model for Text {
+    ghost Value = { List ℕ };
+
+    ghost view = { λ s. string_bytes s.text };
+}
+
+impl Text {
+    /// This text. Takes no memory.
+    pub fn of(text: String) -> Text
+        ensures { result ≡ string_bytes text }
+    {
+        Text { text }
+    }
+
+    pub fn as_str(&self) -> &str
+        ensures { result.now ≡ self.now }
+    {
+        &self.text
+    }
+}
