@@ -1,0 +1,91 @@
+ghost use Rattle.std.specs.Prelude.{◌≡◌, false, None};
+
+use crate::{Failed, Sink, Source};
+use std::io::Read;
+
+/// Standard input. It tells no bytes, only how often a read failed and whether the input has ended.
+#[derive(Drop)]
+pub struct StdSource {
+    runtime: HostRuntime,
+    failed: u64,
+    ended: bool,
+}
+
+impl StdSource {
+    ghost use Rattle.sp_io.specs.Standard.{source_state};
+
+    pub fn new(runtime: HostRuntime) -> StdSource
+        ensures { source_state result ≡ record { left = None; faults = 0; ended = false } }
+    {
+        StdSource {
+            runtime,
+            failed: 0,
+            ended: false,
+        }
+    }
+}
+
+impl Source for StdSource {
+    ghost use Rattle.sp_io.specs.Standard.{source_state, used_up};
+
+    ghost state = { source_state };
+
+    ghost used_up = { used_up };
+
+    fn read(&mut self, into: &mut [u8]) -> Result<usize, Failed> {
+        match self.runtime.stdin().read(into) {
+            Ok(count) => {
+                if count == 0 {
+                    self.ended = true;
+                }
+                Ok(count)
+            }
+            Err(_) => {
+                self.failed = self.failed.saturating_add(1);
+                Err(Failed)
+            }
+        }
+    }
+}
+
+/// Standard output, or standard error. It tells only how often a write failed.
+#[derive(Drop)]
+pub struct StdSink {
+    runtime: HostRuntime,
+    error: bool,
+    failed: u64,
+}
+
+impl StdSink {
+    ghost use Rattle.sp_io.specs.Standard.{sink_state};
+
+    /// Standard error where `error`, else standard output.
+    pub fn new(runtime: HostRuntime, error: bool) -> StdSink
+        ensures { sink_state result ≡ record { held = None; faults = 0 } }
+    {
+        StdSink {
+            runtime,
+            error,
+            failed: 0,
+        }
+    }
+}
+
+impl Sink for StdSink {
+    ghost use Rattle.sp_io.specs.Standard.{sink_state};
+
+    ghost state = { sink_state };
+
+    fn write_all(&mut self, piece: &[u8]) -> Result<(), Failed> {
+        let written = if self.error {
+            self.runtime.stderr().write_all(piece)
+        } else {
+            self.runtime.stdout().write_all(piece)
+        };
+        if written.is_err() {
+            self.failed = self.failed.saturating_add(1);
+            return Err(Failed);
+        }
+        Ok(())
+    }
+}
