@@ -1,5 +1,5 @@
 -- Which events open a window, which events it holds, and when it is closed.
-use Rattle.std.specs.Prelude.{ℕ, ℤ, pos, ◌+ℤ◌, ◌+◌, ◌-◌, ◌*ℤ◌, ◌<ℤ◌, ◌≤ℤ◌, ◌^◌, ◌<◌, ◌≤◌, ◌*◌, ◌%◌, ◌/◌, Bool, true, ◌&&◌, ◌||◌, List, [], length, Option, Some, None, ◌==◌, nat_lt, nat_le, int_le, int_lt, unsigned_abs, filter, map, find}
+use Rattle.std.specs.Prelude.{ℕ, ℤ, pos, ◌+ℤ◌, ◌+◌, ◌-◌, ◌*ℤ◌, ◌<ℤ◌, ◌≤ℤ◌, ◌^◌, ◌<◌, ◌≤◌, ◌%◌, ◌/◌, Bool, true, ◌&&◌, ◌||◌, List, [], length, Option, Some, None, ◌==◌, nat_lt, nat_le, int_le, int_lt, unsigned_abs, filter, map, find}
 use Rattle.std.specs.List.{enumerate_from, range_with_len, filter_map, list_any, last_or}
 use Rattle.std.specs.Option.{option_map}
 use Rattle.sp_plan.specs.declared.event.Event.{Event}
@@ -95,9 +95,13 @@ closed q events ended = length (filter (λ w. w.closed) (windows q events ended)
 abbrev pub events_of : List Event → Window → List Numbered
 events_of events w = filter (λ x. nat_le w.first x.0 && nat_le x.0 w.last) (numbered events)
 
--- A query opens at most 64 windows per event, where its length and its step are numbers of one unit.
+-- how many windows hold an event: the length divided by the step, rounded up
+abbrev pub windows_per_event : ℕ → ℕ → ℕ
+windows_per_event size step = (size + step - 1) / step
+
+-- at most 64 windows hold an event, where the length and the step are numbers of one unit
 abbrev pub FewPerEvent : ℕ → ℕ → Type 0
-FewPerEvent size step = size ≤ 64 * step
+FewPerEvent size step = windows_per_event size step ≤ 64
 
 -- the numbers of a length keep their limits
 abbrev pub IsLength : Length → Type 0

@@ -1,0 +1,4 @@
+pub mod Query
+pub mod Rows
+pub mod Outcome
+pub mod Answer

@@ -1,0 +1,5 @@
+//! The program as a function of its words, its input and its outputs.
+#![tactic(auto)]
+
+mod input;
+mod status;
