@@ -1,5 +1,5 @@
 -- Sources and sinks over the standard streams: they tell no bytes.
-use Rattle.std.specs.Prelude.{◌≡◌, true, None}
+use Rattle.std.specs.Prelude.{◌≡◌, Bool, true, None}
 use Rattle.sp_io.specs.declared.standard.StdSource.{StdSource}
 use Rattle.sp_io.specs.declared.standard.StdSink.{StdSink}
 use Rattle.sp_io.specs.Outside.{SourceState, SinkState, IsUsedUp}
@@ -14,3 +14,7 @@ used_up s is = tt
 -- the sink as its callers see it
 abbrev pub sink_state : StdSink → SinkState
 sink_state s = record { held = None; faults = s.failed }
+
+-- whether it is standard error
+abbrev pub is_error : StdSink → Bool
+is_error s = s.error

@@ -57,11 +57,12 @@ pub struct StdSink {
 }
 
 impl StdSink {
-    ghost use Rattle.sp_io.specs.Standard.{sink_state};
+    ghost use Rattle.sp_io.specs.Standard.{sink_state, is_error};
 
     /// Standard error where `error`, else standard output.
     pub fn new(runtime: HostRuntime, error: bool) -> StdSink
-        ensures { sink_state result ≡ record { held = None; faults = 0 } }
+        ensures state { sink_state result ≡ record { held = None; faults = 0 } }
+        ensures error { is_error result ≡ error }
     {
         StdSink {
             runtime,

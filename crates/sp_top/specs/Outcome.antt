@@ -1,5 +1,6 @@
 -- What a command comes to: a status and a text.
 use Rattle.std.specs.Prelude.{◌≡◌, ◌⊎◌, ℕ, Bool, true, false, List, [], ◌∷◌, codes}
+use Rattle.sp_plan.specs.declared.event.Event.{Event}
 use Rattle.sp_plan.specs.declared.plan.Plan.{Plan}
 use Rattle.sp_plan.specs.Sequential.{whole}
 use Rattle.sp_plan.specs.Lines.{text}
@@ -28,11 +29,15 @@ is_end End = true
 is_end Row = false
 is_end Open = false
 
--- what a run of a plan over these bytes comes to: the text of the windows that its events have closed
+-- the text of the windows that these events have closed
+abbrev pub windows_text : Plan → List Event → Stop → List ℕ
+windows_text q events stop = text q (whole q events (is_end stop)).matches
+
+-- what a run of a plan over these bytes comes to
 abbrev pub run_outcome : Plan → List ℕ → Bool → Outcome
 run_outcome q bytes ended =
     let stop = stop_of (read q bytes ended) ended in
-    record { status = status_of stop; text = text q (whole q (read q bytes ended).events (is_end stop)).matches }
+    record { status = status_of stop; text = windows_text q (read q bytes ended).events stop }
 
 -- the words are no command
 abbrev pub IsNoCommand : List (List ℕ) → Type 0

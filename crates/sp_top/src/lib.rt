@@ -1,5 +1,17 @@
-//! The program as a function of its words, its input and its outputs.
+//! The program as a function of its words, its input and its outputs. What it promises is the record
+//! `Promise` of `specs/Answer.antt`, the contract of `spectre`.
 #![tactic(auto)]
 
+mod cells;
 mod input;
+mod kept;
+mod numeral;
+mod output;
+mod query;
+mod rows;
+mod run;
 mod status;
+mod texts;
+mod top;
+
+pub use top::spectre;

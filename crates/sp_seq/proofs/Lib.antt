@@ -1,0 +1,7 @@
+mod Bound
+mod Handle
+mod Marks
+mod Going
+mod Walk
+mod Windows
+mod Sweep

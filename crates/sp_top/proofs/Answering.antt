@@ -1,0 +1,77 @@
+-- Answers before the input is read, answers cut short by want of memory, and an outcome seen as another.
+use Rattle.std.proofs.Common.{◌≡◌, ◌≢◌, ◌⊎◌, inl, inr, ⊎_elim, ℕ, ◌<◌, Bool, List, [], refl, arith}
+use Rattle.sp_io.specs.Outside.{Told, Gave, GrewWithin}
+use Rattle.sp_top.specs.declared.status.Status.{Status}
+use Rattle.sp_top.specs.declared.status.Status.TheVariants.{Done, Memory, Usage, Query, Input, Read, Write}
+use Rattle.sp_top.specs.Outcome.{Outcome, nothing_for}
+use Rattle.sp_top.specs.Answer.{Outside, Ran}
+use Rattle.sp_top.proofs.Told.{gave_none, grew_none}
+
+within_none : (a : Told) (more : List ℕ) → GrewWithin a more a
+within_none a more = ([], (more, refl), grew_none a)
+
+-- the status of words or of a query that are refused
+abbrev pub IsRefusal : Status → Type 0
+IsRefusal Usage = Unit {0}
+IsRefusal Query = Unit {0}
+IsRefusal Done = ⊥
+IsRefusal Memory = ⊥
+IsRefusal Input = ⊥
+IsRefusal Read = ⊥
+IsRefusal Write = ⊥
+
+refused_by : (s : Status) → IsRefusal s → (s ≢ Done) × (s ≢ Memory) × (s ≢ Read) × (s ≢ Write)
+refused_by Usage is = (λ e. cc, λ e. cc, λ e. cc, λ e. cc)
+refused_by Query is = (λ e. cc, λ e. cc, λ e. cc, λ e. cc)
+refused_by Done is = absurd is
+refused_by Memory is = absurd is
+refused_by Input is = absurd is
+refused_by Read is = absurd is
+refused_by Write is = absurd is
+
+-- nothing is read or written
+pub at_once : (P : List ℕ → Bool → Outcome → Type 0) (old : Outside) (s : Status) → IsRefusal s → P [] old.input.ended (nothing_for s) → Ran P old old s
+at_once P old s refusal is =
+    let other = refused_by s refusal in
+    record {
+      taken = [];
+      outcome = nothing_for s;
+      gave = gave_none old.input.left;
+      is = is;
+      exact = λ _ _. (refl, grew_none old.out.held);
+      cut_off = λ which. absurd (⊎_elim other.1 other.3 which);
+      read_whole = λ e. absurd (other.0 e);
+      read_fault = λ e. absurd (other.2 e);
+      write_fault = λ e. absurd (other.3 e);
+      write_told = λ rose. absurd (omega (arith, rose));
+    }
+
+-- memory ran out before anything was written
+pub cut_short : (P : List ℕ → Bool → Outcome → Type 0) (old new : Outside) (taken : List ℕ) (o : Outcome) → Gave old.input.left taken new.input.left → P taken new.input.ended o → new.out ≡ old.out → Ran P old new Memory
+cut_short P old new taken o gave is same = record {
+  taken = taken;
+  outcome = o;
+  gave = gave;
+  is = is;
+  exact = λ other _. absurd (other refl);
+  cut_off = λ _. rw same (within_none old.out.held o.text);
+  read_whole = λ e. cc;
+  read_fault = λ e. cc;
+  write_fault = λ e. cc;
+  write_told = λ _. inr refl;
+}
+
+-- an outcome of one kind is one of another
+pub ran_weaker : (P Q : List ℕ → Bool → Outcome → Type 0) (old new : Outside) (s : Status) → ((b : List ℕ) (e : Bool) (o : Outcome) → P b e o → Q b e o) → Ran P old new s → Ran Q old new s
+ran_weaker P Q old new s weaker ran = record {
+  taken = ran.taken;
+  outcome = ran.outcome;
+  gave = ran.gave;
+  is = weaker ran.taken new.input.ended ran.outcome ran.is;
+  exact = ran.exact;
+  cut_off = ran.cut_off;
+  read_whole = ran.read_whole;
+  read_fault = ran.read_fault;
+  write_fault = ran.write_fault;
+  write_told = ran.write_told;
+}

@@ -1,0 +1,77 @@
+// The words, and the answer to them.
+ghost use Rattle.std.specs.Prelude.{◌≡◌, ℕ, List, false, map, IfSome, IfNone, string_bytes};
+ghost use Rattle.sp_io.specs.Outside.{Grew, GrewWithin, Rose};
+ghost use Rattle.sp_top.specs.Answer.{Answered, Promise};
+ghost use Rattle.sp_top.specs.Outcome.{IsCommand, IsNoCommand, line_of};
+
+use crate::query::read_query;
+use crate::run::run_plan;
+use crate::status::Status;
+use sp_io::{Sink, Source};
+use std::alloc::Global;
+
+// The text of the query, where the words are a command.
+fn command(words: &[String]) -> Option<&str>
+    ensures some { IfSome result (λ text. IsCommand (map string_bytes words.now) text.now) }
+    ensures none { IfNone result (IsNoCommand (map string_bytes words.now)) }
+{
+    let [first, option, text] = words else {
+        return None;
+    };
+    if first.as_str() == "run" && option.as_str() == "-q" {
+        Some(text.as_str())
+    } else {
+        None
+    }
+}
+
+// The status, before its line is written.
+fn answer<S: Source, K: Sink>(alloc: Global, words: &[String], input: &mut S, out: &mut K) -> Status
+    requires not_ended { (S.state input.old).ended ≡ false }
+    ensures { Answered (map string_bytes words.now)
+        (record { input = S.state input.old; out = K.state out.old })
+        (record { input = S.state input.new; out = K.state out.new })
+        result }
+{
+    let Some(text) = command(words) else {
+        return Status::Usage;
+    };
+    match read_query(alloc, text) {
+        Ok(Some(plan)) => run_plan(alloc, plan, input, out),
+        Ok(None) => Status::Query,
+        Err(_) => Status::Memory,
+    }
+}
+
+// Writes the line of a status, where it has one. A fault is dropped.
+fn write_status<E: Sink>(status: Status, err: &mut E)
+    ensures line { (Rose (E.state err.old).faults (E.state err.new).faults → ⊥) → Grew (E.state err.old).held (line_of status) (E.state err.new).held }
+    ensures front { GrewWithin (E.state err.old).held (line_of status) (E.state err.new).held }
+{
+    let line = status.line();
+    if !line.is_empty() {
+        let _ = err.write_all(line.as_bytes());
+    }
+}
+
+/// Runs the words, which are the command line without the program's name, over an input that has not
+/// ended yet, and answers the number of its status; docs/formats.md lists them. Matches are written to
+/// `out`, one call a line, and the line of the status to `err`. What is promised of status, output and
+/// faults stands in `specs/Answer.antt`; docs/statement.md says it in words.
+pub fn spectre<S: Source, K: Sink, E: Sink>(
+    alloc: Global,
+    words: &[String],
+    input: &mut S,
+    out: &mut K,
+    err: &mut E,
+) -> u8
+    requires not_ended { (S.state input.old).ended ≡ false }
+    ensures { Promise (map string_bytes words.now)
+        (record { input = S.state input.old; out = K.state out.old })
+        (record { input = S.state input.new; out = K.state out.new })
+        (E.state err.old) (E.state err.new) result }
+{
+    let status = answer(alloc, words, input, out);
+    write_status(status, err);
+    status.number()
+}
