@@ -4,9 +4,8 @@
 use sp_io::{Sink, StdSink, StdSource};
 use sp_top::spectre;
 use std::alloc::AllocError;
-use std::env;
-use std::io;
 use std::process::ExitCode;
+use std::{env, io};
 
 // The command line without the program's name. Words that aren't UTF-8 are no words of a command, so
 // the list is then empty.

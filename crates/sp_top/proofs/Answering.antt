@@ -1,5 +1,5 @@
 -- Answers before the input is read, answers cut short by want of memory, and an outcome seen as another.
-use Rattle.std.proofs.Common.{◌≡◌, ◌≢◌, ◌⊎◌, inl, inr, ⊎_elim, ℕ, ◌<◌, Bool, List, [], refl, arith}
+use Rattle.std.proofs.Common.{◌≡◌, ◌≢◌, inr, ⊎_elim, ℕ, Bool, List, [], refl, arith}
 use Rattle.sp_io.specs.Outside.{Told, Gave, GrewWithin}
 use Rattle.sp_top.specs.declared.status.Status.{Status}
 use Rattle.sp_top.specs.declared.status.Status.TheVariants.{Done, Memory, Usage, Query, Input, Read, Write}

@@ -5,6 +5,7 @@ use Rattle.std.proofs.lemmas.Bool.Decides.{nat_tests}
 use Rattle.std.proofs.lemmas.List.Elements.{All-weaker}
 use Rattle.std.proofs.lemmas.List.Splits.{slice_split_none, slice_split_at}
 
+-- bytes that all differ from the mark fail its test
 lacking : (mark : ℕ) (bytes : List ℕ) → All (λ b. b ≢ mark) bytes → All (λ b. eqb b mark ≡ false) bytes
 lacking mark bytes all = All-weaker (λ b. b ≢ mark) (λ b. eqb b mark ≡ false) (λ b other. grind (arith, nat_tests)) bytes all
 

@@ -1,6 +1,5 @@
 -- Digits of a cell.
-use Rattle.std.proofs.Common.{◌≡◌, ℕ, zero, suc, ◌^◌, ◌<◌, ◌≤◌, true, List, [], ◌∷◌, length, get_or, arith}
-use Rattle.std.proofs.Common.{inl, inr}
+use Rattle.std.proofs.Common.{◌≡◌, inl, inr, ℕ, zero, suc, ◌^◌, ◌<◌, ◌≤◌, true, List, [], ◌∷◌, length, get_or, arith}
 use Rattle.std.specs.List.{list_all}
 use Rattle.std.proofs.lemmas.Bool.{cases_Bool}
 use Rattle.std.proofs.lemmas.Bool.Decides.{nat_tests}
@@ -15,10 +14,6 @@ digit_at (d ∷ ds) (suc i) all inside =
     let rest : list_all is_digit ds ≡ true = elim (cases_Bool (is_digit d)) [ inl own ↦ rw own at all | inr other ↦ absurd (cc (rw other at all)) ] in
     digit_at ds i rest (omega arith)
 
--- a power below that of the last digit but one
-pub ten_power : (i : ℕ) → i ≤ 14 → 10 ^ i ≤ 10 ^ 14
-ten_power i small = pow-le-pow_right (omega arith) small
-
--- so many digits write less than a number of 16 digits
-pub ten_power_15 : (i : ℕ) → i ≤ 15 → 10 ^ i ≤ 10 ^ 15
-ten_power_15 i small = pow-le-pow_right (omega arith) small
+-- powers of ten rise
+pub ten_power : (i n : ℕ) → i ≤ n → 10 ^ i ≤ 10 ^ n
+ten_power i n small = pow-le-pow_right (omega arith) small

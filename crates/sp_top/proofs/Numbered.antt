@@ -17,6 +17,7 @@ module _ {X : Type 0} (f : X → List ℕ) where
   any_of_texts p [] = refl
   any_of_texts p (x ∷ xs) = ap (λ (b : Bool). p (f x) || b) (any_of_texts p xs)
 
+  -- the texts of a list that may get one more
   map_choice : (b : Bool) (xs : List X) (x : X) → map f (if b then xs else xs ++ x ∷ []) ≡ (if b then map f xs else map f xs ++ f x ∷ [])
   map_choice true xs x = refl
   map_choice false xs x = map-append f xs (x ∷ [])

@@ -43,10 +43,12 @@ faulty_is_not_open r (Ok given) faulty stop = λ is. by r.failed faulty (sym sto
     by false is = cc
 faulty_is_not_open r (Err e) faulty stop = tt
 
+-- an answer that isn't open says nothing of faults
 no_rise : (P : Type 0) (result : Result Given AllocError) → IsNotOpen result → IfOk result (λ given. given.stop ≡ Open → P)
 no_rise P (Ok given) other = λ is. absurd (other is)
 no_rise P (Err e) other = tt
 
+-- what holds, holds where the answer is open
 rise : {P : Type 0} (result : Result Given AllocError) → P → IfOk result (λ given. given.stop ≡ Open → P)
 rise (Ok given) p = λ is. p
 rise (Err e) p = tt
@@ -76,6 +78,7 @@ module _ (q : Plan) (old now : SourceState) (rows : Rows) (so_far : ReadSoFar q 
   module _ (result : Result Given AllocError) where
     module _ (ended : Bool) (gave : Gave now.left [] next.left) (is_ended : next.ended ≡ ended)
         (events : IfOk result (λ given. given.events.items ≡ (comes_to rows [] ended).events)) (stop : IfOk result (λ given. given.stop ≡ stop_of (comes_to rows [] ended) ended)) where
+      -- the reading ends here
       finished : IfOk result (λ given. given.stop ≡ Open → Rose old.faults next.faults) → ReadsInput q old next result
       finished fault =
           let taken = so_far.taken ++ [] in

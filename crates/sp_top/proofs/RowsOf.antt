@@ -11,6 +11,7 @@ use Rattle.sp_top.specs.Rows.{Reading, rows, rows_of_parts, rest_rows, take_row}
 use Rattle.sp_top.specs.Coming.{read_on}
 use Rattle.sp_top.proofs.Cuts.{one_part, first_part}
 
+-- a part in front of further ones is a row
 cut_cons : (ended : Bool) (row bytes : List ℕ) → rows_of_parts ended (row ∷ slice_split (λ b. b == 10) bytes) ≡ row ∷ rows bytes ended
 cut_cons ended row [] = refl
 cut_cons ended row (b ∷ bytes) = elim (cases_Bool (eqb b 10)) [
@@ -51,6 +52,7 @@ too_long true false r row long =
     rw over refl
 too_long false false r row long = let other = no_header row long in rw other refl
 
+-- the rest makes a reading faulty where it is too long
 failed_or : (r : Reading) (rest : List ℕ) (long : Bool) → nat_lt 65536 (length rest) ≡ long → (fold take_row r (rest_rows false rest)).failed ≡ (r.failed || long)
 failed_or r rest true is =
     let some : nat_lt 0 (length rest) ≡ true = grind (arith, nat_tests) in

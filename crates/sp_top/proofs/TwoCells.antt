@@ -6,6 +6,7 @@ use Rattle.std.proofs.lemmas.Bool.{cases_Bool}
 use Rattle.sp_top.specs.Rows.{two_cells}
 use Rattle.sp_top.proofs.Cuts.{one_part, first_part}
 
+-- the two cells of a row
 abbrev cells : List ℕ → Option (List ℕ × List ℕ)
 cells row = two_cells (slice_split (λ b. b == 44) row)
 
@@ -17,6 +18,7 @@ no_comma row all = ap two_cells (one_part 44 row all)
 pub one_comma : (row time text : List ℕ) → row ≡ time ++ 44 ∷ text → All (λ b. b ≢ 44) time → All (λ b. b ≢ 44) text → cells row ≡ Some (time, text)
 one_comma row time text is first rest = ap cells is ∙ ap two_cells (first_part 44 time text first ∙ ap (λ (parts : List (List ℕ)). time ∷ parts) (one_part 44 text rest))
 
+-- two parts before further ones are no two cells
 three_parts : (a b bytes : List ℕ) → two_cells (a ∷ b ∷ slice_split (λ x. x == 44) bytes) ≡ None
 three_parts a b [] = refl
 three_parts a b (x ∷ bytes) = elim (cases_Bool (eqb x 44)) [

@@ -1,4 +1,4 @@
-ghost use Rattle.std.specs.Prelude.{◌≡◌, ℕ, ◌+◌, ◌-◌, ◌*◌, ◌<◌, ◌≤◌, ◌^◌, ◌≢◌, ◌∷◌, ◌++◌, ◌==◌, ◌||◌, IfSome, IfNone, length, true};
+ghost use Rattle.std.specs.Prelude.{◌≡◌, ◌<◌, ◌≤◌, ◌^◌, ◌≢◌, ◌∷◌, ◌++◌, ◌==◌, ◌||◌, IfSome, IfNone, length, true};
 ghost use Rattle.std.specs.List.{list_all, list_any, slice_split, All};
 ghost use Rattle.std.specs.Option.{option_map};
 ghost use Rattle.std.specs.Str.{is_utf8};

@@ -1,6 +1,6 @@
-ghost use Rattle.std.specs.Prelude.{◌≡◌, ◌≢◌, ℕ, ◌<◌, ◌^◌, ◌++◌, [], ◌∷◌, Bool, true, false, List, length, nat_lt, ◌&&◌, ◌||◌, IfOk, OnOk};
+ghost use Rattle.std.specs.Prelude.{◌≡◌, ◌≢◌, ℕ, ◌++◌, [], ◌∷◌, Bool, false, List, length, nat_lt, ◌&&◌, ◌||◌, IfOk, OnOk};
 ghost use Rattle.std.specs.List.{All, fold};
-ghost use Rattle.sp_top.specs.Rows.{Reading, read, stop_of, take_row, rest_rows};
+ghost use Rattle.sp_top.specs.Rows.{read, stop_of, take_row, rest_rows};
 ghost use Rattle.sp_top.specs.Kept.{reading_of};
 
 use crate::cells::{ROW, cut_at};

@@ -1,4 +1,4 @@
-use Rattle.std.proofs.Common.{◌≡◌, sym, ◌∙◌, arith, rules}
+use Rattle.std.proofs.Common.{◌∙◌, arith}
 use Rattle.sp_top.proofs.LinesOf.{within_so_far, within_line, grew_line}
 use Rattle.sp_top.proofs.output.write_lines.Goals as goal
 

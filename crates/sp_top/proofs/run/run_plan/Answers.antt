@@ -1,5 +1,4 @@
-use Rattle.std.proofs.Common.{◌≡◌, ◌≤◌, [], length, refl, sym, ap, subst, ◌∙◌, arith, rules}
-use Rattle.sp_plan.specs.declared.plan.Plan.{Plan}
+use Rattle.std.proofs.Common.{[], length, refl, ap, arith}
 use Rattle.sp_top.specs.Outcome.{run_outcome}
 use Rattle.sp_top.specs.Answer.{IsRun}
 use Rattle.sp_top.proofs.Answering.{cut_short}

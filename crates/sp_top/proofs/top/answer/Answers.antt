@@ -1,4 +1,4 @@
-use Rattle.std.proofs.Common.{◌≡◌, inl, inr, refl, sym, ◌∙◌, map, [], arith, rules}
+use Rattle.std.proofs.Common.{inl, inr, refl, map}
 use Rattle.std.specs.Prelude.{string_bytes}
 use Rattle.sp_top.specs.declared.status.Status.TheVariants.{Usage, Query}
 use Rattle.sp_top.specs.Outcome.{IsOutcome}

@@ -1,4 +1,4 @@
-use Rattle.std.proofs.Common.{◌≡◌, ℕ, List, [], ◌∷◌, map, sym, ◌∙◌, ap, arith, rules}
+use Rattle.std.proofs.Common.{◌≡◌, [], ◌∷◌, map, sym, ◌∙◌, ap, rules}
 use Rattle.std.specs.Prelude.{string_bytes, codes}
 use Rattle.sp_top.proofs.Words.{three}
 use Rattle.sp_top.proofs.top.command.Goals as goal

@@ -6,6 +6,7 @@ use Rattle.sp_top.specs.Coming.{comes_to}
 use Rattle.sp_top.proofs.RowsOf.{rest_is_last}
 use Rattle.sp_top.proofs.rows.Rows.finish.Goals as goal
 
+-- what is kept at the end is what was read
 taken : (c : goal.After-drop-rest-2) → reading_of c.take_rest.new.kept ≡ comes_to c.args.self [] c.args.ended
 taken c =
     let rows = c.args.self in

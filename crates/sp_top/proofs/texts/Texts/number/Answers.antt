@@ -4,6 +4,7 @@ use Rattle.sp_top.proofs.Answered.{on_ok}
 use Rattle.sp_top.proofs.Numbered.{found_number, found_known, place_of_texts, added_text}
 use Rattle.sp_top.proofs.texts.Texts.number.Goals as goal
 
+-- the bytes of a text in the set
 abbrev bytes_of : Vec ℕ Global → List ℕ
 bytes_of text = text.items
 
