@@ -14,6 +14,7 @@ pub struct StdSource {
 impl StdSource {
     ghost use Rattle.sp_io.specs.Standard.{source_state};
 
+    /// Standard input, from where it stands.
     pub fn new(runtime: HostRuntime) -> StdSource
         ensures { source_state result ≡ record { left = None; faults = 0; ended = false } }
     {

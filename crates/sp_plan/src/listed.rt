@@ -24,6 +24,7 @@ impl<T> Listed<T> {
         Listed { items }
     }
 
+    /// Its items.
     pub fn as_slice(&self) -> &[T]
         ensures { result.now ≡ self.now }
     {
@@ -51,6 +52,7 @@ impl Text {
         Text { text }
     }
 
+    /// Its text.
     pub fn as_str(&self) -> &str
         ensures { result.now ≡ self.now }
     {

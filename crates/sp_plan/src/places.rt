@@ -36,6 +36,7 @@ impl Places {
         }))
     }
 
+    /// Its numbers, rising strictly.
     pub fn list(&self) -> &[u32]
         ensures list { result.now ≡ self.now }
         ensures rising { IsStrictlyIncreasing result.now }

@@ -10,6 +10,7 @@ pub enum Kind {
     Text,
 }
 
+/// A column that a query names.
 #[derive(Drop)]
 pub struct Column {
     pub name: Text,
@@ -42,6 +43,7 @@ pub enum Expr {
     Mul(Box<Expr>, Box<Expr>),
 }
 
+/// How two sides are compared. Texts are equal or not, and in no order.
 #[derive(Clone, Copy, Drop, PartialEq, Eq)]
 pub enum Compare {
     Equal,
@@ -52,6 +54,7 @@ pub enum Compare {
     AtLeast,
 }
 
+/// A predicate over the event at hand and the events bound before it.
 #[derive(Drop)]
 pub enum Pred {
     Always,
@@ -77,6 +80,7 @@ pub enum Element {
     Set { first: u8, count: u8 },
 }
 
+/// A name of the pattern.
 #[derive(Drop)]
 pub struct Name {
     pub text: Text,
@@ -97,6 +101,7 @@ pub enum Select {
     Each,
 }
 
+/// How long a window is.
 #[derive(Clone, Copy, Drop, PartialEq, Eq)]
 pub enum Length {
     /// So many events from the first on: 1 to 65,536.
