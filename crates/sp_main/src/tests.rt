@@ -1,4 +1,7 @@
 // Worked rows of the whole program, over objects in memory.
+ghost use Rattle.std.specs.Prelude.{◌≡◌, false};
+ghost use Rattle.sp_io.specs.MemorySource.{source_state};
+
 use sp_io::{MemSink, MemSource};
 use sp_top::spectre;
 use std::alloc::{AllocError, Global};
@@ -25,7 +28,7 @@ fn words(alloc: Global, query: &str) -> Result<Vec<String>, AllocError> {
     ]?)
 }
 
-// Runs the words over an input, and holds the answer against what is wanted.
+// Runs the words over an input that is there at once, and holds the answer against what is wanted.
 fn expect(
     rt: &impl Abort,
     alloc: Global,
@@ -34,9 +37,24 @@ fn expect(
     input: &str,
     want: (u8, &str, &str),
 ) -> Result<(), AllocError> {
-    let mut input = MemSource::new(input.as_bytes().to_vec(alloc)?, 4096, None);
-    let mut out = MemSink::new(alloc, vec![in alloc]?, 4096)?;
-    let mut err = MemSink::new(alloc, vec![in alloc]?, 4096)?;
+    let source = MemSource::new(input.as_bytes().to_vec(alloc)?, 4096, None);
+    expect_from(rt, alloc, shows, words, source, (None, None), want)
+}
+
+// The same over a source, with calls of the output and of the error output that are to fail.
+fn expect_from(
+    rt: &impl Abort,
+    alloc: Global,
+    shows: &str,
+    words: &[String],
+    mut input: MemSource,
+    fails: (Option<(u32, u32)>, Option<(u32, u32)>),
+    want: (u8, &str, &str),
+) -> Result<(), AllocError>
+    requires { (source_state input).ended ≡ false }
+{
+    let mut out = sink(alloc, fails.0)?;
+    let mut err = sink(alloc, fails.1)?;
     let status = spectre(alloc, words, &mut input, &mut out, &mut err);
     assert_eq!(rt; status, want.0, "{shows}");
     assert_eq!(rt; out.bytes(), want.1.as_bytes(), "{shows}");
@@ -44,11 +62,21 @@ fn expect(
     Ok(())
 }
 
+// A sink with ample room, one of whose calls may be told to fail.
+fn sink(alloc: Global, call: Option<(u32, u32)>) -> Result<MemSink, AllocError> {
+    let mut fails = Vec::new(alloc);
+    if let Some(call) = call {
+        fails.push(call)?;
+    }
+    MemSink::new(alloc, fails, 4096)
+}
+
 const USAGE: &str = "usage\n";
 
 const BAD_QUERY: &str = "query code 0 at 0\n";
 
-const BAD_INPUT: &str = "input code 0 row 0 column 0\n";
+// Quotes, a line feed in a cell, CR LF, a blank row and further columns.
+const FIELD: &str = "\u{feff}at,note,k\r\n1,\"x, \"\"y\"\"\n z\",a\r\n\r\n2,plain,b,extra\r\n";
 
 // One window of two events, which A and B fill.
 const ONE_LINE: &str = "w=1 m=1 A=1 B=2 used=1,2\n";
@@ -56,7 +84,7 @@ const ONE_LINE: &str = "w=1 m=1 A=1 B=2 used=1,2\n";
 const NONE_CONSUMED: &str =
     "w=1 m=1 A=1 B=2 used=-\nw=1 m=2 A=3 B=4 used=-\nw=2 m=3 A=3 B=4 used=-\n";
 
-const INPUTS: [(&str, &str, &str, (u8, &str, &str)); 22] = [
+const INPUTS: [(&str, &str, &str, (u8, &str, &str)); 28] = [
     (
         "two windows share what the first consumes",
         "ALL",
@@ -66,8 +94,42 @@ const INPUTS: [(&str, &str, &str, (u8, &str, &str)); 22] = [
     ("nothing is consumed", "NONE", ABAB, (0, NONE_CONSUMED, "")),
     ("a header alone", "ALL", "at,k\n", (0, "", "")),
     ("a header without a line feed", "ALL", "at,k", (0, "", "")),
-    ("no byte", "ALL", "", (4, "", BAD_INPUT)),
-    ("another header", "ALL", "at,x\n1,a\n", (4, "", BAD_INPUT)),
+    (
+        "a header of blanked cells",
+        "ALL",
+        " at ,\tk\n1,a\n2,b\n",
+        (0, ONE_LINE, ""),
+    ),
+    (
+        "no byte",
+        "ALL",
+        "",
+        (4, "", "input code 1 row 0 column 0\n"),
+    ),
+    (
+        "a byte order mark alone",
+        "ALL",
+        "\u{feff}",
+        (4, "", "input code 1 row 0 column 0\n"),
+    ),
+    (
+        "a header without a column",
+        "ALL",
+        "at,x\n1,a\n",
+        (4, "", "input code 2 row 1 column 0\n"),
+    ),
+    (
+        "columns in another order",
+        "ALL",
+        "k,note,at\na,x,1\nb,y,2\n",
+        (0, ONE_LINE, ""),
+    ),
+    (
+        "the first of two columns of a name",
+        "ALL",
+        "at,k,k\n1,a,b\n2,b,a\n",
+        (0, ONE_LINE, ""),
+    ),
     (
         "a last row without a line feed",
         "ALL",
@@ -81,63 +143,90 @@ const INPUTS: [(&str, &str, &str, (u8, &str, &str)); 22] = [
         (0, "w=1 m=1 A=1 B=3 used=1,3\n", ""),
     ),
     (
-        "an empty text",
+        "further cells",
         "ALL",
-        "at,k\n1,a\n2,\n3,b\n",
-        (0, "w=1 m=1 A=1 B=3 used=1,3\n", ""),
-    ),
-    ("a third cell", "ALL", "at,k\n1,a,b\n", (4, "", BAD_INPUT)),
-    ("one cell", "ALL", "at,k\n1\n", (4, "", BAD_INPUT)),
-    (
-        "an empty row",
-        "ALL",
-        "at,k\n1,a\n\n2,b\n",
-        (4, "", BAD_INPUT),
-    ),
-    ("a quote", "ALL", "at,k\n1,\"a\"\n", (4, "", BAD_INPUT)),
-    (
-        "a carriage return",
-        "ALL",
-        "at,k\r\n1,a\r\n",
-        (4, "", BAD_INPUT),
-    ),
-    (
-        "a time of 15 digits",
-        "ALL",
-        "at,k\n1,a\n999999999999999,b\n",
+        "at,k\n1,a,x\n2,b,y,z\n",
         (0, ONE_LINE, ""),
     ),
     (
-        "a time of 16 digits",
+        "one cell",
         "ALL",
-        "at,k\n1,a\n1000000000000000,b\n",
-        (4, "", BAD_INPUT),
+        "at,k\n1\n",
+        (4, "", "input code 3 row 2 column 2\n"),
     ),
     (
-        "a time with a sign",
+        "blank rows are counted",
         "ALL",
-        "at,k\n+1,a\n",
-        (4, "", BAD_INPUT),
+        "\nat,k\n\n1,a\n\n2\n",
+        (4, "", "input code 3 row 6 column 2\n"),
     ),
-    ("no time", "ALL", "at,k\n,a\n", (4, "", BAD_INPUT)),
+    (
+        "quotes",
+        "ALL",
+        "at,k\n1,\"a\"\n\"2\",b\n",
+        (0, ONE_LINE, ""),
+    ),
+    ("CR LF", "ALL", "at,k\r\n1,a\r\n2,b\r\n", (0, ONE_LINE, "")),
+    (
+        "signs, blanks and zeros",
+        "ALL",
+        "at,k\n +1,a\n2.000\t,b\n",
+        (0, ONE_LINE, ""),
+    ),
+    (
+        "the greatest time",
+        "ALL",
+        "at,k\n1,a\n1000000000000000,b\n",
+        (0, ONE_LINE, ""),
+    ),
+    (
+        "a greater time",
+        "ALL",
+        "at,k\n1,a\n1000000000000001,b\n",
+        (4, "", "input code 4 row 3 column 1\n"),
+    ),
+    (
+        "a negative time",
+        "ALL",
+        "at,k\n-1,a\n",
+        (4, "", "input code 4 row 2 column 1\n"),
+    ),
+    (
+        "no number",
+        "ALL",
+        "at,k\none,a\n",
+        (4, "", "input code 4 row 2 column 1\n"),
+    ),
     ("equal times", "ALL", "at,k\n2,a\n2,b\n", (0, ONE_LINE, "")),
     (
         "a time below the last one",
         "ALL",
-        "at,k\n2,a\n1,b\n",
-        (4, "", BAD_INPUT),
+        "at,k\n1,a\n2,b\n3,a\n4,b\n3,b\n",
+        (4, TWO_LINES, "input code 6 row 6 column 1\n"),
+    ),
+    (
+        "two records in a row",
+        "ALL",
+        "at,k\n1,a\r2,b\n",
+        (4, "", "input code 7 row 2 column 0\n"),
+    ),
+    (
+        "a quote left open",
+        "ALL",
+        "at,k\n1,\"a",
+        (4, "", "input code 9 row 2 column 0\n"),
     ),
     (
         "closed windows before a faulty row",
         "ALL",
         "at,k\n1,a\n2,b\n3,a\n4,b\n5\n6,a\n",
-        (4, TWO_LINES, BAD_INPUT),
+        (4, TWO_LINES, "input code 3 row 6 column 2\n"),
     ),
     (
         "an open window before a faulty row",
         "ALL",
         "at,k\n1,a\n2,b\n3\n",
-        (4, "", BAD_INPUT),
+        (4, "", "input code 3 row 4 column 2\n"),
     ),
 ];
 
@@ -299,50 +388,88 @@ fn worked_queries(rt: HostRuntime) -> Result<(), Fail> {
     Ok(())
 }
 
-// Rows of 65,536 and of 65,537 bytes, and one event more than an input may have.
+// Rows of 65,536 and of 65,537 bytes, the last event and row that an input may have, and one more.
 #[test]
 fn limits_of_the_input(rt: HostRuntime) -> Result<(), Fail> {
     let alloc = rt.alloc();
     let query = query(alloc, "WITHIN 1 EVENTS FROM EVERY 1048576 EVENTS", "ALL")?;
     let words = words(alloc, query.as_str())?;
-    let mut longest = String::from_str(alloc, "at,k\n1,")?;
-    longest.push_str("x".repeat(alloc, 65_534)?.as_str())?;
-    expect(
-        &rt,
-        alloc,
-        "the longest row",
-        &words,
-        longest.as_str(),
-        (0, "", ""),
-    )?;
-    longest.push_str("x")?;
-    expect(
-        &rt,
-        alloc,
-        "a longer row",
-        &words,
-        longest.as_str(),
-        (4, "", BAD_INPUT),
-    )?;
-    let mut most = String::from_str(alloc, "at,k\n")?;
-    most.push_str("1,a\n".repeat(alloc, 1_048_576)?.as_str())?;
-    expect(
-        &rt,
-        alloc,
-        "the most events",
-        &words,
-        most.as_str(),
-        (0, "", ""),
-    )?;
-    most.push_str("1,a\n")?;
-    expect(
-        &rt,
-        alloc,
-        "an event more",
-        &words,
-        most.as_str(),
-        (4, "", BAD_INPUT),
-    )?;
+    let long_row = "input code 8 row 2 column 0\n";
+    for (shows, row, times, want) in [
+        ("the longest row", "x", 65_534, (0, "", "")),
+        ("a longer row", "x", 65_535, (4, "", long_row)),
+    ] {
+        let mut input = String::from_str(alloc, "at,k\n1,")?;
+        input.push_str(row.repeat(alloc, times)?.as_str())?;
+        expect(&rt, alloc, shows, &words, input.as_str(), want)?;
+    }
+    for (shows, row, times, want) in [
+        ("the most events", "1,a\n", 1_048_576, (0, "", "")),
+        (
+            "an event more",
+            "1,a\n",
+            1_048_577,
+            (7, "", "limit 1048576\n"),
+        ),
+        ("the most rows", "\n", 2_097_151, (0, "", "")),
+        ("a row more", "\n", 2_097_152, (7, "", "limit 2097152\n")),
+    ] {
+        let mut input = String::from_str(alloc, "at,k\n")?;
+        input.push_str(row.repeat(alloc, times)?.as_str())?;
+        expect(&rt, alloc, shows, &words, input.as_str(), want)?;
+    }
+    Ok(())
+}
+
+// Texts that are not UTF-8, and the order in which a row's faults are looked for.
+#[test]
+fn bytes_that_are_no_text(rt: HostRuntime) -> Result<(), Fail> {
+    let alloc = rt.alloc();
+    let query = query(alloc, "WITHIN 4 EVENTS FROM EVERY 2 EVENTS", "ALL")?;
+    let words = words(alloc, query.as_str())?;
+    for (shows, front, line) in [
+        ("no UTF-8", "at,k\n1,", "input code 5 row 2 column 2\n"),
+        (
+            "a cell before the time order",
+            "at,k\n2,a\n1,",
+            "input code 5 row 3 column 2\n",
+        ),
+    ] {
+        let mut input = front.as_bytes().to_vec(alloc)?;
+        input.push(0xff)?;
+        let source = MemSource::new(input, 4096, None);
+        expect_from(
+            &rt,
+            alloc,
+            shows,
+            &words,
+            source,
+            (None, None),
+            (4, "", line),
+        )?;
+    }
+    Ok(())
+}
+
+// A table as it is written in the field, in pieces of one byte, of two and of many.
+#[test]
+fn pieces_of_a_table(rt: HostRuntime) -> Result<(), Fail> {
+    let alloc = rt.alloc();
+    let query = query(alloc, "WITHIN 4 EVENTS FROM EVERY 2 EVENTS", "ALL")?;
+    let words = words(alloc, query.as_str())?;
+    for piece in [1, 2, 4096] {
+        assert!(rt; 0 < piece);
+        let source = MemSource::new(FIELD.as_bytes().to_vec(alloc)?, piece, None);
+        expect_from(
+            &rt,
+            alloc,
+            "a table",
+            &words,
+            source,
+            (None, None),
+            (0, ONE_LINE, ""),
+        )?;
+    }
     Ok(())
 }
 
@@ -351,72 +478,63 @@ const FAULTS: [(
     &str,
     u32,
     Option<u64>,
-    Option<(u32, u32)>,
-    Option<(u32, u32)>,
+    (Option<(u32, u32)>, Option<(u32, u32)>),
     (u8, &str, &str),
 ); 8] = [
     (
         "pieces of one byte",
         1,
         None,
-        None,
-        None,
+        (None, None),
         (0, TWO_LINES, ""),
     ),
     (
         "pieces of two bytes",
         2,
         None,
-        None,
-        None,
+        (None, None),
         (0, TWO_LINES, ""),
     ),
     (
         "pieces of seven bytes",
         7,
         None,
-        None,
-        None,
+        (None, None),
         (0, TWO_LINES, ""),
     ),
     (
         "a source that fails at its end",
         4096,
         Some(21),
-        None,
-        None,
+        (None, None),
         (5, TWO_LINES, "read fault\n"),
     ),
     (
         "a source that fails a byte before",
         4096,
         Some(20),
-        None,
-        None,
+        (None, None),
         (5, "", "read fault\n"),
     ),
     (
         "an output that fails in its second line",
         4096,
         None,
-        Some((2, 4)),
-        None,
+        (Some((2, 4)), None),
         (6, "w=1 m=1 A=1 B=2 used=1,2\nw=1 ", "write fault\n"),
     ),
     (
         "an output that fails wins over a source",
         4096,
         Some(21),
-        Some((1, 0)),
-        None,
+        (Some((1, 0)), None),
         (6, "", "write fault\n"),
     ),
     (
         "an error output that fails",
         4096,
         Some(20),
-        None,
-        Some((1, 5)),
+        (None, Some((1, 5))),
         (5, "", "read "),
     ),
 ];
@@ -426,23 +544,10 @@ fn pieces_and_faults(rt: HostRuntime) -> Result<(), Fail> {
     let alloc = rt.alloc();
     let query = query(alloc, "WITHIN 4 EVENTS FROM EVERY 2 EVENTS", "ALL")?;
     let words = words(alloc, query.as_str())?;
-    for (shows, piece, fail_after, out_fails, err_fails, want) in FAULTS {
-        assert!(rt; 0 < piece, "{shows}");
-        let mut input = MemSource::new(ABAB.as_bytes().to_vec(alloc)?, piece, fail_after);
-        let mut out = MemSink::new(alloc, fails(alloc, out_fails)?, 4096)?;
-        let mut err = MemSink::new(alloc, fails(alloc, err_fails)?, 4096)?;
-        let status = spectre(alloc, &words, &mut input, &mut out, &mut err);
-        assert_eq!(rt; status, want.0, "{shows}");
-        assert_eq!(rt; out.bytes(), want.1.as_bytes(), "{shows}");
-        assert_eq!(rt; err.bytes(), want.2.as_bytes(), "{shows}");
+    for (shows, piece, fail_after, fails, want) in FAULTS {
+        assert!(rt; 0 < piece);
+        let source = MemSource::new(ABAB.as_bytes().to_vec(alloc)?, piece, fail_after);
+        expect_from(&rt, alloc, shows, &words, source, fails, want)?;
     }
     Ok(())
-}
-
-fn fails(alloc: Global, call: Option<(u32, u32)>) -> Result<Vec<(u32, u32)>, AllocError> {
-    let mut list = Vec::new(alloc);
-    if let Some(call) = call {
-        list.push(call)?;
-    }
-    Ok(list)
 }

@@ -1,14 +1,18 @@
 -- Answers before the input is read, answers cut short by want of memory, and an outcome seen as another.
-use Rattle.std.proofs.Common.{◌≡◌, ◌≢◌, inr, ⊎_elim, ℕ, Bool, List, [], refl, arith}
-use Rattle.sp_io.specs.Outside.{Told, Gave, GrewWithin}
+use Rattle.std.proofs.Common.{◌⊎◌, ◌≡◌, ◌≢◌, inr, ⊎_elim, ℕ, Bool, List, [], refl, arith, sym, subst, ◌∙◌, inl}
+use Rattle.std.proofs.lemmas.List.{append-nil}
+use Rattle.sp_io.specs.Outside.{Told, Gave, Grew, GrewWithin}
 use Rattle.sp_top.specs.declared.status.Status.{Status}
-use Rattle.sp_top.specs.declared.status.Status.TheVariants.{Done, Memory, Usage, Query, Input, Read, Write}
-use Rattle.sp_top.specs.Outcome.{Outcome, nothing_for}
-use Rattle.sp_top.specs.Answer.{Outside, Ran}
+use Rattle.sp_top.specs.declared.status.Status.TheVariants.{Done, Memory, Usage, Query, Input, Read, Write, Limited}
+use Rattle.sp_top.specs.Outcome.{Outcome, IsOutcome, nothing_for}
+use Rattle.sp_top.specs.Answer.{Outside, Ran, Answered}
 use Rattle.sp_top.proofs.Told.{gave_none, grew_none}
 
 within_none : (a : Told) (more : List ℕ) → GrewWithin a more a
 within_none a more = ([], (more, refl), grew_none a)
+
+grew_whole : (a b : Told) (xs : List ℕ) → Grew a xs b → GrewWithin a xs b
+grew_whole a b xs grew = (xs, ([], sym (append-nil xs)), grew)
 
 -- the status of words or of a query that are refused
 abbrev pub IsRefusal : Status → Type 0
@@ -16,18 +20,20 @@ IsRefusal Usage = Unit {0}
 IsRefusal Query = Unit {0}
 IsRefusal Done = ⊥
 IsRefusal Memory = ⊥
-IsRefusal Input = ⊥
+IsRefusal (Input code row column) = ⊥
 IsRefusal Read = ⊥
 IsRefusal Write = ⊥
+IsRefusal (Limited limit) = ⊥
 
 refused_by : (s : Status) → IsRefusal s → (s ≢ Done) × (s ≢ Memory) × (s ≢ Read) × (s ≢ Write)
 refused_by Usage is = (λ e. cc, λ e. cc, λ e. cc, λ e. cc)
 refused_by Query is = (λ e. cc, λ e. cc, λ e. cc, λ e. cc)
 refused_by Done is = absurd is
 refused_by Memory is = absurd is
-refused_by Input is = absurd is
+refused_by (Input code row column) is = absurd is
 refused_by Read is = absurd is
 refused_by Write is = absurd is
+refused_by (Limited limit) is = absurd is
 
 -- nothing is read or written
 pub at_once : (P : List ℕ → Bool → Outcome → Type 0) (old : Outside) (s : Status) → IsRefusal s → P [] old.input.ended (nothing_for s) → Ran P old old s
@@ -75,3 +81,36 @@ ran_weaker P Q old new s weaker ran = record {
   write_fault = ran.write_fault;
   write_told = ran.write_told;
 }
+
+-- want of memory may take the place of any other answer
+pub ran_short : (P : List ℕ → Bool → Outcome → Type 0) (old new : Outside) (s t : Status) → (t ≡ s) ⊎ (t ≡ Memory) → Ran P old new s → Ran P old new t
+ran_short P old new s t which ran = ⊎_elim (λ same. subst (Ran P old new) (sym same) ran) (λ short. subst (Ran P old new) (sym short) (by s ran)) which
+  where
+    by : (u : Status) → Ran P old new u → Ran P old new Memory
+    by u r = record {
+      taken = r.taken;
+      outcome = r.outcome;
+      gave = r.gave;
+      is = r.is;
+      exact = λ other _. absurd (other refl);
+      cut_off = λ _. within u r;
+      read_whole = λ e. cc;
+      read_fault = λ e. cc;
+      write_fault = λ e. cc;
+      write_told = λ _. inr refl;
+    }
+      where
+        within : (u : Status) (r : Ran P old new u) → GrewWithin old.out.held r.outcome.text new.out.held
+        within Memory r = r.cut_off (inl refl)
+        within Write r = r.cut_off (inr refl)
+        within Done r = grew_whole _ _ _ (r.exact (λ e. cc) (λ e. cc)).1
+        within Usage r = grew_whole _ _ _ (r.exact (λ e. cc) (λ e. cc)).1
+        within Query r = grew_whole _ _ _ (r.exact (λ e. cc) (λ e. cc)).1
+        within (Input code row column) r = grew_whole _ _ _ (r.exact (λ e. cc) (λ e. cc)).1
+        within Read r = grew_whole _ _ _ (r.exact (λ e. cc) (λ e. cc)).1
+        within (Limited limit) r = grew_whole _ _ _ (r.exact (λ e. cc) (λ e. cc)).1
+
+-- the same of an answer to words
+pub answered_short : (words : List (List ℕ)) (old new : Outside) (s t : Status) → (t ≡ s) ⊎ (t ≡ Memory) → Answered words old new s → Answered words old new t
+answered_short words old new s t which answered =
+    ⊎_elim (λ before. inl (⊎_elim (λ same. same ∙ before.0) (λ short. short) which, before.1)) (λ ran. inr (ran_short (IsOutcome words) old new s t which ran)) answered

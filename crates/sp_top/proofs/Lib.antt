@@ -1,15 +1,10 @@
 mod Answered
 mod Answering
-mod Cuts
-mod Digits
 mod FewEvents
+mod Leading
 mod LinesOf
-mod Numbered
 mod QueryPlan
 mod QueryText
 mod ReadSoFar
-mod RowsOf
 mod Told
-mod TwoCells
-mod Utf8
 mod Words

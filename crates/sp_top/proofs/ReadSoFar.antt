@@ -1,24 +1,25 @@
 -- The reading of the input, from one call of the source to the next.
-use Rattle.std.proofs.Common.{◌≡◌, ◌≢◌, ℕ, Bool, true, false, List, [], ◌++◌, Ok, Err, sym, ◌∙◌, ap, subst, append_assoc}
-use Rattle.std.specs.Prelude.{Result, IfOk, IsErr, if◌then◌else◌}
+use Rattle.std.proofs.Common.{◌≡◌, ◌≢◌, ℕ, Bool, true, false, List, [], ◌++◌, Ok, Err, refl, sym, ◌∙◌, ap, subst, append_assoc}
+use Rattle.std.specs.Prelude.{Result, IfOk, IsErr, Option, Some, None, is_some}
 use Rattle.std.specs.declared.alloc.AllocError.{AllocError}
 use Rattle.sp_io.specs.Outside.{SourceState, Gave, Rose}
 use Rattle.sp_plan.specs.declared.plan.Plan.{Plan}
-use Rattle.sp_top.specs.declared.rows.Rows.{Rows}
+use Rattle.sp_top.specs.declared.reader.Reader.{Reader}
+use Rattle.sp_top.specs.declared.input.Failure.{Failure}
 use Rattle.sp_top.specs.declared.input.Given.{Given}
-use Rattle.sp_top.specs.declared.input.Stop.TheVariants.{End, Row, Open}
+use Rattle.sp_top.specs.declared.input.Stop.TheVariants.{Open}
 use Rattle.sp_top.specs.Answer.{ReadsInput}
-use Rattle.sp_top.specs.Rows.{Reading, read, stop_of}
+use Rattle.sp_top.specs.Reading.{Reading, read, stop_of, stop_or}
 use Rattle.sp_top.specs.Coming.{comes_to}
-use Rattle.sp_top.proofs.Told.{gave_more}
+use Rattle.sp_top.proofs.Told.{gave_none, gave_more}
 
 -- the bytes taken so far, and what they lead to with all that may come
-pub record ReadSoFar (q : Plan) (old now : SourceState) (rows : Rows) : Type 0 where
+pub record ReadSoFar (q : Plan) (old now : SourceState) (reader : Reader) : Type 0 where
   pub taken : List ℕ
   pub gave : Gave old.left taken now.left
   pub ended : now.ended ≡ false
   pub faults : now.faults ≡ old.faults
-  pub leads : (more : List ℕ) (ended : Bool) → comes_to rows more ended ≡ read q (taken ++ more) ended
+  pub leads : (more : List ℕ) (ended : Bool) → comes_to reader more ended ≡ read q (taken ++ more) ended
 
 -- an answer whose stop is another than a fault of the source
 abbrev pub IsNotOpen : Result Given AllocError → Type 0
@@ -26,22 +27,22 @@ IsNotOpen result = IfOk result (λ given. given.stop ≢ Open)
 
 -- at its end an input is not open
 pub whole_is_not_open : (r : Reading) (result : Result Given AllocError) → IfOk result (λ given. given.stop ≡ stop_of r true) → IsNotOpen result
-whole_is_not_open r (Ok given) stop = λ is. by r.failed r.headed (sym stop ∙ is)
+whole_is_not_open r (Ok given) stop = λ is. by r.stopped r.so_far.places (sym stop ∙ is)
   where
-    by : (failed headed : Bool) → (if failed then Row else if headed then End else Row) ≢ Open
-    by true headed = λ is. cc
-    by false true = λ is. cc
-    by false false = λ is. cc
+    by : (stopped : Option Failure) (places : Option (List ℕ)) → stop_or (record r { so_far = record r.so_far { places = places } }) true stopped ≢ Open
+    by (Some failure) places = λ is. cc
+    by None None = λ is. cc
+    by None (Some places) = λ is. cc
 whole_is_not_open r (Err e) stop = tt
 
--- a faulty reading is not open
-pub faulty_is_not_open : (r : Reading) (result : Result Given AllocError) → true ≡ r.failed → IfOk result (λ given. given.stop ≡ stop_of r false) → IsNotOpen result
-faulty_is_not_open r (Ok given) faulty stop = λ is. by r.failed faulty (sym stop ∙ is)
+-- a reading that has failed is not open
+pub failed_is_not_open : (r : Reading) (result : Result Given AllocError) → true ≡ is_some r.stopped → IfOk result (λ given. given.stop ≡ stop_of r false) → IsNotOpen result
+failed_is_not_open r (Ok given) failed stop = λ is. by r.stopped failed (sym stop ∙ is)
   where
-    by : (failed : Bool) → true ≡ failed → (if failed then Row else Open) ≢ Open
-    by true is = λ same. cc
-    by false is = cc
-faulty_is_not_open r (Err e) faulty stop = tt
+    by : (stopped : Option Failure) → true ≡ is_some stopped → stop_or r false stopped ≢ Open
+    by (Some failure) is = λ same. cc
+    by None is = cc
+failed_is_not_open r (Err e) failed stop = tt
 
 -- an answer that isn't open says nothing of faults
 no_rise : (P : Type 0) (result : Result Given AllocError) → IsNotOpen result → IfOk result (λ given. given.stop ≡ Open → P)
@@ -53,9 +54,9 @@ rise : {P : Type 0} (result : Result Given AllocError) → P → IfOk result (λ
 rise (Ok given) p = λ is. p
 rise (Err e) p = tt
 
-module _ (q : Plan) (old now : SourceState) (rows : Rows) (so_far : ReadSoFar q old now rows) (next : SourceState) where
+module _ (q : Plan) (old now : SourceState) (reader : Reader) (so_far : ReadSoFar q old now reader) (next : SourceState) where
   -- one piece more
-  pub fed : (piece : List ℕ) (after : Rows) → Gave now.left piece next.left → next.ended ≡ now.ended → next.faults ≡ now.faults → ((more : List ℕ) (ended : Bool) → comes_to after more ended ≡ comes_to rows (piece ++ more) ended) → ReadSoFar q old next after
+  pub fed : (piece : List ℕ) (after : Reader) → Gave now.left piece next.left → next.ended ≡ now.ended → next.faults ≡ now.faults → ((more : List ℕ) (ended : Bool) → comes_to after more ended ≡ comes_to reader (piece ++ more) ended) → ReadSoFar q old next after
   fed piece after gave ended faults on = record {
     taken = so_far.taken ++ piece;
     gave = gave_more old.left now.left next.left so_far.taken piece so_far.gave gave;
@@ -77,12 +78,12 @@ module _ (q : Plan) (old now : SourceState) (rows : Rows) (so_far : ReadSoFar q 
 
   module _ (result : Result Given AllocError) where
     module _ (ended : Bool) (gave : Gave now.left [] next.left) (is_ended : next.ended ≡ ended)
-        (events : IfOk result (λ given. given.events.items ≡ (comes_to rows [] ended).events)) (stop : IfOk result (λ given. given.stop ≡ stop_of (comes_to rows [] ended) ended)) where
+        (events : IfOk result (λ given. given.events.items ≡ (comes_to reader [] ended).events)) (stop : IfOk result (λ given. given.stop ≡ stop_of (comes_to reader [] ended) ended)) where
       -- the reading ends here
       finished : IfOk result (λ given. given.stop ≡ Open → Rose old.faults next.faults) → ReadsInput q old next result
       finished fault =
           let taken = so_far.taken ++ [] in
-          let same : comes_to rows [] ended ≡ read q taken next.ended = so_far.leads [] ended ∙ ap (read q taken) (sym is_ended) in
+          let same : comes_to reader [] ended ≡ read q taken next.ended = so_far.leads [] ended ∙ ap (read q taken) (sym is_ended) in
           record {
             taken = taken;
             gave = gave_more old.left now.left next.left so_far.taken [] so_far.gave gave;
@@ -98,3 +99,18 @@ module _ (q : Plan) (old now : SourceState) (rows : Rows) (so_far : ReadSoFar q 
       -- the source failed
       pub source_failed : Rose now.faults next.faults → ReadsInput q old next result
       source_failed rose = finished (rise result (subst (λ (n : ℕ). Rose n next.faults) so_far.faults rose))
+
+-- an option that is no Some is None
+pub none_where : {X : Type 0} (o : Option X) → is_some o ≡ false → o ≡ None
+none_where None is = refl
+none_where (Some x) is = cc
+
+-- nothing was taken yet
+pub begun : (q own : Plan) (now : SourceState) (reader : Reader) → own ≡ q → now.ended ≡ false → ((more : List ℕ) (ended : Bool) → comes_to reader more ended ≡ read own more ended) → ReadSoFar q now now reader
+begun q own now reader same going leads = record {
+  taken = [];
+  gave = gave_none now.left;
+  ended = going;
+  faults = refl;
+  leads = λ more ended. leads more ended ∙ ap (λ (p : Plan). read p more ended) same;
+}

@@ -3,7 +3,7 @@ use Rattle.std.specs.Prelude.{◌≡◌, ◌≢◌, ◌⊎◌, ◌<◌, ℕ, Boo
 use Rattle.std.specs.declared.alloc.AllocError.{AllocError}
 use Rattle.sp_io.specs.Outside.{SourceState, SinkState, Gave, Grew, GrewWithin, Rose}
 use Rattle.sp_plan.specs.declared.plan.Plan.{Plan}
-use Rattle.sp_top.specs.Rows.{read, stop_of}
+use Rattle.sp_top.specs.Reading.{read, stop_of}
 use Rattle.sp_top.specs.Outcome.{Outcome, IsOutcome, run_outcome, number_of, line_of}
 use Rattle.sp_top.specs.declared.input.Given.{Given}
 use Rattle.sp_top.specs.declared.input.Stop.TheVariants.{Open}

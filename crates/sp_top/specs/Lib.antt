@@ -1,6 +1,6 @@
 pub mod Query
 pub mod QueryParts
-pub mod Rows
+pub mod Reading
 pub mod Kept
 pub mod Coming
 pub mod Outcome

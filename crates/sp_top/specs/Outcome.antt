@@ -1,15 +1,18 @@
 -- What a command comes to: a status and a text.
-use Rattle.std.specs.Prelude.{◌≡◌, ◌⊎◌, ℕ, Bool, true, false, List, [], ◌∷◌, codes}
+use Rattle.std.specs.Prelude.{◌≡◌, ◌⊎◌, ℕ, Bool, true, false, List, [], ◌∷◌, ◌++◌, codes}
+use Rattle.std.specs.Fmt.{decimal}
 use Rattle.sp_plan.specs.declared.event.Event.{Event}
 use Rattle.sp_plan.specs.declared.plan.Plan.{Plan}
 use Rattle.sp_plan.specs.Sequential.{whole}
 use Rattle.sp_plan.specs.Lines.{text}
 use Rattle.sp_top.specs.Query.{StandsFor}
-use Rattle.sp_top.specs.Rows.{read, stop_of}
+use Rattle.sp_top.specs.Reading.{read, stop_of}
 use Rattle.sp_top.specs.declared.input.Stop.{Stop}
-use Rattle.sp_top.specs.declared.input.Stop.TheVariants.{End, Row, Open}
+use Rattle.sp_top.specs.declared.input.Stop.TheVariants.{End, Failed, Open}
+use Rattle.sp_top.specs.declared.input.Failure.{Failure}
+use Rattle.sp_top.specs.declared.input.Failure.TheVariants.{Row, Limit}
 use Rattle.sp_top.specs.declared.status.Status.{Status}
-use Rattle.sp_top.specs.declared.status.Status.TheVariants.{Done, Memory, Usage, Query, Input, Read, Write}
+use Rattle.sp_top.specs.declared.status.Status.TheVariants.{Done, Memory, Usage, Query, Input, Read, Write, Limited}
 
 -- the words are a command with this query text
 abbrev pub IsCommand : List (List ℕ) → List ℕ → Type 0
@@ -19,14 +22,18 @@ pub record Outcome : Type 0 where
   pub status : Status
   pub text : List ℕ
 
+abbrev pub status_of_failure : Failure → Status
+status_of_failure (Row code row column) = Input code row column
+status_of_failure (Limit limit) = Limited limit
+
 abbrev pub status_of : Stop → Status
 status_of End = Done
-status_of Row = Input
+status_of (Failed failure) = status_of_failure failure
 status_of Open = Read
 
 abbrev pub is_end : Stop → Bool
 is_end End = true
-is_end Row = false
+is_end (Failed failure) = false
 is_end Open = false
 
 -- the text of the windows that these events have closed
@@ -67,9 +74,10 @@ number_of Done = 0
 number_of Memory = 1
 number_of Usage = 2
 number_of Query = 3
-number_of Input = 4
+number_of (Input code row column) = 4
 number_of Read = 5
 number_of Write = 6
+number_of (Limited limit) = 7
 
 -- the line that is written for a status
 abbrev pub line_of : Status → List ℕ
@@ -77,6 +85,8 @@ line_of Done = []
 line_of Memory = codes "memory\n"
 line_of Usage = codes "usage\n"
 line_of Query = codes "query code 0 at 0\n"
-line_of Input = codes "input code 0 row 0 column 0\n"
+line_of (Input code row column) =
+    codes "input code " ++ (decimal code ++ (codes " row " ++ (decimal row ++ (codes " column " ++ (decimal column ++ codes "\n")))))
 line_of Read = codes "read fault\n"
 line_of Write = codes "write fault\n"
+line_of (Limited limit) = codes "limit " ++ (decimal limit ++ codes "\n")

@@ -1,18 +1,29 @@
 ghost use Rattle.std.specs.Prelude.{◌≡◌, false};
+ghost use Rattle.std.specs.Arc.{arc_value};
 ghost use Rattle.sp_top.specs.Answer.{ReadsInput};
 
-use crate::rows::Rows;
+use crate::reader::Reader;
 use sp_io::Source;
 use sp_plan::{Event, Memory, Plan};
 use std::alloc::{AllocError, Global};
+use std::sync::Arc;
+
+/// Why no later row of the input counts.
+#[derive(Clone, Copy, Drop, PartialEq, Eq)]
+pub(crate) enum Failure {
+    /// A row was faulty, or the input had no header: the fault's code, the row from 1 and the cell's
+    /// place from 1, or 0 where there is none.
+    Row { code: u8, row: u32, column: u32 },
+    /// The input has more rows or more events than this.
+    Limit { limit: u32 },
+}
 
 /// Why the reading of the input stopped.
 #[derive(Clone, Copy, Drop, PartialEq, Eq)]
 pub(crate) enum Stop {
     /// The input was read to its end.
     End,
-    /// A row was faulty, or the input had no header.
-    Row,
+    Failed(Failure),
     /// The source failed.
     Open,
 }
@@ -27,26 +38,26 @@ pub(crate) struct Given {
 // How many bytes are asked for at a time.
 const PIECE: usize = 4096;
 
-/// Reads the rows of the input, up to its end, to the first row that is faulty or to a fault of the
+/// Reads the rows of the input, up to its end, to the first one that fails or to a fault of the
 /// source.
 pub(crate) fn read_input<S: Source>(
     alloc: Global,
-    plan: &Plan,
+    plan: &Arc<Plan>,
     input: &mut S,
 ) -> Result<Given, Memory>
     requires not_ended { (S.state input.old).ended ≡ false }
-    ensures { ReadsInput plan.now (S.state input.old) (S.state input.new) result }
+    ensures { ReadsInput (arc_value plan.now) (S.state input.old) (S.state input.new) result }
 {
-    let mut rows = Rows::new(alloc, plan)?;
+    let mut reader = Reader::new(alloc, Arc::try_clone(plan)?)?;
     let mut piece = [0u8; PIECE];
     for _ in 0..u64::MAX {
         match input.read(&mut piece) {
-            Ok(0) => return rows.finish(alloc, true),
-            Ok(count) => rows.feed(alloc, &piece[..count])?,
-            Err(_) => return rows.finish(alloc, false),
+            Ok(0) => return reader.finish(alloc, true),
+            Ok(count) => reader.feed(alloc, &piece[..count])?,
+            Err(_) => return reader.finish(alloc, false),
         }
-        if rows.is_faulty() {
-            return rows.finish(alloc, false);
+        if reader.has_stopped() {
+            return reader.finish(alloc, false);
         }
     }
     Err(AllocError)

@@ -2,16 +2,14 @@
 //! `Promise` of `specs/Answer.antt`, the contract of `spectre`.
 #![tactic(auto)]
 
-mod cells;
 mod input;
 mod kept;
 mod numeral;
 mod output;
 mod query;
-mod rows;
+mod reader;
 mod run;
 mod status;
-mod texts;
 mod top;
 
 pub use top::spectre;

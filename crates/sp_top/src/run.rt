@@ -7,7 +7,7 @@ ghost use Rattle.sp_top.specs.Answer.{Ran, IsRun};
 ghost use Rattle.sp_top.specs.Outcome;
 ghost use Rattle.sp_top.specs.Outcome.{windows_text};
 
-use crate::input::{Given, Stop, read_input};
+use crate::input::{Failure, Given, Stop, read_input};
 use crate::output::{Written, write_lines};
 use crate::status::Status;
 use sp_io::{Sink, Source};
@@ -22,7 +22,8 @@ fn status_of(stop: Stop) -> Status
 {
     match stop {
         Stop::End => Status::Done,
-        Stop::Row => Status::Input,
+        Stop::Failed(Failure::Row { code, row, column }) => Status::Input { code, row, column },
+        Stop::Failed(Failure::Limit { limit }) => Status::Limited { limit },
         Stop::Open => Status::Read,
     }
 }

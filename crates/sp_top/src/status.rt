@@ -1,5 +1,8 @@
-ghost use Rattle.std.specs.Prelude.{◌≡◌};
+ghost use Rattle.std.specs.Prelude.{◌≡◌, IfOk, string_bytes};
 ghost use Rattle.sp_top.specs.Outcome.{number_of, line_of};
+
+use sp_plan::Memory;
+use std::alloc::Global;
 
 /// What the program ends with.
 #[derive(Clone, Copy, Drop, PartialEq, Eq)]
@@ -9,9 +12,12 @@ pub(crate) enum Status {
     Memory,
     Usage,
     Query,
-    Input,
+    /// A faulty row: the fault's code, the row and the cell's place.
+    Input { code: u8, row: u32, column: u32 },
     Read,
     Write,
+    /// The input has more rows or more events than this.
+    Limited { limit: u32 },
 }
 
 impl Status {
@@ -24,24 +30,32 @@ impl Status {
             Status::Memory => 1,
             Status::Usage => 2,
             Status::Query => 3,
-            Status::Input => 4,
+            Status::Input {
+                code: _,
+                row: _,
+                column: _,
+            } => 4,
             Status::Read => 5,
             Status::Write => 6,
+            Status::Limited { limit: _ } => 7,
         }
     }
 
     /// The line that is written to the error output, none where all went well.
-    pub(crate) fn line(self) -> &'static str
-        ensures { result.now ≡ line_of self }
+    pub(crate) fn line(self, alloc: Global) -> Result<String, Memory>
+        ensures { IfOk result (λ line. string_bytes line ≡ line_of self) }
     {
         match self {
-            Status::Done => "",
-            Status::Memory => "memory\n",
-            Status::Usage => "usage\n",
-            Status::Query => "query code 0 at 0\n",
-            Status::Input => "input code 0 row 0 column 0\n",
-            Status::Read => "read fault\n",
-            Status::Write => "write fault\n",
+            Status::Done => Ok(String::new(alloc)),
+            Status::Memory => String::from_str(alloc, "memory\n"),
+            Status::Usage => String::from_str(alloc, "usage\n"),
+            Status::Query => String::from_str(alloc, "query code 0 at 0\n"),
+            Status::Input { code, row, column } => {
+                format!(in alloc; "input code {code} row {row} column {column}\n")
+            }
+            Status::Read => String::from_str(alloc, "read fault\n"),
+            Status::Write => String::from_str(alloc, "write fault\n"),
+            Status::Limited { limit } => format!(in alloc; "limit {limit}\n"),
         }
     }
 }

@@ -1,5 +1,5 @@
 // The words, and the answer to them.
-ghost use Rattle.std.specs.Prelude.{◌≡◌, ℕ, List, false, map, IfSome, IfNone, string_bytes};
+ghost use Rattle.std.specs.Prelude.{◌≡◌, ◌⊎◌, ℕ, List, false, map, IfSome, IfNone, string_bytes};
 ghost use Rattle.sp_io.specs.Outside.{Grew, GrewWithin, Rose};
 ghost use Rattle.sp_top.specs.Answer.{Answered, Promise};
 ghost use Rattle.sp_top.specs.Outcome.{IsCommand, IsNoCommand, line_of};
@@ -43,14 +43,31 @@ fn answer<S: Source, K: Sink>(alloc: Global, words: &[String], input: &mut S, ou
     }
 }
 
-// Writes the line of a status, where it has one. A fault is dropped.
-fn write_status<E: Sink>(status: Status, err: &mut E)
-    ensures line { (Rose (E.state err.old).faults (E.state err.new).faults → ⊥) → Grew (E.state err.old).held (line_of status) (E.state err.new).held }
-    ensures front { GrewWithin (E.state err.old).held (line_of status) (E.state err.new).held }
+// Writes a line, where it isn't empty. A fault is dropped.
+fn write_line<E: Sink>(line: &str, err: &mut E)
+    ensures line { (Rose (E.state err.old).faults (E.state err.new).faults → ⊥) → Grew (E.state err.old).held line.now (E.state err.new).held }
+    ensures front { GrewWithin (E.state err.old).held line.now (E.state err.new).held }
 {
-    let line = status.line();
     if !line.is_empty() {
         let _ = err.write_all(line.as_bytes());
+    }
+}
+
+// Writes the line of a status, and answers the status: want of memory where there was none for the line.
+fn tell<E: Sink>(alloc: Global, status: Status, err: &mut E) -> Status
+    ensures status { (result ≡ status) ⊎ (result ≡ Status.Memory) }
+    ensures line { (Rose (E.state err.old).faults (E.state err.new).faults → ⊥) → Grew (E.state err.old).held (line_of result) (E.state err.new).held }
+    ensures front { GrewWithin (E.state err.old).held (line_of result) (E.state err.new).held }
+{
+    match status.line(alloc) {
+        Ok(line) => {
+            write_line(line.as_str(), err);
+            status
+        }
+        Err(_) => {
+            write_line("memory\n", err);
+            Status::Memory
+        }
     }
 }
 
@@ -72,6 +89,5 @@ pub fn spectre<S: Source, K: Sink, E: Sink>(
         (E.state err.old) (E.state err.new) result }
 {
     let status = answer(alloc, words, input, out);
-    write_status(status, err);
-    status.number()
+    tell(alloc, status, err).number()
 }

@@ -1,4 +1,5 @@
 use Rattle.std.proofs.Common.{[], length, refl, ap, arith}
+use Rattle.std.specs.Arc.{arc_value}
 use Rattle.sp_top.specs.Outcome.{run_outcome}
 use Rattle.sp_top.specs.Answer.{IsRun}
 use Rattle.sp_top.proofs.Answering.{cut_short}
@@ -19,5 +20,5 @@ returns-in_default-read_input g c =
 pub write_windows-requires-clause-few : goal.write_windows-requires-clause-few
 write_windows-requires-clause-few g c κs within =
     let reads = c.in-Ok-read_input.ensures in
-    let few = (read_few c.deref.result.now reads.taken (g.S.Source.state c.read_input.new.input).ended).few in
+    let few = (read_few (arc_value c.in-Ok.plan) reads.taken (g.S.Source.state c.read_input.new.input).ended).few in
     omega (arith, few, ap length reads.events)

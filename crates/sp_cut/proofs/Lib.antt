@@ -1,0 +1,7 @@
+pub mod Adding
+pub mod Answering
+pub mod Given
+pub mod Going
+pub mod Growing
+pub mod Parts
+pub mod Worked

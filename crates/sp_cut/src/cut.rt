@@ -1,0 +1,185 @@
+ghost use Rattle.std.specs.Prelude.{◌≡◌, ◌≤◌, ◌<◌, ◌+◌, ◌++◌, [], length, take, drop, true, false, IfOk, IfErr, OnOk, OnErr, vec_len};
+ghost use Rattle.sp_cut.specs.Answer.{Gives, IsFault};
+ghost use Rattle.sp_cut.specs.CutRows.{ended_part, is_even};
+ghost use Rattle.sp_cut.specs.Ends.{IsFound};
+ghost use Rattle.sp_cut.specs.Part.{part_of, left_behind, AnswersFor};
+
+use crate::ends::{Found, first_end};
+use crate::fault::{CutFault, Memory};
+use crate::part::{Rest, rest_of, row_of, without_mark};
+use std::alloc::Global;
+use std::marker::Model;
+
+/// Cuts bytes into rows, in whatever pieces they come; a byte order mark at their start is dropped.
+/// It holds the bytes behind the last row given, the number of rows given, and whether the input ended.
+/// Each byte is gone through once, and no more bytes are moved than rows took.
+#[derive(Drop)]
+pub struct Cutter {
+    bytes: Vec<u8>,
+    // How many bytes the rows given took; those behind are left.
+    start: usize,
+    // Among so many of the bytes left no row ends.
+    scanned: usize,
+    // Whether a quote is open behind these.
+    quoted: bool,
+    given: u32,
+    ended: bool,
+}
+
+impl Model for Cutter {
+    ghost use Rattle.sp_cut.specs.Left.{Left};
+
+    ghost Value = { Left };
+
+    ghost use Rattle.sp_cut.specs.Cutting.{left_of, IsCutting};
+
+    ghost view = { left_of };
+
+    ghost invariant = { IsCutting };
+}
+
+impl Cutter {
+    /// No byte was fed. Takes no memory.
+    pub fn new(alloc: Global) -> Cutter
+        ensures { result ≡ record { bytes = []; given = 0; ended = false } }
+    {
+        Cutter {
+            bytes: Vec::new(alloc),
+            start: 0,
+            scanned: 0,
+            quoted: false,
+            given: 0,
+            ended: false,
+        }
+    }
+
+    /// The next bytes of an input that has not ended. Where memory runs out the cutter is as before.
+    pub fn feed(&mut self, piece: &[u8]) -> Result<(), Memory>
+        requires { self.old.ended ≡ false }
+        ensures fed { OnOk result (self.new ≡ record self.old { bytes = self.old.bytes ++ piece.now }) }
+        ensures unchanged { OnErr result (self.new ≡ self.old) }
+    {
+        self.forget();
+        self.bytes.extend_from_slice(piece)
+    }
+
+    /// The input ends behind the bytes fed.
+    pub fn end(&mut self)
+        ensures { self.new ≡ record self.old { ended = true } }
+    {
+        self.ended = true;
+    }
+
+    /// The next row without the line feed or CR LF that ends it, or None where no row is left.
+    /// After None, more bytes or the end may bring one. Once the next row is too long, or the input
+    /// ended inside quotes, each call is that fault. At None and at a fault the cutter stays as it is.
+    pub fn next_row(&mut self, alloc: Global) -> Result<Option<Vec<u8>>, CutFault>
+        requires { self.old.given < 2097153 }
+        ensures given { IfOk result (λ found. Gives self.old found self.new) }
+        ensures fault { IfErr result (λ fault. IsFault self.old fault) }
+        ensures unchanged { OnErr result (self.new ≡ self.old) }
+    {
+        match self.find_end() {
+            Found::End(size) => Ok(Some(self.give(alloc, size, 1)?)),
+            Found::Rest(quoted) => self.next_of_rest(alloc, quoted),
+        }
+    }
+
+    // The next row where no line feed ends one.
+    fn next_of_rest(&mut self, alloc: Global, quoted: bool) -> Result<Option<Vec<u8>>, CutFault>
+        requires number { self.old.given < 2097153 }
+        requires rest { IsFound false self.old.bytes (Found.Rest quoted) }
+        ensures given { IfOk result (λ found. Gives self.old found self.new) }
+        ensures fault { IfErr result (λ fault. IsFault self.old fault) }
+        ensures unchanged { OnErr result (self.new ≡ self.old) }
+    {
+        let size = self.len();
+        let row = self.given + 1;
+        match rest_of(self.part(size), self.ended, quoted) {
+            Rest::Long => Err(CutFault::LongRow { row }),
+            Rest::Nothing => Ok(None),
+            Rest::OpenQuote => Err(CutFault::OpenQuote { row }),
+            Rest::Row => Ok(Some(self.give(alloc, size, 0)?)),
+        }
+    }
+
+    // Gives the first bytes as a row; with them go as many line feeds as end it.
+    fn give(&mut self, alloc: Global, size: usize, feeds: usize) -> Result<Vec<u8>, CutFault>
+        requires number { self.old.given < 2097153 }
+        requires within { size + feeds ≤ length self.old.bytes }
+        ensures row { AnswersFor (ended_part (part_of self.old size)) (self.old.given + 1) result }
+        ensures given { OnOk result (self.new ≡ left_behind self.old (size + feeds)) }
+        ensures unchanged { OnErr result (self.new ≡ self.old) }
+    {
+        let number = self.given + 1;
+        let row = row_of(alloc, self.part(size), number)?;
+        self.start += size + feeds;
+        self.scanned = 0;
+        self.quoted = false;
+        self.given = number;
+        Ok(row)
+    }
+
+    // Where the next row ends; the bytes gone through are noted.
+    fn find_end(&mut self) -> Found
+        ensures found { IsFound false self.old.bytes result }
+        ensures unchanged { self.new ≡ self.old }
+    {
+        let from = self.start + self.scanned;
+        let (_, fresh) = self.bytes.as_slice().split_at(from);
+        match first_end(fresh, self.quoted) {
+            Found::End(size) => {
+                self.scanned += size;
+                self.quoted = false;
+                Found::End(self.scanned)
+            }
+            Found::Rest(quoted) => {
+                self.scanned = self.bytes.len() - self.start;
+                self.quoted = quoted;
+                Found::Rest(quoted)
+            }
+        }
+    }
+
+    // How many bytes are left.
+    fn len(&self) -> usize
+        ensures { result ≡ length self.now.bytes }
+    {
+        self.bytes.len() - self.start
+    }
+
+    // The first bytes left, without the byte order mark at the start of the input.
+    fn part(&self, size: usize) -> &[u8]
+        requires { size ≤ length self.now.bytes }
+        ensures { result.now ≡ part_of self.now size }
+    {
+        let (_, left) = self.bytes.as_slice().split_at(self.start);
+        let (part, _) = left.split_at(size);
+        if self.given == 0 {
+            without_mark(part)
+        } else {
+            part
+        }
+    }
+
+    // The bytes of rows given are dropped where they are at least as many as those left,
+    // which move to the front: so all moves together cost no more than the bytes of the rows.
+    fn forget(&mut self)
+        ensures { self.new ≡ self.old }
+    {
+        if self.bytes.len() - self.start <= self.start {
+            drop_front(&mut self.bytes, self.start);
+            self.start = 0;
+        }
+    }
+}
+
+// The bytes without so many at their front.
+fn drop_front(bytes: &mut Vec<u8>, count: usize)
+    requires { count ≤ vec_len bytes.old }
+    ensures { bytes.new.items ≡ drop count bytes.old.items }
+{
+    let left = bytes.len() - count;
+    bytes.copy_within(count.., 0);
+    bytes.truncate(left);
+}

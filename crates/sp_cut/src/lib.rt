@@ -1,0 +1,15 @@
+//! Rows from bytes, in whatever pieces they come.
+//! A row ends at a line feed with an even number of quotes before it (RFC 4180, section 2).
+#![tactic(auto)]
+
+mod cut;
+mod ends;
+mod fault;
+mod laws;
+mod part;
+#[cfg(test)]
+mod tests;
+
+pub use cut::Cutter;
+pub use fault::{CutFault, Memory};
+pub use laws::{rows_add_up, rows_stay};

@@ -1,0 +1,80 @@
+ghost use Rattle.std.specs.Prelude.{◌≡◌, ℕ, ◌+◌, not};
+ghost use Rattle.sp_cut.specs.CutRows.{is_long, is_even, ended_part, rest_rows};
+ghost use Rattle.sp_cut.specs.CutRows as cut;
+ghost use Rattle.sp_cut.specs.Part.{AnswersFor, rows_of_rest};
+
+use crate::fault::CutFault;
+use std::alloc::Global;
+
+// The most bytes that a row may have.
+const ROW: usize = 65_536;
+
+// A byte order mark.
+const MARK: &[u8] = &[0xEF, 0xBB, 0xBF];
+
+/// What the rest of the bytes is.
+pub(crate) enum Rest {
+    /// Too long for a row.
+    Long,
+    /// No row, or not yet.
+    Nothing,
+    /// A row.
+    Row,
+    /// Bytes that end inside quotes.
+    OpenQuote,
+}
+
+/// What the rest is, where the input ended or not and a quote is open at its end or not.
+pub(crate) fn rest_of(rest: &[u8], ended: bool, quoted: bool) -> Rest
+    requires { is_even rest.now ≡ not quoted }
+    ensures { rest_rows ended rest.now ≡ rows_of_rest rest.now result }
+{
+    if is_long(rest) {
+        return Rest::Long;
+    }
+    if !ended || rest.is_empty() {
+        return Rest::Nothing;
+    }
+    if quoted { Rest::OpenQuote } else { Rest::Row }
+}
+
+/// The row that a part is, where it has the number.
+pub(crate) fn row_of(alloc: Global, part: &[u8], row: u32) -> Result<Vec<u8>, CutFault>
+    ensures { AnswersFor (ended_part part.now) row result }
+{
+    if is_long(part) {
+        return Err(CutFault::LongRow { row });
+    }
+    match Vec::from_slice(alloc, without_cr(part)) {
+        Ok(bytes) => Ok(bytes),
+        Err(_) => Err(CutFault::Memory),
+    }
+}
+
+// Whether a part is too long for a row.
+fn is_long(part: &[u8]) -> bool
+    ensures { result ≡ cut.is_long part.now }
+{
+    without_cr(part).len() > ROW
+}
+
+// The part without the carriage return at its end.
+fn without_cr(part: &[u8]) -> &[u8]
+    ensures { result.now ≡ cut.without_cr part.now }
+{
+    match part.last() {
+        Some(b'\r') => part.split_at(part.len() - 1).0,
+        _ => part,
+    }
+}
+
+/// The bytes without the byte order mark at their start.
+pub(crate) fn without_mark(bytes: &[u8]) -> &[u8]
+    ensures { result.now ≡ cut.without_mark bytes.now }
+{
+    if bytes.len() < 3 {
+        return bytes;
+    }
+    let (front, rest) = bytes.split_at(3);
+    if front == MARK { rest } else { bytes }
+}

@@ -1,0 +1,6 @@
+use Rattle.std.proofs.Common.{◌≡◌, [], take, fold}
+use Rattle.sp_rows.specs.Texts.{with_text}
+use Rattle.sp_rows.proofs.texts.Texts.of.Given as goal
+
+abbrev pub invariant-loop-text : goal.invariant-loop-text
+invariant-loop-text l = l.known ≡ fold with_text [] (take l.text-index l.texts)

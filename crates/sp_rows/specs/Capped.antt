@@ -1,0 +1,15 @@
+-- Numbers that stop growing once they are past the bound.
+use Rattle.std.specs.Prelude.{ℕ, ◌+◌, ◌-◌, ◌*◌, min, List}
+use Rattle.std.specs.List.{fold}
+
+-- the number with one more digit
+abbrev pub with_digit : ℕ → ℕ → ℕ
+with_digit n b = n * 10 + (b - 48)
+
+-- a number, or the first past the bound where it is past it
+abbrev pub capped : ℕ → ℕ
+capped n = min n 1000000000000001
+
+-- the number with more digits, or the first past the bound
+abbrev pub with_more : ℕ → List ℕ → ℕ
+with_more n digits = capped (fold with_digit n digits)

@@ -1,0 +1,8 @@
+pub mod Cells
+pub mod Numbers
+pub mod Texts
+pub mod Rows
+pub mod Codes
+pub mod Capped
+pub mod Shapes
+pub mod Progress

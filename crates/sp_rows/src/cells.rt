@@ -1,0 +1,82 @@
+// The cells of a row, as the crate csv reads them.
+ghost use Rattle.std.specs.Prelude.{◌≡◌, ◌<◌, ◌≤◌, true, take, drop, length, IfOk, IfErr};
+ghost use Rattle.std.specs.List.{slice_get};
+ghost use Rattle.std.specs.Option.{option_map};
+ghost use Rattle.csv.specs.Records.{fields_of};
+ghost use Rattle.csv.specs.Reading.{stops_reader, error_kind};
+ghost use Rattle.sp_rows.specs.Cells as rows;
+ghost use Rattle.sp_rows.specs.Shapes.{shape_of};
+
+use csv::{ByteRecord, ReaderBuilder};
+use std::alloc::Global;
+
+// The bytes of a byte order mark.
+const MARK: &[u8] = b"\xef\xbb\xbf";
+
+/// What a row of bytes reads as.
+#[derive(Drop)]
+pub(crate) enum Cells {
+    Blank,
+    One(ByteRecord),
+    Several,
+}
+
+// Whether the bytes begin with a byte order mark.
+fn is_marked(bytes: &[u8]) -> bool
+    ensures mark { result ≡ rows.is_mark (take 3 bytes.now) }
+    ensures long { result ≡ true → 3 ≤ length bytes.now }
+{
+    bytes.starts_with(MARK)
+}
+
+// What stands behind the first three bytes.
+fn behind_mark(bytes: &[u8]) -> &[u8]
+    requires { 3 ≤ length bytes.now }
+    ensures rest { result.now ≡ drop 3 bytes.now }
+    ensures shorter { length result.now < length bytes.now }
+{
+    &bytes[3..]
+}
+
+// The bytes without the byte order marks at their start.
+fn without_marks(row: &[u8]) -> &[u8]
+    ensures { result.now ≡ rows.without_marks row.now }
+{
+    let mut rest = row;
+    while is_marked(rest) {
+        rest = behind_mark(rest);
+    }
+    rest
+}
+
+/// The cells of a row. Of the errors of the reader only want of memory and a fault of the source come,
+/// and a row in memory has no faults.
+pub(crate) fn read_cells(alloc: Global, row: &[u8]) -> Result<Cells, csv::Error>
+    ensures cells { IfOk result (λ cells. shape_of cells ≡ rows.row_cells row.now) }
+    ensures refused { IfErr result (λ e. stops_reader (error_kind e) ≡ true) }
+{
+    if row.is_empty() {
+        return Ok(Cells::Blank);
+    }
+    let mut reader = ReaderBuilder::new()
+        .has_headers(false)
+        .flexible(true)
+        .from_reader(alloc, without_marks(row));
+    let mut first = ByteRecord::new(alloc);
+    if !reader.read_byte_record(&mut first)? {
+        return Ok(Cells::Blank);
+    }
+    let mut second = ByteRecord::new(alloc);
+    if reader.read_byte_record(&mut second)? {
+        Ok(Cells::Several)
+    } else {
+        Ok(Cells::One(first))
+    }
+}
+
+/// The cell at this place from 0.
+pub(crate) fn cell_at(cells: &ByteRecord, place: usize) -> Option<&[u8]>
+    ensures { option_map (λ cell. cell.now) result ≡ slice_get (fields_of cells.now) place }
+{
+    cells.get(place)
+}

@@ -1,0 +1,218 @@
+// Numbers as cells write them.
+ghost use Rattle.std.specs.Prelude.{◌≡◌, ◌<◌, ◌≤◌, ◌^◌, ◌≢◌, ◌∷◌, ◌++◌, ◌==◌, ◌-◌, IfSome, IfNone, length, take, drop, pos, neg_ℤ, [], slice_index_or};
+ghost use Rattle.std.specs.List.{list_all, suffix_len, All};
+ghost use Rattle.std.specs.Option.{option_map, ForSome};
+ghost use Rattle.sp_rows.specs.Numbers;
+ghost use Rattle.sp_rows.specs.Capped.{with_digit, capped, with_more};
+
+// The largest number of units, 10^15.
+const BOUND: u64 = 1_000_000_000_000_000;
+
+// Whether a byte is a blank or a tab.
+fn is_blank(b: u8) -> bool
+    ensures { result ≡ Numbers.is_blank b }
+{
+    b == b' ' || b == b'\t'
+}
+
+// The cell without the blanks and tabs at its start.
+fn without_front(cell: &[u8]) -> &[u8]
+    ensures { result.now ≡ Numbers.without_front cell.now }
+{
+    for (i, b) in cell.iter().enumerate() {
+        if !is_blank(*b) {
+            return &cell[i..];
+        }
+    }
+    &cell[cell.len()..]
+}
+
+// The cell without the blanks and tabs at its end.
+fn without_back(cell: &[u8]) -> &[u8]
+    ensures { result.now ≡ take (length cell.now - suffix_len Numbers.is_blank cell.now) cell.now }
+{
+    let mut end = cell.len();
+    while end > 0 && is_blank(cell[end - 1]) {
+        end -= 1;
+    }
+    &cell[..end]
+}
+
+/// The cell without the blanks and tabs round it.
+pub(crate) fn trimmed(cell: &[u8]) -> &[u8]
+    ensures { result.now ≡ Numbers.trimmed cell.now }
+{
+    without_back(without_front(cell))
+}
+
+// What stands before the first such byte, and what stands behind it.
+fn cut_at(bytes: &[u8], mark: u8) -> Option<(&[u8], &[u8])>
+    ensures some { IfSome result (λ p. bytes.now ≡ p.0.now ++ mark ∷ p.1.now) }
+    ensures first { IfSome result (λ p. All (λ b. b ≢ mark) p.0.now) }
+    ensures none { IfNone result (All (λ b. b ≢ mark) bytes.now) }
+{
+    for (i, b) in bytes.iter().enumerate() {
+        if *b == mark {
+            return Some((&bytes[..i], &bytes[i + 1..]));
+        }
+    }
+    None
+}
+
+// Whether there are only digits, one or more.
+fn are_digits(digits: &[u8]) -> bool
+    ensures { result ≡ Numbers.are_digits digits.now }
+{
+    for b in digits {
+        if !b.is_ascii_digit() {
+            return false;
+        }
+    }
+    !digits.is_empty()
+}
+
+// Whether there are only zeros.
+fn are_zeros(digits: &[u8]) -> bool
+    ensures { result ≡ list_all (λ b. b == 48) digits.now }
+{
+    for b in digits {
+        if *b != b'0' {
+            return false;
+        }
+    }
+    true
+}
+
+// The number with one more digit, or the first past the bound.
+fn with_digit(value: u64, digit: u8) -> u64
+    requires { value ≤ 1000000000000001 }
+    ensures { result ≡ capped (with_digit value digit) }
+{
+    (value * 10 + u64::from(digit.saturating_sub(b'0'))).min(BOUND + 1)
+}
+
+// The number that digits write, or the first past the bound.
+fn with_whole(digits: &[u8]) -> u64
+    ensures { result ≡ with_more 0 digits.now }
+{
+    let mut value = 0u64;
+    for digit in digits {
+        value = with_digit(value, *digit);
+    }
+    value
+}
+
+// The decimal at this place, a zero where none is written.
+fn decimal_at(decimals: &[u8], place: usize) -> u8
+    ensures { result ≡ slice_index_or decimals.now place 48 }
+{
+    match decimals.get(place) {
+        Some(digit) => *digit,
+        None => b'0',
+    }
+}
+
+// The number with as many decimals as the scale has, or the first past the bound.
+fn with_decimals(whole: u64, scale: u8, decimals: &[u8]) -> u64
+    requires { whole ≤ 1000000000000001 }
+    ensures { result ≡ with_more whole (Numbers.decimals_to scale decimals.now) }
+{
+    let mut value = whole;
+    for place in 0..usize::from(scale) {
+        value = with_digit(value, decimal_at(decimals, place));
+    }
+    value
+}
+
+// The decimals past the scale.
+fn past_scale(scale: u8, decimals: &[u8]) -> &[u8]
+    ensures { result.now ≡ drop scale decimals.now }
+{
+    let kept = usize::from(scale).min(decimals.len());
+    &decimals[kept..]
+}
+
+// The number, where it is within the bound.
+fn within_bound(value: u64) -> Option<u64>
+    ensures value { result ≡ Numbers.within_bound value }
+    ensures below { ForSome result (λ n. n ≤ 1000000000000000) }
+{
+    if value <= BOUND { Some(value) } else { None }
+}
+
+// The units of a number without decimals.
+fn whole_units(scale: u8, whole: &[u8]) -> Option<u64>
+    ensures units { result ≡ Numbers.units_of scale (whole.now ∷ []) }
+    ensures below { ForSome result (λ n. n ≤ 1000000000000000) }
+{
+    if !are_digits(whole) {
+        return None;
+    }
+    within_bound(with_decimals(with_whole(whole), scale, &[]))
+}
+
+// The units of a number with decimals.
+fn decimal_units(scale: u8, whole: &[u8], decimals: &[u8]) -> Option<u64>
+    ensures units { result ≡ Numbers.units_of scale (whole.now ∷ decimals.now ∷ []) }
+    ensures below { ForSome result (λ n. n ≤ 1000000000000000) }
+{
+    if !are_digits(whole) || !are_digits(decimals) || !are_zeros(past_scale(scale, decimals)) {
+        return None;
+    }
+    within_bound(with_decimals(with_whole(whole), scale, decimals))
+}
+
+// The units without a sign before them.
+fn unsigned(scale: u8, digits: &[u8]) -> Option<u64>
+    ensures units { result ≡ Numbers.unsigned scale digits.now }
+    ensures below { ForSome result (λ n. n ≤ 1000000000000000) }
+{
+    match cut_at(digits, b'.') {
+        None => whole_units(scale, digits),
+        Some((whole, decimals)) => match cut_at(decimals, b'.') {
+            None => decimal_units(scale, whole, decimals),
+            Some(_) => None,
+        },
+    }
+}
+
+// A number of units as the value of a cell.
+fn as_value(units: Option<u64>) -> Option<i64>
+    requires { ForSome units (λ n. n ≤ 1000000000000000) }
+    ensures { result ≡ option_map pos units }
+{
+    match units {
+        Some(units) => Some(units as i64),
+        None => None,
+    }
+}
+
+// A number of units below 0 as the value of a cell.
+fn as_negative(units: Option<u64>) -> Option<i64>
+    requires { ForSome units (λ n. n ≤ 1000000000000000) }
+    ensures { result ≡ option_map (λ n. neg_ℤ (pos n)) units }
+{
+    match units {
+        Some(units) => Some(-(units as i64)),
+        None => None,
+    }
+}
+
+// The units that a trimmed cell writes.
+fn signed(scale: u8, cell: &[u8]) -> Option<i64>
+    ensures { result ≡ Numbers.signed scale cell.now }
+{
+    match cell.first() {
+        None => None,
+        Some(b'+') => as_value(unsigned(scale, &cell[1..])),
+        Some(b'-') => as_negative(unsigned(scale, &cell[1..])),
+        Some(_) => as_value(unsigned(scale, cell)),
+    }
+}
+
+/// The units of this scale that a cell writes, None where it writes no such number.
+pub(crate) fn number_of(scale: u8, cell: &[u8]) -> Option<i64>
+    ensures { result ≡ Numbers.number_of scale cell.now }
+{
+    signed(scale, trimmed(cell))
+}

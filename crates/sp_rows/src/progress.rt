@@ -1,0 +1,119 @@
+// What is kept from row to row, but for the places of the columns.
+ghost use Rattle.std.specs.Prelude.{◌≡◌, ◌+◌, ◌<◌, ◌^◌, Some, None, IfOk, IfErr, IfSome, OnOk, OnErr, option_map};
+ghost use Rattle.csv.specs.Records.{fields_of};
+ghost use Rattle.sp_rows.specs.Rows as spec;
+ghost use Rattle.sp_rows.specs.Shapes.{column_of};
+ghost use Rattle.sp_rows.specs.Progress.{reading, ErrorIs};
+
+use crate::columns::{Placed, time_column};
+use crate::content::time_in;
+use crate::fault::{RowError, RowFault, RowKind};
+use crate::texts::Texts;
+use crate::values::{first_fault, number_values};
+use csv::ByteRecord;
+use sp_plan::{Event, Listed, Memory, Plan};
+use std::alloc::Global;
+
+/// How many rows were read, the last time, and the texts by their numbers.
+#[derive(Drop)]
+pub(crate) struct Progress {
+    pub(crate) read: u32,
+    last: i64,
+    texts: Texts,
+}
+
+// A place as a column's number from 1. There is none past the last `u32`.
+fn column_number(place: usize) -> Option<u32>
+    ensures { IfSome result (λ number. number ≡ place + 1) }
+{
+    match u32::try_from(place) {
+        Ok(number) => number.checked_add(1),
+        Err(_) => None,
+    }
+}
+
+impl Progress {
+    /// No row was read; the texts of the plan have the first numbers.
+    pub(crate) fn new(alloc: Global, plan: &Plan) -> Result<Progress, Memory>
+        ensures { IfOk result (λ progress. reading None progress ≡ spec.start plan.now) }
+    {
+        Ok(Progress {
+            read: 0,
+            last: 0,
+            texts: Texts::of(alloc, plan.texts.as_slice())?,
+        })
+    }
+
+    /// The fault of the next row, with its column's number from 1 or 0.
+    pub(crate) fn refusal(&self, kind: RowKind, column: u32) -> RowFault
+        requires { self.now.read + 1 < 2 ^ 32 }
+        ensures { spec.refused result ≡ spec.refused_at (reading None self.now) kind column }
+    {
+        RowFault {
+            kind,
+            row: self.read + 1,
+            column,
+        }
+    }
+
+    // The fault of the next row in the cell at this place from 0.
+    fn refusal_at(&self, kind: RowKind, place: usize) -> RowError
+        requires { self.now.read + 1 < 2 ^ 32 }
+        ensures { ErrorIs (spec.refused_at (reading None self.now) kind (place + 1)) result }
+    {
+        match column_number(place) {
+            Some(column) => RowError::Fault(self.refusal(kind, column)),
+            None => RowError::Memory,
+        }
+    }
+
+    // The fault of a row whose time is below the last one.
+    fn back_in_time(&self, time: i64, column: &Option<Placed>) -> RowError
+        requires { self.now.read + 1 < 2 ^ 32 }
+        ensures { ErrorIs (spec.refused_at (reading None self.now) (RowKind.BackInTime self.now.last time) (spec.place_or_none (option_map column_of column.now))) result }
+    {
+        let kind = RowKind::BackInTime {
+            was: self.last,
+            now: time,
+        };
+        match column {
+            Some(column) => self.refusal_at(kind, column.place),
+            None => RowError::Fault(self.refusal(kind, 0)),
+        }
+    }
+
+    /// The event of the next row, which stands behind a header with these places.
+    pub(crate) fn event(
+        &mut self,
+        alloc: Global,
+        cells: &ByteRecord,
+        plan: &Plan,
+        places: &[usize],
+    ) -> Result<Event, RowError>
+        requires { self.old.read + 1 < 2 ^ 32 }
+        ensures event { IfOk result (λ e. spec.event_row plan.now (reading (Some places.now) self.old) (fields_of cells.now) places.now ≡ spec.event e (reading (Some places.now) self.new)) }
+        ensures read { OnOk result (self.new.read ≡ self.old.read + 1) }
+        ensures error { IfErr result (λ e. ErrorIs (spec.event_row plan.now (reading (Some places.now) self.old) (fields_of cells.now) places.now) e) }
+        ensures err { OnErr result (self.new ≡ self.old) }
+    {
+        if let Some((kind, place)) = first_fault(cells, plan, places) {
+            return Err(self.refusal_at(kind, place));
+        }
+        let column = time_column(plan, places);
+        let time = time_in(cells, &column);
+        if time < self.last {
+            return Err(self.back_in_time(time, &column));
+        }
+        match number_values(alloc, cells, plan, places, &mut self.texts) {
+            Err(_) => Err(RowError::Memory),
+            Ok(values) => {
+                self.read += 1;
+                self.last = time;
+                Ok(Event {
+                    time,
+                    values: Listed::of(values),
+                })
+            }
+        }
+    }
+}

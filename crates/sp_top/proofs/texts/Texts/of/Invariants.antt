@@ -1,6 +1,0 @@
-use Rattle.std.proofs.Common.{◌≡◌, [], take, fold}
-use Rattle.sp_top.specs.Rows.{with_text}
-use Rattle.sp_top.proofs.texts.Texts.of.Given as goal
-
-abbrev pub invariant-loop-text : goal.invariant-loop-text
-invariant-loop-text l = l.known ≡ fold with_text [] (take l.text-index l.texts)
