@@ -3,6 +3,7 @@ ghost use Rattle.std.specs.Prelude.{◌≡◌, false};
 ghost use Rattle.sp_io.specs.MemorySource.{source_state};
 
 use sp_io::{MemSink, MemSource};
+use sp_plan::{Event, Listed, Value};
 use sp_top::spectre;
 use std::alloc::{AllocError, Global};
 use std::process::Abort;
@@ -549,5 +550,18 @@ fn pieces_and_faults(rt: HostRuntime) -> Result<(), Fail> {
         let source = MemSource::new(ABAB.as_bytes().to_vec(alloc)?, piece, fail_after);
         expect_from(&rt, alloc, shows, &words, source, fails, want)?;
     }
+    Ok(())
+}
+
+#[test]
+fn an_event_is_copied(rt: HostRuntime) -> Result<(), Fail> {
+    let alloc = rt.alloc();
+    let event = Event {
+        time: 7,
+        values: Listed::of(vec![in alloc; Value::Number(-7), Value::Symbol(1)]?),
+    };
+    let copy = event.copy(alloc)?;
+    assert_eq!(rt; copy.time, 7);
+    assert!(rt; copy.values.as_slice() == [Value::Number(-7), Value::Symbol(1)].as_slice());
     Ok(())
 }
