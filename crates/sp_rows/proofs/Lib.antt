@@ -11,3 +11,4 @@ pub mod Walks
 pub mod PlacedColumns
 pub mod FirstPlace
 pub mod RowValues
+pub mod PlainRows
