@@ -12,3 +12,4 @@ pub mod PlacedColumns
 pub mod FirstPlace
 pub mod RowValues
 pub mod PlainRows
+pub mod CutRows

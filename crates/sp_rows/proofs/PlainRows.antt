@@ -1,12 +1,12 @@
 -- Rows without a quote and without a line's end: their cells stand between the commas.
-use Rattle.std.proofs.Common.{◌≡◌, ◌≢◌, inl, inr, ℕ, true, false, eqb, List, [], ◌∷◌, ◌++◌, Some, None, refl, ◌∙◌, ap, sym, append_assoc, append-nil, ◌<◌, length, take, eqb-true, true≢false, arith}
-use Rattle.std.specs.Prelude.{Bool, Option, if◌then◌else◌, ◌||◌, ◌&&◌}
-use Rattle.std.specs.List.{slice_split, onto_first}
+use Rattle.std.proofs.Common.{◌≡◌, ◌≢◌, inl, inr, ℕ, true, false, eqb, List, [], ◌∷◌, ◌++◌, Some, refl, ◌∙◌, ap, sym, append_assoc, append-nil, ◌<◌, length, take, eqb-true, true≢false, arith}
+use Rattle.std.specs.Prelude.{if◌then◌else◌, ◌||◌, ◌&&◌}
+use Rattle.std.specs.List.{onto_first}
 use Rattle.std.proofs.lemmas.Bool.{cases_Bool, or_parts, and_parts}
 use Rattle.std.proofs.lemmas.List.Elements.{All-head, All-tail}
 use Rattle.std.proofs.lemmas.List.Splits.{slice_split-cons_yes, slice_split-cons_no, length-slice_split}
 use Rattle.std.proofs.lemmas.Slice.Eq.{bytes_eq-Decides}
-use Rattle.csv.specs.Machine.{next_record, Read, step, is_end, fields_after, field_after}
+use Rattle.csv.specs.Machine.{next_record, step, is_end, fields_after, field_after}
 use Rattle.csv.specs.Reading.{default_config, strip_bom, is_bom}
 use Rattle.csv.specs.declared.parser.State.{State}
 use Rattle.csv.specs.declared.parser.State.TheVariants as st
@@ -157,3 +157,8 @@ plain_cells bytes some none other =
     ap (λ (l : List ℕ). after_first (next_record default_config st.StartRecord [] [] l)) (unmarked bytes other)
     ∙ ap after_first (from_record bytes some none)
     ∙ no_more (cut bytes)
+
+-- the cells of a row without quotes and line's ends behind its byte order marks
+pub plain_row : (row rest : List ℕ) → rest ≡ without_marks row → rest ≢ [] → HasNoBreak rest → is_mark (take 3 rest) ≡ false → one (cut rest) ≡ row_cells row
+plain_row row rest is some none other =
+    sym (plain_cells rest some none other) ∙ ap (λ (l : List ℕ). after_first (next_record default_config st.StartRecord [] [] (strip_bom l))) is

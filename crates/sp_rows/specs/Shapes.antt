@@ -1,8 +1,10 @@
 -- What clauses see of the values between the steps.
-use Rattle.std.specs.Prelude.{◌≡◌, ℕ, List, find, is_none, Some, None}
+use Rattle.std.specs.Prelude.{◌≡◌, ℕ, List, find, is_none, Some, None, map}
 use Rattle.std.specs.List.{filter_map}
 use Rattle.std.specs.Option.{option_map}
 use Rattle.csv.specs.Records.{fields_of}
+use Rattle.sp_rows.specs.declared.split.Fields.{Fields}
+use Rattle.sp_rows.specs.declared.split.Fields.TheVariants as given
 use Rattle.sp_rows.specs.declared.cells.Cells.{Cells}
 use Rattle.sp_rows.specs.declared.cells.Cells.TheVariants as read
 use Rattle.sp_plan.specs.declared.plan.Column.{Column}
@@ -14,10 +16,15 @@ use Rattle.sp_rows.specs.declared.content.Content.TheVariants as content
 use Rattle.sp_rows.specs.Cells.{RowCells, blank, one, several}
 use Rattle.sp_rows.specs.Rows.{ColumnAt, Cell, number, text, fault, place_of}
 
+-- the cells of a row
+abbrev pub fields_in : Fields → List (List ℕ)
+fields_in (given.Cut cells) = map (λ cell. cell.now) cells.items
+fields_in (given.Read record_read) = fields_of record_read
+
 -- what a row reads as
 abbrev pub shape_of : Cells → RowCells
 shape_of read.Blank = blank
-shape_of (read.One cells) = one (fields_of cells)
+shape_of (read.One cells) = one (fields_in cells)
 shape_of read.Several = several
 
 -- what the header gives: the place of each column, or the name of the first column that it lacks

@@ -1,23 +1,22 @@
 // The cells of a row, as the crate csv reads them.
-ghost use Rattle.std.specs.Prelude.{◌≡◌, ◌<◌, ◌≤◌, true, take, drop, length, IfOk, IfErr};
-ghost use Rattle.std.specs.List.{slice_get};
-ghost use Rattle.std.specs.Option.{option_map};
-ghost use Rattle.csv.specs.Records.{fields_of};
+ghost use Rattle.std.specs.Prelude.{◌≡◌, ◌<◌, ◌≤◌, true, false, take, drop, length, IfOk, IfErr};
 ghost use Rattle.csv.specs.Reading.{stops_reader, error_kind};
 ghost use Rattle.sp_rows.specs.Cells as rows;
 ghost use Rattle.sp_rows.specs.Shapes.{shape_of};
 
+use crate::split::{Fields, cut_row, is_plain};
 use csv::{ByteRecord, ReaderBuilder};
-use std::alloc::Global;
+use sp_plan::Memory;
+use std::alloc::{AllocError, Global};
 
 // The bytes of a byte order mark.
 const MARK: &[u8] = b"\xef\xbb\xbf";
 
 /// What a row of bytes reads as.
 #[derive(Drop)]
-pub(crate) enum Cells {
+pub(crate) enum Cells<'a> {
     Blank,
-    One(ByteRecord),
+    One(Fields<'a>),
     Several,
 }
 
@@ -40,7 +39,8 @@ fn behind_mark(bytes: &[u8]) -> &[u8]
 
 // The bytes without the byte order marks at their start.
 fn without_marks(row: &[u8]) -> &[u8]
-    ensures { result.now ≡ rows.without_marks row.now }
+    ensures rest { result.now ≡ rows.without_marks row.now }
+    ensures unmarked { rows.is_mark (take 3 result.now) ≡ false }
 {
     let mut rest = row;
     while is_marked(rest) {
@@ -49,9 +49,9 @@ fn without_marks(row: &[u8]) -> &[u8]
     rest
 }
 
-/// The cells of a row. Of the errors of the reader only want of memory and a fault of the source come,
+// The cells of a row, by the crate csv. Of the errors of the reader only want of memory and a fault of the source come,
 /// and a row in memory has no faults.
-pub(crate) fn read_cells(alloc: Global, row: &[u8]) -> Result<Cells, csv::Error>
+fn read_cells<'a>(alloc: Global, row: &[u8]) -> Result<Cells<'a>, csv::Error>
     ensures cells { IfOk result (λ cells. shape_of cells ≡ rows.row_cells row.now) }
     ensures refused { IfErr result (λ e. stops_reader (error_kind e) ≡ true) }
 {
@@ -70,13 +70,20 @@ pub(crate) fn read_cells(alloc: Global, row: &[u8]) -> Result<Cells, csv::Error>
     if reader.read_byte_record(&mut second)? {
         Ok(Cells::Several)
     } else {
-        Ok(Cells::One(first))
+        Ok(Cells::One(Fields::Read(first)))
     }
 }
 
-/// The cell at this place from 0.
-pub(crate) fn cell_at(cells: &ByteRecord, place: usize) -> Option<&[u8]>
-    ensures { option_map (λ cell. cell.now) result ≡ slice_get (fields_of cells.now) place }
+/// The cells of a row: cut at its commas where that gives what the crate csv reads.
+pub(crate) fn read_row(alloc: Global, row: &[u8]) -> Result<Cells<'_>, Memory>
+    ensures { IfOk result (λ cells. shape_of cells ≡ rows.row_cells row.now) }
 {
-    cells.get(place)
+    let rest = without_marks(row);
+    if is_plain(rest) {
+        return Ok(Cells::One(Fields::Cut(cut_row(alloc, rest)?)));
+    }
+    match read_cells(alloc, row) {
+        Ok(cells) => Ok(cells),
+        Err(_) => Err(AllocError),
+    }
 }

@@ -1,15 +1,13 @@
 // What a cell gives by the kind of its column.
 ghost use Rattle.std.specs.Prelude.{◌≡◌, option_map};
 ghost use Rattle.std.specs.Str.{is_utf8};
-ghost use Rattle.csv.specs.Records.{fields_of};
 ghost use Rattle.sp_rows.specs.Rows as spec;
-ghost use Rattle.sp_rows.specs.Shapes.{column_of, cell_shape};
+ghost use Rattle.sp_rows.specs.Shapes.{column_of, cell_shape, fields_in};
 
-use crate::cells::cell_at;
 use crate::columns::Placed;
 use crate::fault::RowKind;
 use crate::numbers::number_of;
-use csv::ByteRecord;
+use crate::split::{Fields, cell_at};
 use sp_plan::Kind;
 
 /// What a cell gives: a number in units of its column, a text, or the kind of its fault.
@@ -66,8 +64,8 @@ fn content_of(is_time: bool, kind: Kind, cell: &[u8]) -> Content<'_>
 }
 
 /// What a row gives in a column; further cells of the row are ignored.
-pub(crate) fn content_in<'a>(cells: &'a ByteRecord, column: &Placed) -> Content<'a>
-    ensures { cell_shape result ≡ spec.cell_in (fields_of cells.now) (column_of column.now) }
+pub(crate) fn content_in<'a>(cells: &'a Fields<'_>, column: &Placed) -> Content<'a>
+    ensures { cell_shape result ≡ spec.cell_in (fields_in cells.now) (column_of column.now) }
 {
     match cell_at(cells, column.place) {
         Some(cell) => content_of(column.is_time, column.kind, cell),
@@ -76,8 +74,8 @@ pub(crate) fn content_in<'a>(cells: &'a ByteRecord, column: &Placed) -> Content<
 }
 
 /// The time in this column; 0 where there is none.
-pub(crate) fn time_in(cells: &ByteRecord, column: &Option<Placed>) -> i64
-    ensures { result ≡ spec.time_in (fields_of cells.now) (option_map column_of column.now) }
+pub(crate) fn time_in(cells: &Fields<'_>, column: &Option<Placed>) -> i64
+    ensures { result ≡ spec.time_in (fields_in cells.now) (option_map column_of column.now) }
 {
     match column {
         Some(column) => match content_in(cells, column) {

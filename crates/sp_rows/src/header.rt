@@ -1,14 +1,12 @@
 // The header: the place of each column of the plan in a row.
 ghost use Rattle.std.specs.Prelude.{◌≡◌, ◌<◌, [], length, slice_index_or, IfOk};
 ghost use Rattle.std.specs.Str.{bytes_eq};
-ghost use Rattle.csv.specs.Records.{fields_of};
 ghost use Rattle.sp_rows.specs.Rows as spec;
 ghost use Rattle.sp_rows.specs.Numbers.{trimmed as trimmed_cell};
-ghost use Rattle.sp_rows.specs.Shapes.{HeaderIs};
+ghost use Rattle.sp_rows.specs.Shapes.{HeaderIs, fields_in};
 
-use crate::cells::cell_at;
 use crate::numbers::trimmed;
-use csv::ByteRecord;
+use crate::split::{Fields, cell_at};
 use sp_plan::{Column, Memory, Text};
 use std::alloc::Global;
 
@@ -22,9 +20,9 @@ pub(crate) enum Header {
 }
 
 // Whether the cell at this place has the name, but for blanks and tabs round it.
-fn is_named(cells: &ByteRecord, place: usize, name: &[u8]) -> bool
-    requires { place < length (fields_of cells.now) }
-    ensures { result ≡ bytes_eq (trimmed_cell (slice_index_or (fields_of cells.now) place [])) name.now }
+fn is_named(cells: &Fields<'_>, place: usize, name: &[u8]) -> bool
+    requires { place < length (fields_in cells.now) }
+    ensures { result ≡ bytes_eq (trimmed_cell (slice_index_or (fields_in cells.now) place [])) name.now }
 {
     match cell_at(cells, place) {
         Some(cell) => trimmed(cell) == name,
@@ -33,8 +31,8 @@ fn is_named(cells: &ByteRecord, place: usize, name: &[u8]) -> bool
 }
 
 // The place of a column: the first cell with its name.
-fn place_of(cells: &ByteRecord, column: &Column) -> Option<usize>
-    ensures { result ≡ spec.place_of (fields_of cells.now) column.now }
+fn place_of(cells: &Fields<'_>, column: &Column) -> Option<usize>
+    ensures { result ≡ spec.place_of (fields_in cells.now) column.now }
 {
     let name = column.name.as_str().as_bytes();
     for place in 0..cells.len() {
@@ -55,10 +53,10 @@ fn copy_of(alloc: Global, text: &Text) -> Result<Text, Memory>
 /// The places of these columns in a row with this header.
 pub(crate) fn read_header(
     alloc: Global,
-    cells: &ByteRecord,
+    cells: &Fields<'_>,
     columns: &[Column],
 ) -> Result<Header, Memory>
-    ensures { IfOk result (λ header. HeaderIs (fields_of cells.now) columns.now header) }
+    ensures { IfOk result (λ header. HeaderIs (fields_in cells.now) columns.now header) }
 {
     let mut places = Vec::with_capacity(alloc, columns.len())?;
     for column in columns {

@@ -10,6 +10,7 @@ mod header;
 mod numbers;
 mod progress;
 mod rows;
+mod split;
 mod texts;
 mod values;
 

@@ -45,8 +45,8 @@ pub(crate) fn trimmed(cell: &[u8]) -> &[u8]
     without_back(without_front(cell))
 }
 
-// What stands before the first such byte, and what stands behind it.
-fn cut_at(bytes: &[u8], mark: u8) -> Option<(&[u8], &[u8])>
+/// What stands before the first such byte, and what stands behind it.
+pub(crate) fn cut_at(bytes: &[u8], mark: u8) -> Option<(&[u8], &[u8])>
     ensures some { IfSome result (λ p. bytes.now ≡ p.0.now ++ mark ∷ p.1.now) }
     ensures first { IfSome result (λ p. All (λ b. b ≢ mark) p.0.now) }
     ensures none { IfNone result (All (λ b. b ≢ mark) bytes.now) }

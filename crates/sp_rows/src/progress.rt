@@ -1,16 +1,15 @@
 // What is kept from row to row, but for the places of the columns.
 ghost use Rattle.std.specs.Prelude.{◌≡◌, ◌+◌, ◌<◌, ◌^◌, Some, None, IfOk, IfErr, IfSome, OnOk, OnErr, option_map};
-ghost use Rattle.csv.specs.Records.{fields_of};
 ghost use Rattle.sp_rows.specs.Rows as spec;
-ghost use Rattle.sp_rows.specs.Shapes.{column_of};
+ghost use Rattle.sp_rows.specs.Shapes.{column_of, fields_in};
 ghost use Rattle.sp_rows.specs.Progress.{reading, ErrorIs};
 
 use crate::columns::{Placed, time_column};
 use crate::content::time_in;
 use crate::fault::{RowError, RowFault, RowKind};
+use crate::split::Fields;
 use crate::texts::Texts;
 use crate::values::{first_fault, number_values};
-use csv::ByteRecord;
 use sp_plan::{Event, Listed, Memory, Plan};
 use std::alloc::Global;
 
@@ -86,14 +85,14 @@ impl Progress {
     pub(crate) fn event(
         &mut self,
         alloc: Global,
-        cells: &ByteRecord,
+        cells: &Fields<'_>,
         plan: &Plan,
         places: &[usize],
     ) -> Result<Event, RowError>
         requires { self.old.read + 1 < 2 ^ 32 }
-        ensures event { IfOk result (λ e. spec.event_row plan.now (reading (Some places.now) self.old) (fields_of cells.now) places.now ≡ spec.event e (reading (Some places.now) self.new)) }
+        ensures event { IfOk result (λ e. spec.event_row plan.now (reading (Some places.now) self.old) (fields_in cells.now) places.now ≡ spec.event e (reading (Some places.now) self.new)) }
         ensures read { OnOk result (self.new.read ≡ self.old.read + 1) }
-        ensures error { IfErr result (λ e. ErrorIs (spec.event_row plan.now (reading (Some places.now) self.old) (fields_of cells.now) places.now) e) }
+        ensures error { IfErr result (λ e. ErrorIs (spec.event_row plan.now (reading (Some places.now) self.old) (fields_in cells.now) places.now) e) }
         ensures err { OnErr result (self.new ≡ self.old) }
     {
         if let Some((kind, place)) = first_fault(cells, plan, places) {

@@ -1,13 +1,13 @@
 ghost use Rattle.std.specs.Prelude.{◌≡◌, ◌<◌, ◌+◌, if◌then◌else◌, is_ok, None, IsSome, IfOk, IfErr, OnOk, OnErr};
 ghost use Rattle.std.specs.Arc.{arc_value};
-ghost use Rattle.csv.specs.Records.{fields_of};
 ghost use Rattle.sp_rows.specs.Rows as spec;
+ghost use Rattle.sp_rows.specs.Shapes.{fields_in};
 
-use crate::cells::{Cells, read_cells};
+use crate::cells::{Cells, read_row};
 use crate::fault::{RowError, RowFault, RowKind};
 use crate::header::{Header, read_header};
 use crate::progress::Progress;
-use csv::ByteRecord;
+use crate::split::Fields;
 use sp_plan::{Event, Memory, Plan};
 use std::alloc::Global;
 use std::sync::Arc;
@@ -46,7 +46,7 @@ impl Rows {
         ensures read { (read_of self.new).read ≡ (read_of self.old).read + (if is_ok result then 1 else 0) }
         ensures answers { Answers (spec.row_result (plan_of self.old) (read_of self.old) row.now) (read_of self.old) (read_of self.new) result }
     {
-        match read_cells(alloc, row) {
+        match read_row(alloc, row) {
             Err(_) => Err(RowError::Memory),
             Ok(Cells::Blank) => {
                 self.progress.read += 1;
@@ -74,11 +74,11 @@ impl Rows {
     }
 
     // The event of a row with these cells, or nothing where it is the header.
-    fn row_of(&mut self, alloc: Global, cells: &ByteRecord) -> Result<Option<Event>, RowError>
+    fn row_of(&mut self, alloc: Global, cells: &Fields<'_>) -> Result<Option<Event>, RowError>
         requires { (read_of self.old).read < 2097153 }
         ensures plan { plan_of self.new ≡ plan_of self.old }
         ensures read { (read_of self.new).read ≡ (read_of self.old).read + (if is_ok result then 1 else 0) }
-        ensures answers { Answers (spec.row_of_cells (plan_of self.old) (read_of self.old) (fields_of cells.now) (read_of self.old).places) (read_of self.old) (read_of self.new) result }
+        ensures answers { Answers (spec.row_of_cells (plan_of self.old) (read_of self.old) (fields_in cells.now) (read_of self.old).places) (read_of self.old) (read_of self.new) result }
     {
         if let Some(places) = &self.places {
             return match self.progress.event(alloc, cells, &self.plan, places) {
@@ -90,11 +90,11 @@ impl Rows {
     }
 
     // Takes a row with these cells as the header.
-    fn header(&mut self, alloc: Global, cells: &ByteRecord) -> Result<Option<Event>, RowError>
+    fn header(&mut self, alloc: Global, cells: &Fields<'_>) -> Result<Option<Event>, RowError>
         requires { (read_of self.old).read < 2097153 }
         ensures plan { plan_of self.new ≡ plan_of self.old }
         ensures read { (read_of self.new).read ≡ (read_of self.old).read + (if is_ok result then 1 else 0) }
-        ensures answers { Answers (spec.header_row (plan_of self.old) (read_of self.old) (fields_of cells.now)) (read_of self.old) (read_of self.new) result }
+        ensures answers { Answers (spec.header_row (plan_of self.old) (read_of self.old) (fields_in cells.now)) (read_of self.old) (read_of self.new) result }
     {
         match read_header(alloc, cells, self.plan.schema.columns.as_slice()) {
             Err(_) => Err(RowError::Memory),

@@ -1,20 +1,19 @@
 // The values of a row, and its first fault.
 ghost use Rattle.std.specs.Prelude.{◌≡◌, ◌+◌, length, take, option_map, IfOk, OnOk, OnErr};
-ghost use Rattle.csv.specs.Records.{fields_of};
 ghost use Rattle.sp_rows.specs.Rows as spec;
-ghost use Rattle.sp_rows.specs.Shapes.{column_of, cell_shape};
+ghost use Rattle.sp_rows.specs.Shapes.{column_of, cell_shape, fields_in};
 
 use crate::columns::{Placed, column_at};
 use crate::content::{Content, content_in};
 use crate::fault::RowKind;
+use crate::split::Fields;
 use crate::texts::Texts;
-use csv::ByteRecord;
 use sp_plan::{Memory, Plan, Value};
 use std::alloc::Global;
 
 // The kind of a row's fault in a column, if it has one there.
-fn fault_in(cells: &ByteRecord, column: &Placed) -> Option<RowKind>
-    ensures { option_map (λ kind. (kind, column.now.place + 1)) result ≡ spec.fault_at (fields_of cells.now) (column_of column.now) }
+fn fault_in(cells: &Fields<'_>, column: &Placed) -> Option<RowKind>
+    ensures { option_map (λ kind. (kind, column.now.place + 1)) result ≡ spec.fault_at (fields_in cells.now) (column_of column.now) }
 {
     match content_in(cells, column) {
         Content::Fault(kind) => Some(kind),
@@ -24,11 +23,11 @@ fn fault_in(cells: &ByteRecord, column: &Placed) -> Option<RowKind>
 
 /// The first fault of a row, column by column in the order of the plan, with the place of its cell from 0.
 pub(crate) fn first_fault(
-    cells: &ByteRecord,
+    cells: &Fields<'_>,
     plan: &Plan,
     places: &[usize],
 ) -> Option<(RowKind, usize)>
-    ensures { option_map (λ found. (found.0, found.1 + 1)) result ≡ spec.first_fault (fields_of cells.now) (spec.columns_at plan.now places.now) }
+    ensures { option_map (λ found. (found.0, found.1 + 1)) result ≡ spec.first_fault (fields_in cells.now) (spec.columns_at plan.now places.now) }
 {
     for number in 0..places.len() {
         match column_at(plan, places, number) {
@@ -67,12 +66,12 @@ fn push_content(
 // The values of a row. Where memory is wanted, new texts may be known.
 fn read_values(
     alloc: Global,
-    cells: &ByteRecord,
+    cells: &Fields<'_>,
     plan: &Plan,
     places: &[usize],
     texts: &mut Texts,
 ) -> Result<Vec<Value>, Memory>
-    ensures values { IfOk result (λ values. (values.items, texts.new) ≡ spec.values_of texts.old (fields_of cells.now) (spec.columns_at plan.now places.now)) }
+    ensures values { IfOk result (λ values. (values.items, texts.new) ≡ spec.values_of texts.old (fields_in cells.now) (spec.columns_at plan.now places.now)) }
     ensures kept { take (length texts.old) texts.new ≡ texts.old }
 {
     let mut values = Vec::with_capacity(alloc, places.len())?;
@@ -89,12 +88,12 @@ fn read_values(
 /// texts are as before.
 pub(crate) fn number_values(
     alloc: Global,
-    cells: &ByteRecord,
+    cells: &Fields<'_>,
     plan: &Plan,
     places: &[usize],
     texts: &mut Texts,
 ) -> Result<Vec<Value>, Memory>
-    ensures values { IfOk result (λ values. (values.items, texts.new) ≡ spec.values_of texts.old (fields_of cells.now) (spec.columns_at plan.now places.now)) }
+    ensures values { IfOk result (λ values. (values.items, texts.new) ≡ spec.values_of texts.old (fields_in cells.now) (spec.columns_at plan.now places.now)) }
     ensures err { OnErr result (texts.new ≡ texts.old) }
 {
     let known = texts.len();

@@ -3,15 +3,15 @@ use Rattle.std.specs.Prelude.{is_none, Option}
 use Rattle.std.specs.Option.{option_map}
 use Rattle.std.specs.List.{slice_get}
 use Rattle.std.proofs.lemmas.Option.{slice_get_read}
-use Rattle.csv.specs.Records.{fields_of}
 use Rattle.sp_plan.specs.declared.plan.Column.{Column}
 use Rattle.sp_rows.specs.Rows.{place_of}
+use Rattle.sp_rows.specs.Shapes.{fields_in}
 use Rattle.sp_rows.proofs.Walks.{find_more, find_here, gives_more}
 use Rattle.sp_rows.proofs.header.read_header.Goals as goal
 
 pub returns-in-None : goal.returns-in-None
 returns-in-None c =
-    let cells = fields_of c.args.cells.now in
+    let cells = fields_in c.args.cells.now in
     let columns = c.args.columns.now in
     let i = c.loop-column.column-index in
     let column = c.column-item.result in
@@ -22,7 +22,7 @@ returns-in-None c =
 
 pub loop-column-preserved : goal.loop-column-preserved
 loop-column-preserved c =
-    let cells = fields_of c.args.cells.now in
+    let cells = fields_in c.args.cells.now in
     let columns = c.args.columns.now in
     let i = c.loop-column.column-index in
     let column = c.column-item.result in

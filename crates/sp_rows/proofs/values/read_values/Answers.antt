@@ -1,8 +1,7 @@
 use Rattle.std.proofs.Common.{◌≡◌, ◌∙◌, ap, sym, None}
 use Rattle.std.specs.List.{slice_get}
-use Rattle.csv.specs.Records.{fields_of}
 use Rattle.sp_rows.specs.Rows.{columns_at, values_of, with_cell}
-use Rattle.sp_rows.specs.Shapes.{column_of}
+use Rattle.sp_rows.specs.Shapes.{fields_in, column_of}
 use Rattle.sp_rows.proofs.Walks.{taken_all}
 use Rattle.sp_rows.proofs.RowValues.{one_more_value, begins_still}
 use Rattle.sp_rows.proofs.PlacedColumns.{places_end}
@@ -12,7 +11,7 @@ pub loop-number-preserved : goal.loop-number-preserved
 loop-number-preserved c =
     let columns = columns_at c.args.plan.now c.args.places.now in
     let column = column_of c.in-Some.column in
-    let cells = fields_of c.args.cells.now in
+    let cells = fields_in c.args.cells.now in
     record {
       values =
           c.in_ok-push_content-in-Some.ensures.value
@@ -25,4 +24,4 @@ pub returns-clause-values : goal.returns-clause-values
 returns-clause-values c =
     let columns = columns_at c.args.plan.now c.args.places.now in
     let past : slice_get columns c.loop-number.number ≡ None = places_end c.args.plan.now c.args.places.now c.loop-number.number c.loop-number-test.false in
-    c.loop-number.invariant.values ∙ ap (values_of c.args.texts.now (fields_of c.args.cells.now)) (taken_all columns c.loop-number.number past)
+    c.loop-number.invariant.values ∙ ap (values_of c.args.texts.now (fields_in c.args.cells.now)) (taken_all columns c.loop-number.number past)
