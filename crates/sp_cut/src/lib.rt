@@ -7,8 +7,6 @@ mod ends;
 mod fault;
 mod laws;
 mod part;
-#[cfg(test)]
-mod tests;
 
 pub use cut::Cutter;
 pub use fault::{CutFault, Memory};

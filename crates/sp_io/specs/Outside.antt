@@ -1,5 +1,10 @@
--- What calls of a source and of a sink do to bytes and to counts of faults.
-use Rattle.std.specs.Prelude.{◌≡◌, ◌⊎◌, ℕ, ◌+◌, ◌^◌, ◌<◌, ◌≤◌, Bool, List, [], ◌++◌, Option, Some, None}
+-- What calls of a source, of a sink and of files do to bytes and to counts of faults.
+use Rattle.std.specs.Prelude.{◌≡◌, ◌⊎◌, ℕ, ◌+◌, ◌^◌, ◌<◌, ◌≤◌, Bool, List, [], ◌++◌, length, find, bytes_eq, Option, Some, None, IsSomeAnd, Result, Ok, Err}
+use Rattle.std.specs.Option.{option_map}
+use Rattle.sp_io.specs.declared.files.Loaded.{Loaded}
+use Rattle.sp_io.specs.declared.files.Loaded.TheVariants.{Bytes, TooLong}
+use Rattle.sp_io.specs.declared.files.LoadFault.{LoadFault}
+use Rattle.sp_io.specs.declared.files.LoadFault.TheVariants.{Failed, Memory}
 
 -- what is left at a source, or what a sink holds, where it is told
 abbrev pub Told : Type 0
@@ -46,3 +51,45 @@ IsUsedUp None = Unit {0}
 -- a count rose; one that stands at the last value of its type counts as risen
 abbrev pub Rose : ℕ → ℕ → Type 0
 Rose old new = (old < new) ⊎ (2 ^ 64 ≤ new + 1)
+
+-- what files hold, where it is told: each one's name and its bytes
+abbrev pub ToldFiles : Type 0
+ToldFiles = Option (List (List ℕ × List ℕ))
+
+-- the bytes of the first file of this name
+abbrev pub first_file : List (List ℕ × List ℕ) → List ℕ → Option (List ℕ)
+first_file files name = option_map (λ file. file.1) (find (λ file. bytes_eq file.0 name) files)
+
+-- where files are told, the first file of this name holds just these bytes
+abbrev pub HoldsFile : ToldFiles → List ℕ → List ℕ → Type 0
+HoldsFile (Some files) name bytes = first_file files name ≡ Some bytes
+HoldsFile None name bytes = Unit {0}
+
+-- where files are told, the first file of this name has more bytes than the limit
+abbrev pub HoldsLonger : ToldFiles → List ℕ → ℕ → Type 0
+HoldsLonger (Some files) name limit = IsSomeAnd (first_file files name) (λ bytes. limit < length bytes)
+HoldsLonger None name limit = Unit {0}
+
+-- this holds of the bytes, where a load gave some
+abbrev pub IfBytes : Result Loaded LoadFault → (List ℕ → Type 0) → Type 0
+IfBytes (Ok (Bytes bytes)) fact = fact bytes.items
+IfBytes (Ok TooLong) fact = Unit {0}
+IfBytes (Err fault) fact = Unit {0}
+
+-- this holds, where a load found a file that is too long
+abbrev pub OnTooLong : Result Loaded LoadFault → Type 0 → Type 0
+OnTooLong (Ok TooLong) fact = fact
+OnTooLong (Ok (Bytes bytes)) fact = Unit {0}
+OnTooLong (Err fault) fact = Unit {0}
+
+-- this holds, where a load failed and it wasn't for want of memory
+abbrev pub OnFault : Result Loaded LoadFault → Type 0 → Type 0
+OnFault (Err Failed) fact = fact
+OnFault (Err Memory) fact = Unit {0}
+OnFault (Ok loaded) fact = Unit {0}
+
+-- this holds, where a load succeeded or there was no memory for it
+abbrev pub OnNoFault : Result Loaded LoadFault → Type 0 → Type 0
+OnNoFault (Err Failed) fact = Unit {0}
+OnNoFault (Err Memory) fact = fact
+OnNoFault (Ok loaded) fact = fact

@@ -1,7 +1,8 @@
-//! The program: the command line's words and the standard streams, given to the top call.
+//! The program: the command line's words, the standard streams and the system's files, given to the top
+//! call.
 #![tactic(auto)]
 
-use sp_io::{Sink, StdSink, StdSource};
+use sp_io::{Sink, StdFiles, StdSink, StdSource};
 use sp_top::spectre;
 use std::alloc::AllocError;
 use std::process::ExitCode;
@@ -28,10 +29,18 @@ fn words(rt: HostRuntime) -> Result<Vec<String>, AllocError> {
 
 fn main(rt: HostRuntime) -> ExitCode {
     let mut input = StdSource::new(rt);
+    let mut files = StdFiles::new(rt);
     let mut out = StdSink::new(rt, false);
     let mut err = StdSink::new(rt, true);
     match words(rt) {
-        Ok(words) => ExitCode::from(spectre(rt.alloc(), &words, &mut input, &mut out, &mut err)),
+        Ok(words) => ExitCode::from(spectre(
+            rt.alloc(),
+            &words,
+            &mut input,
+            &mut files,
+            &mut out,
+            &mut err,
+        )),
         Err(_) => {
             let _ = err.write_all(b"memory\n");
             ExitCode::from(1)

@@ -1,2 +1,3 @@
 mod LastBound
 mod Worked
+mod Products

@@ -4,5 +4,7 @@ pub mod Windows
 pub mod Runs
 pub mod Sequential
 pub mod Lines
-pub mod Narrow
 pub mod Simple
+pub mod Bounds
+pub mod Texts
+pub mod Compiled

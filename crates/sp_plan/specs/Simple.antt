@@ -8,7 +8,6 @@ use Rattle.sp_plan.specs.declared.plan.Length.{Length}
 use Rattle.sp_plan.specs.declared.plan.Length.TheVariants.{Events, Time}
 use Rattle.sp_plan.specs.declared.plan.Opening.{Opening}
 use Rattle.sp_plan.specs.declared.plan.Opening.TheVariants.{EveryEvents, EveryTime, When}
-use Rattle.sp_plan.specs.Narrow.{IsNarrow}
 
 -- a length in events
 abbrev pub IsCounted : Length → Type 0
@@ -29,5 +28,4 @@ pub record IsSimple (q : Plan) : Type 0 where
   pub first : q.select ≡ First
   pub counted : IsCounted q.length
   pub stepped : IsStepped q.opening
-  pub narrow : All (λ name. IsNarrow name.pred) q.names
   pub consumed : All (λ name. name.consumed ≡ true) q.names ⊎ All (λ name. name.consumed ≡ false) q.names

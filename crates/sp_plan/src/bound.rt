@@ -1,8 +1,8 @@
-ghost use Rattle.std.specs.Prelude.{◌≡◌, ℕ, List, []};
+ghost use Rattle.std.specs.Prelude.{◌≡◌, ◌++◌, ◌∷◌, [], IfOk, OnOk, OnErr};
 ghost use Rattle.std.specs.Option.{option_map, option_copied};
 ghost use Rattle.sp_plan.specs.Values.{last_bound};
 
-use crate::Event;
+use crate::{Event, Memory};
 use std::alloc::Global;
 use std::marker::Model;
 
@@ -29,6 +29,27 @@ impl Bound {
         Bound {
             pairs: Vec::new(alloc),
         }
+    }
+
+    /// Binds one event more: a copy of it. Want of memory leaves the value as it was.
+    pub fn bind(&mut self, alloc: Global, name: u8, event: &Event) -> Result<(), Memory>
+        ensures bound { OnOk result (self.new ≡ self.old ++ (name, event.now) ∷ []) }
+        ensures kept { OnErr result (self.new ≡ self.old) }
+    {
+        let event = event.copy(alloc)?;
+        self.pairs.push((name, event))?;
+        Ok(())
+    }
+
+    /// The same events once more.
+    pub fn copy(&self, alloc: Global) -> Result<Bound, Memory>
+        ensures { IfOk result (λ bound. bound ≡ self.now) }
+    {
+        let mut pairs = Vec::with_capacity(alloc, self.pairs.len())?;
+        for (name, event) in &self.pairs {
+            pairs.push((*name, event.copy(alloc)?))?;
+        }
+        Ok(Bound { pairs })
     }
 
     /// The last event bound to the name, None exactly where there is none.

@@ -13,7 +13,7 @@ mod places;
 mod plan;
 
 pub use bound::Bound;
-pub use eval::holds;
+pub use eval::{holds, value};
 pub use event::{Event, Value};
 pub use found::Match;
 pub use listed::{Listed, Text};

@@ -1,7 +1,9 @@
 // Vectors and texts as contracts see them: as lists, with neither capacity nor pointer, so that plain
 // data can be compared with the values of definitions.
-ghost use Rattle.std.specs.Prelude.{◌≡◌, List, ℕ, string_bytes};
+ghost use Rattle.std.specs.Prelude.{◌≡◌, List, ℕ, string_bytes, IfOk};
 
+use crate::Memory;
+use std::alloc::Global;
 use std::marker::Model;
 
 /// A vector that contracts see as the list of its items.
@@ -57,5 +59,14 @@ impl Text {
         ensures { result.now ≡ self.now }
     {
         &self.text
+    }
+
+    /// The same text once more.
+    pub fn copy(&self, alloc: Global) -> Result<Text, Memory>
+        ensures { IfOk result (λ text. text ≡ self.now) }
+    {
+        Ok(Text {
+            text: String::from_str(alloc, &self.text)?,
+        })
     }
 }

@@ -13,3 +13,4 @@ pub mod FirstPlace
 pub mod RowValues
 pub mod PlainRows
 pub mod CutRows
+pub mod SmallEvents

@@ -4,7 +4,7 @@ use Rattle.std.specs.Prelude.{if◌then◌else◌, nat_lt}
 use Rattle.std.specs.List.{list_any, position, position_or_len}
 use Rattle.std.specs.Str.{bytes_eq}
 use Rattle.std.proofs.lemmas.List.{map-append}
-use Rattle.sp_rows.specs.Texts.{symbol_of, with_text}
+use Rattle.sp_plan.specs.Texts.{symbol_of, with_text}
 
 module _ {X : Type 0} (f : X → List ℕ) where
   -- a test finds the same place among the texts

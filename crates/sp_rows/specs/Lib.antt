@@ -1,6 +1,5 @@
 pub mod Cells
 pub mod Numbers
-pub mod Texts
 pub mod Rows
 pub mod Codes
 pub mod Capped

@@ -14,7 +14,7 @@ use Rattle.sp_rows.specs.declared.fault.RowKind.TheVariants.{NoColumn, MissingCe
 use Rattle.sp_rows.specs.declared.fault.RowFault.{RowFault}
 use Rattle.sp_rows.specs.Cells.{RowCells, blank, one, several, row_cells}
 use Rattle.sp_rows.specs.Numbers.{number_of, trimmed}
-use Rattle.sp_rows.specs.Texts.{symbol_of, with_text}
+use Rattle.sp_plan.specs.Texts.{symbol_of, with_text}
 
 -- how far the reading of rows has come: the place in a row of each column of the plan, once the header came; how many rows were read; the last time; the texts by their numbers
 pub record RowsRead : Type 0 where

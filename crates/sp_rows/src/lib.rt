@@ -16,6 +16,3 @@ mod values;
 
 pub use fault::{RowError, RowFault, RowKind};
 pub use rows::Rows;
-
-#[cfg(test)]
-mod tests;

@@ -1,5 +1,5 @@
 ghost use Rattle.std.specs.Prelude.{◌≡◌, [], fold, length, take, IfOk, OnOk};
-ghost use Rattle.sp_rows.specs.Texts.{symbol_of, with_text};
+ghost use Rattle.sp_plan.specs.Texts.{symbol_of, with_text};
 
 use indexmap::IndexSet;
 use sp_plan::{Memory, Text};

@@ -19,7 +19,7 @@ use Rattle.sp_seq.specs.Marked.{IsMarked}
 use Rattle.sp_seq.specs.Kept.{IsKept}
 use Rattle.sp_seq.specs.Sequence.{IsRunOf}
 use Rattle.sp_seq.proofs.Bound.{used_within}
-use Rattle.sp_seq.proofs.Handle.{IsOpen, passes, grows, completes}
+use Rattle.sp_seq.proofs.Handle.{IsOpen, run_push, passes, grows, completes}
 
 -- the numbers rise, and none is past i
 pub record Upto (i : ℕ) (ns : List ℕ) : Type 0 where
@@ -61,9 +61,9 @@ upto_push i ns upto = record {
   below = All-push (λ n. n ≤ i + 1) ns (i + 1) (not_past i ns upto.below) (omega arith);
 }
 
--- the run at hand binds the numbers ns; the matches and the flags are those after the runs matched so far, which used no number past i
-pub record Going (q : Plan) (window : ℕ) (before : Progress) (st : State) (i : ℕ) (ns : List ℕ) (ms : List Match) (flags : List Bool) : Type 0 where
-  pub opened : IsOpen ns st.open_runs
+-- the run at hand is r; the matches and the flags are those after the runs matched so far, which used no number past i
+pub record Going (q : Plan) (window : ℕ) (before : Progress) (st : State) (i : ℕ) (r : Run) (ms : List Match) (flags : List Bool) : Type 0 where
+  pub opened : IsOpen r st.open_runs
   pub kept : IsKept (after_window q window before (matched_runs st)) ms flags
   pub past : All (λ n. n ≤ i) (flat_map (used q) (matched_runs st))
 
@@ -93,52 +93,57 @@ matches_push q window first runs r =
 used_push : (q : Plan) (runs : List Run) (r : Run) → flat_map (used q) (runs ++ r ∷ []) ≡ flat_map (used q) runs ++ used q r
 used_push q runs r = flat_map-append (used q) runs (r ∷ []) ∙ ap (λ (l : List ℕ). flat_map (used q) runs ++ l) (append-nil (used q r))
 
-module _ (q : Plan) (simple : IsSimple q) (window : ℕ) (before : Progress) (st : State) (i : ℕ) (event : Event) (ns : List ℕ) (ms : List Match) (flags : List Bool)
-    (less : length ns < length q.names) (going : Going q window before st i ns ms flags) where
+module _ (q : Plan) (simple : IsSimple q) (window : ℕ) (before : Progress) (st : State) (i : ℕ) (event : Event) (ns : List ℕ) (r : Run) (ms : List Match) (flags : List Bool)
+    (run_is : IsRunOf ns r) (less : length ns < length q.names) (going : Going q window before st i r ms flags) where
   -- the event at place i, with its number
   abbrev x : Numbered
   x = (i + 1, event)
 
+  -- the run that has bound it to the next name
+  abbrev next : Run
+  next = r ++ (record { name = length ns; number = i + 1; event = event }) ∷ []
+
   -- an event that is consumed
-  pub going_skip : Going q window before st (i + 1) ns ms flags
+  pub going_skip : Going q window before st (i + 1) r ms flags
   going_skip = record { opened = going.opened; kept = going.kept; past = not_past i _ going.past }
 
   -- an event that the run at hand doesn't take
-  pub going_pass : fits_name (slice_get q.names (length ns)) [] event ≡ false → Going q window before (handle q st x) (i + 1) ns ms flags
+  pub going_pass : fits_name (slice_get q.names (length ns)) r event ≡ false → Going q window before (handle q st x) (i + 1) r ms flags
   going_pass not_fit =
-      let step = passes q simple x ns less st going.opened not_fit in
+      let step = passes q simple x ns r run_is less st going.opened not_fit in
       record { opened = step.opened; kept = rw step.matched going.kept; past = rw step.matched (not_past i _ going.past) }
 
   -- an event that it takes, while names are left
-  pub going_grow : fits_name (slice_get q.names (length ns)) [] event ≡ true → length ns + 1 < length q.names → Going q window before (handle q st x) (i + 1) (ns ++ (i + 1) ∷ []) ms flags
+  pub going_grow : fits_name (slice_get q.names (length ns)) r event ≡ true → length ns + 1 < length q.names → Going q window before (handle q st x) (i + 1) next ms flags
   going_grow fit more =
-      let step = grows q simple x ns less st going.opened fit more in
+      let step = grows q simple x ns r run_is less st going.opened fit more in
       record { opened = step.opened; kept = rw step.matched going.kept; past = rw step.matched (not_past i _ going.past) }
 
   -- an event that it takes under the last name
-  pub going_match : (m : Match) (flags' : List Bool) → fits_name (slice_get q.names (length ns)) [] event ≡ true → length ns + 1 ≡ length q.names → Upto i ns
-      → ((r : Run) → IsRunOf (ns ++ (i + 1) ∷ []) r → m ≡ match_of q window (length ms + 1, r)) → ((numbers : List ℕ) → IsMarked numbers flags → IsMarked (numbers ++ m.used) flags')
+  pub going_match : (m : Match) (flags' : List Bool) → fits_name (slice_get q.names (length ns)) r event ≡ true → length ns + 1 ≡ length q.names → Upto i ns
+      → ((r' : Run) → IsRunOf (ns ++ (i + 1) ∷ []) r' → m ≡ match_of q window (length ms + 1, r')) → ((numbers : List ℕ) → IsMarked numbers flags → IsMarked (numbers ++ m.used) flags')
       → Going q window before (handle q st x) (i + 1) [] (ms ++ m ∷ []) flags'
   going_match m flags' fit whole upto found mark =
-      let step = completes q simple x ns less st going.opened fit whole in
-      let is = found step.run step.is in
-      let used_is : m.used ≡ used q step.run = ap (λ (o : Match). o.used) is in
+      let step = completes q simple x ns r run_is less st going.opened fit whole in
+      let next_is : IsRunOf (ns ++ (i + 1) ∷ []) next = run_push ns r (i + 1) event run_is in
+      let is = found next next_is in
+      let used_is : m.used ≡ used q next = ap (λ (o : Match). o.used) is in
       let runs = matched_runs st in
-      let all_used : flat_map (used q) (matched_runs (handle q st x)) ≡ flat_map (used q) runs ++ used q step.run = ap (flat_map (used q)) step.matched ∙ used_push q runs step.run in
+      let all_used : flat_map (used q) (matched_runs (handle q st x)) ≡ flat_map (used q) runs ++ used q next = ap (flat_map (used q)) step.matched ∙ used_push q runs next in
       let few : length (ns ++ (i + 1) ∷ []) ≤ length q.names = omega (arith, length_push ns (i + 1)) in
       record {
         opened = subst (λ l. IsOpen [] l) (sym step.opened) refl;
         kept = record {
           matches_are =
               (λ j. going.kept.matches_are j ++ m ∷ [])
-              ∙ ap (λ (o : Match). matches_after q window before.matches runs ++ o ∷ []) (is ∙ ap (λ (l : List Match). match_of q window (length l + 1, step.run)) going.kept.matches_are)
-              ∙ sym (matches_push q window before.matches runs step.run) ∙ ap (matches_after q window before.matches) (sym step.matched);
+              ∙ ap (λ (o : Match). matches_after q window before.matches runs ++ o ∷ []) (is ∙ ap (λ (l : List Match). match_of q window (length l + 1, next)) going.kept.matches_are)
+              ∙ sym (matches_push q window before.matches runs next) ∙ ap (matches_after q window before.matches) (sym step.matched);
           marked = subst (λ (l : List ℕ). IsMarked l flags')
               (append_assoc before.consumed (flat_map (used q) runs) m.used
               ∙ ap (λ (l : List ℕ). before.consumed ++ l) (ap (λ (l : List ℕ). flat_map (used q) runs ++ l) used_is ∙ sym all_used))
               (mark _ going.kept.marked);
         };
         past = subst (All (λ n. n ≤ i + 1)) (sym all_used)
-            (All-append (λ n. n ≤ i + 1) (flat_map (used q) runs) (used q step.run) (not_past i _ going.past)
-            (used_within (λ n. n ≤ i + 1) q step.run (ns ++ (i + 1) ∷ []) simple few step.is (upto_push i ns upto).below));
+            (All-append (λ n. n ≤ i + 1) (flat_map (used q) runs) (used q next) (not_past i _ going.past)
+            (used_within (λ n. n ≤ i + 1) q next (ns ++ (i + 1) ∷ []) simple few next_is (upto_push i ns upto).below));
       }

@@ -1,24 +1,17 @@
 -- How a run of a sequence under FIRST handles an event.
 use Rattle.std.proofs.Common.{◌≡◌, inl, inr, ℕ, zero, suc, ◌+◌, ◌<◌, ◌≤◌, Bool, true, false, not, ◌&&◌, ltb, leb, List, [], ◌∷◌, ◌++◌, length, map, Option, Some, None, refl, sym, ◌∙◌, ap, subst, zero-add, arith}
 use Rattle.std.specs.Prelude.{slice_get, find, if◌then◌else◌}
-use Rattle.std.specs.List.{range_with_len, All, list_any, list_all, last_or, fold}
+use Rattle.std.specs.List.{range_with_len, list_any, list_all, last_or, fold}
 use Rattle.std.proofs.lemmas.Bool.Decides.{nat_tests}
 use Rattle.std.proofs.lemmas.Bool.{cases_lt}
 use Rattle.std.proofs.lemmas.List.{map-append, map-id, length_push}
 use Rattle.std.proofs.lemmas.List.FromFn.{map-range_with_len_more}
-use Rattle.std.proofs.lemmas.List.Elements.{All-head, All-tail}
 use Rattle.sp_plan.specs.declared.event.Event.{Event}
 use Rattle.sp_plan.specs.declared.plan.Plan.{Plan}
-use Rattle.sp_plan.specs.declared.plan.Name.{Name}
 use Rattle.sp_plan.specs.declared.plan.Element.TheVariants.{One}
 use Rattle.sp_plan.specs.declared.plan.Select.{Select}
-use Rattle.sp_plan.specs.declared.plan.Compare.TheVariants.{Equal}
-use Rattle.sp_plan.specs.declared.plan.Expr.{Word, Column}
-use Rattle.sp_plan.specs.declared.plan.Pred.{Pred, Always, Test}
-use Rattle.sp_plan.specs.Values.{holds, BoundEvents}
-use Rattle.sp_plan.specs.Narrow.{IsNarrow}
 use Rattle.sp_plan.specs.Windows.{Numbered}
-use Rattle.sp_plan.specs.Runs.{Run, Pair, Started, State, Handling, is_bound, is_filled, is_plus, again, unbound, wanted, takes, fits_name, is_complete, holds_one, handle_run, started_with, no_runs, may_start, handle, bound_events, matched_runs}
+use Rattle.sp_plan.specs.Runs.{Run, Pair, Started, State, Handling, is_bound, is_filled, is_plus, again, unbound, wanted, takes, fits_name, is_complete, holds_one, handle_run, started_with, no_runs, may_start, handle, matched_runs}
 use Rattle.sp_plan.specs.Simple.{IsSimple}
 use Rattle.sp_seq.specs.Sequence.{IsRunOf}
 use Rattle.sp_seq.proofs.Bound.{names_in}
@@ -72,23 +65,10 @@ wanted_is q r ns simple run more =
     let alone : unbound r (Some (One (length ns))) ≡ length ns ∷ [] = rw own in
     rw (simple.elements, first, alone, none_again 0 (length q.names) (last_or None r))
 
--- a predicate that is evaluated so far doesn't look at bound events
-narrow_holds : (p : Pred) (e : Event) (b : BoundEvents) → IsNarrow p → holds p e b ≡ holds p e []
-narrow_holds Always e b is = refl
-narrow_holds (Test Equal (Column c) (Word s)) e b is = refl
-narrow_holds _ e b is = absurd is
-
--- nor do the predicates of names
-fits_plain : (names : List Name) (r : Run) (e : Event) (i : ℕ) → All (λ name. IsNarrow name.pred) names → fits_name (slice_get names i) r e ≡ fits_name (slice_get names i) [] e
-fits_plain [] r e i all = refl
-fits_plain (name ∷ names) r e zero all = narrow_holds name.pred e (bound_events r) (All-head (λ n. IsNarrow n.pred) name names all)
-fits_plain (name ∷ names) r e (suc i) all = fits_plain names r e i (All-tail (λ n. IsNarrow n.pred) name names all)
-
 -- a run that lacks a name takes the event under it, where its predicate holds
 pub takes_is : (q : Plan) (r : Run) (ns : List ℕ) (e : Event) → IsSimple q → IsRunOf ns r → length ns < length q.names
-    → takes q r e ≡ (if fits_name (slice_get q.names (length ns)) [] e then Some (length ns) else None)
-takes_is q r ns e simple run more =
-    rw (wanted_is q r ns simple run more, fits_plain q.names r e (length ns) simple.narrow)
+    → takes q r e ≡ (if fits_name (slice_get q.names (length ns)) r e then Some (length ns) else None)
+takes_is q r ns e simple run more = rw (wanted_is q r ns simple run more)
 
 -- the elements of the names bound are filled
 filled_all : (r : Run) (ns : List ℕ) (j m : ℕ) → IsRunOf ns r → j + m ≤ length ns → list_all (is_filled r) (map One (range_with_len j m)) ≡ true
@@ -129,10 +109,10 @@ run_push ns r number e run =
     }
 
 -- the open runs are this one, or none where it binds nothing yet
-abbrev pub IsOpen : List ℕ → List Started → Type 0
-IsOpen ns [] = ns ≡ []
-IsOpen ns (s ∷ []) = IsRunOf ns s.1 × (0 < length ns)
-IsOpen ns (s ∷ t ∷ rest) = ⊥
+abbrev pub IsOpen : Run → List Started → Type 0
+IsOpen r [] = r ≡ []
+IsOpen r (s ∷ []) = s.1 ≡ r
+IsOpen r (s ∷ t ∷ rest) = ⊥
 
 -- under FIRST an event starts a run where none is open
 handle_is : (q : Plan) (s : State) (x : Numbered) → IsSimple q
@@ -147,86 +127,107 @@ holds_none [] = refl
 holds_none (p ∷ r) = holds_none r
 
 -- the run at hand goes on, and nothing is matched
-pub record Grows (ns : List ℕ) (before after : State) : Type 0 where
-  pub opened : IsOpen ns after.open_runs
+pub record Grows (r : Run) (before after : State) : Type 0 where
+  pub opened : IsOpen r after.open_runs
   pub matched : after.matched ≡ before.matched
 
 -- the run at hand is matched, and none is open
-pub record Completes (ns : List ℕ) (before after : State) : Type 0 where
+pub record Completes (r : Run) (before after : State) : Type 0 where
   pub opened : after.open_runs ≡ []
-  pub run : Run
-  pub is : IsRunOf ns run
-  pub matched : matched_runs after ≡ matched_runs before ++ run ∷ []
+  pub matched : matched_runs after ≡ matched_runs before ++ r ∷ []
 
 -- the run of a numbered run
 abbrev run_in : Started → Run
 run_in run = run.1
 
--- a run that binds nothing
-empty_run : (ns : List ℕ) → ns ≡ [] → IsRunOf ns []
-empty_run ns none = record { names = sym (ap (λ (l : List ℕ). range_with_len 0 (length l)) none); numbers_are = sym none }
-
-module _ (q : Plan) (simple : IsSimple q) (x : Numbered) (ns : List ℕ) (more : length ns < length q.names) where
+module _ (q : Plan) (simple : IsSimple q) (x : Numbered) (ns : List ℕ) (r : Run) (is : IsRunOf ns r) (more : length ns < length q.names) where
+  -- whether the event fulfils the predicate of the next name
   abbrev fits : Bool
-  fits = fits_name (slice_get q.names (length ns)) [] x.1
+  fits = fits_name (slice_get q.names (length ns)) r x.1
+
+  -- the event bound to the next name
+  abbrev pair : Pair
+  pair = record { name = length ns; number = x.0; event = x.1 }
+
+  -- the run that has bound it
+  abbrev next : Run
+  next = r ++ pair ∷ []
 
   -- a state by its parts
   abbrev state_of : List Started → List Started → ℕ → State
   state_of open_runs matched started = record { open_runs = open_runs; matched = matched; started = started }
 
+  -- an equal run doesn't take the event
+  takes_none : (r' : Run) → r' ≡ r → fits ≡ false → takes q r' x.1 ≡ None
+  takes_none r' same not_fit = ap (λ (v : Run). takes q v x.1) same ∙ (rw not_fit at (takes_is q r ns x.1 simple is more))
+
+  -- or takes it under the next name
+  takes_some : (r' : Run) → r' ≡ r → fits ≡ true → takes q r' x.1 ≡ Some (length ns)
+  takes_some r' same fit = ap (λ (v : Run). takes q v x.1) same ∙ (rw fit at (takes_is q r ns x.1 simple is more))
+
+  -- the same pair behind an equal run
+  next_is : (r' : Run) → r' ≡ r → r' ++ pair ∷ [] ≡ next
+  next_is r' same = ap (λ (v : Run). v ++ pair ∷ []) same
+
   -- an event that the run at hand doesn't take leaves everything as it is
-  passes_on : (runs : List Started) (ms : List Started) (c : ℕ) → IsOpen ns runs → fits ≡ false → Grows ns (state_of runs ms c) (handle q (state_of runs ms c) x)
+  passes_on : (runs : List Started) (ms : List Started) (c : ℕ) → IsOpen r runs → fits ≡ false → Grows r (state_of runs ms c) (handle q (state_of runs ms c) x)
   passes_on [] ms c opened not_fit =
-      let none : takes q [] x.1 ≡ None = rw not_fit at (takes_is q [] ns x.1 simple (empty_run ns opened) more) in
-      subst (λ t. Grows ns (state_of [] ms c) t) (sym (handle_is q (state_of [] ms c) x simple)) (rw none (record { opened = opened; matched = refl }))
+      let none = takes_none [] (sym opened) not_fit in
+      subst (λ t. Grows r (state_of [] ms c) t) (sym (handle_is q (state_of [] ms c) x simple)) (rw none (record { opened = opened; matched = refl }))
   passes_on (run ∷ []) ms c opened not_fit =
-      let none : takes q run.1 x.1 ≡ None = rw not_fit at (takes_is q run.1 ns x.1 simple opened.0 more) in
-      subst (λ t. Grows ns (state_of (run ∷ []) ms c) t) (sym (handle_is q (state_of (run ∷ []) ms c) x simple))
+      let none = takes_none run.1 opened not_fit in
+      subst (λ t. Grows r (state_of (run ∷ []) ms c) t) (sym (handle_is q (state_of (run ∷ []) ms c) x simple))
       (rw (holds_none run.1, none, simple.first) (record { opened = opened; matched = refl }))
   passes_on (a ∷ b ∷ rest) ms c opened not_fit = absurd opened
 
   -- the same of any state
-  pub passes : (s : State) → IsOpen ns s.open_runs → fits ≡ false → Grows ns s (handle q s x)
+  pub passes : (s : State) → IsOpen r s.open_runs → fits ≡ false → Grows r s (handle q s x)
   passes s opened not_fit = passes_on s.open_runs s.matched s.started opened not_fit
 
+  -- while names are left, an equal run with the pair is not complete
+  not_yet : (r' : Run) → r' ≡ r → length ns + 1 < length q.names → is_complete q (r' ++ pair ∷ []) ≡ false
+  not_yet r' same less = ap (is_complete q) (next_is r' same) ∙ complete_not q next (ns ++ x.0 ∷ []) simple (run_push ns r x.0 x.1 is) (omega (arith, length_push ns x.0))
+
   -- an event that it takes is bound to the next name
-  grows_on : (runs : List Started) (ms : List Started) (c : ℕ) → IsOpen ns runs → fits ≡ true → length ns + 1 < length q.names → Grows (ns ++ x.0 ∷ []) (state_of runs ms c) (handle q (state_of runs ms c) x)
+  grows_on : (runs : List Started) (ms : List Started) (c : ℕ) → IsOpen r runs → fits ≡ true → length ns + 1 < length q.names → Grows next (state_of runs ms c) (handle q (state_of runs ms c) x)
   grows_on [] ms c opened fit less =
-      let run = empty_run ns opened in
-      let some : takes q [] x.1 ≡ Some (length ns) = rw fit at (takes_is q [] ns x.1 simple run more) in
-      let next = run_push ns [] x.0 x.1 run in
-      let not_yet = complete_not q _ _ simple next (omega (arith, length_push ns x.0)) in
-      subst (λ t. Grows (ns ++ x.0 ∷ []) (state_of [] ms c) t) (sym (handle_is q (state_of [] ms c) x simple))
-      (rw (some, not_yet) (record { opened = (next, omega (arith, length_push ns x.0)); matched = refl }))
+      let some = takes_some [] (sym opened) fit in
+      let open_still = not_yet [] (sym opened) less in
+      subst (λ t. Grows next (state_of [] ms c) t) (sym (handle_is q (state_of [] ms c) x simple))
+      (rw (some, open_still) (record { opened = next_is [] (sym opened); matched = refl }))
   grows_on (run ∷ []) ms c opened fit less =
-      let some : takes q run.1 x.1 ≡ Some (length ns) = rw fit at (takes_is q run.1 ns x.1 simple opened.0 more) in
-      let next = run_push ns run.1 x.0 x.1 opened.0 in
-      let not_yet = complete_not q _ _ simple next (omega (arith, length_push ns x.0)) in
-      subst (λ t. Grows (ns ++ x.0 ∷ []) (state_of (run ∷ []) ms c) t) (sym (handle_is q (state_of (run ∷ []) ms c) x simple))
-      (rw (holds_none run.1, some, not_yet) (record { opened = (next, omega (arith, length_push ns x.0)); matched = refl }))
+      let some = takes_some run.1 opened fit in
+      let open_still = not_yet run.1 opened less in
+      subst (λ t. Grows next (state_of (run ∷ []) ms c) t) (sym (handle_is q (state_of (run ∷ []) ms c) x simple))
+      (rw (holds_none run.1, some, open_still) (record { opened = next_is run.1 opened; matched = refl }))
   grows_on (a ∷ b ∷ rest) ms c opened fit less = absurd opened
 
   -- the same of any state
-  pub grows : (s : State) → IsOpen ns s.open_runs → fits ≡ true → length ns + 1 < length q.names → Grows (ns ++ x.0 ∷ []) s (handle q s x)
+  pub grows : (s : State) → IsOpen r s.open_runs → fits ≡ true → length ns + 1 < length q.names → Grows next s (handle q s x)
   grows s opened fit less = grows_on s.open_runs s.matched s.started opened fit less
 
+  -- where it was the last name, an equal run with the pair is complete
+  done : (r' : Run) → r' ≡ r → length ns + 1 ≡ length q.names → is_complete q (r' ++ pair ∷ []) ≡ true
+  done r' same whole = ap (is_complete q) (next_is r' same) ∙ complete_all q next (ns ++ x.0 ∷ []) simple (run_push ns r x.0 x.1 is) (omega (arith, length_push ns x.0))
+
+  -- the matched runs with an equal run more
+  matched_push : (ms : List Started) (c : ℕ) (r' : Run) → r' ≡ r → map run_in (ms ++ (c, r' ++ pair ∷ []) ∷ []) ≡ map run_in ms ++ next ∷ []
+  matched_push ms c r' same = map-append run_in ms ((c, r' ++ pair ∷ []) ∷ []) ∙ ap (λ (v : Run). map run_in ms ++ v ∷ []) (next_is r' same)
+
   -- or completes the run
-  completes_on : (runs : List Started) (ms : List Started) (c : ℕ) → IsOpen ns runs → fits ≡ true → length ns + 1 ≡ length q.names → Completes (ns ++ x.0 ∷ []) (state_of runs ms c) (handle q (state_of runs ms c) x)
+  completes_on : (runs : List Started) (ms : List Started) (c : ℕ) → IsOpen r runs → fits ≡ true → length ns + 1 ≡ length q.names → Completes next (state_of runs ms c) (handle q (state_of runs ms c) x)
   completes_on [] ms c opened fit whole =
-      let run = empty_run ns opened in
-      let some : takes q [] x.1 ≡ Some (length ns) = rw fit at (takes_is q [] ns x.1 simple run more) in
-      let next = run_push ns [] x.0 x.1 run in
-      let done = complete_all q _ _ simple next (omega (arith, length_push ns x.0)) in
-      subst (λ t. Completes (ns ++ x.0 ∷ []) (state_of [] ms c) t) (sym (handle_is q (state_of [] ms c) x simple))
-      (rw (some, done) (record { opened = refl; run = _; is = next; matched = map-append run_in ms (_ ∷ []) }))
+      let some = takes_some [] (sym opened) fit in
+      let complete = done [] (sym opened) whole in
+      subst (λ t. Completes next (state_of [] ms c) t) (sym (handle_is q (state_of [] ms c) x simple))
+      (rw (some, complete) (record { opened = refl; matched = matched_push ms _ [] (sym opened) }))
   completes_on (run ∷ []) ms c opened fit whole =
-      let some : takes q run.1 x.1 ≡ Some (length ns) = rw fit at (takes_is q run.1 ns x.1 simple opened.0 more) in
-      let next = run_push ns run.1 x.0 x.1 opened.0 in
-      let done = complete_all q _ _ simple next (omega (arith, length_push ns x.0)) in
-      subst (λ t. Completes (ns ++ x.0 ∷ []) (state_of (run ∷ []) ms c) t) (sym (handle_is q (state_of (run ∷ []) ms c) x simple))
-      (rw (holds_none run.1, some, done) (record { opened = refl; run = _; is = next; matched = map-append run_in ms (_ ∷ []) }))
+      let some = takes_some run.1 opened fit in
+      let complete = done run.1 opened whole in
+      subst (λ t. Completes next (state_of (run ∷ []) ms c) t) (sym (handle_is q (state_of (run ∷ []) ms c) x simple))
+      (rw (holds_none run.1, some, complete) (record { opened = refl; matched = matched_push ms _ run.1 opened }))
   completes_on (a ∷ b ∷ rest) ms c opened fit whole = absurd opened
 
   -- the same of any state
-  pub completes : (s : State) → IsOpen ns s.open_runs → fits ≡ true → length ns + 1 ≡ length q.names → Completes (ns ++ x.0 ∷ []) s (handle q s x)
+  pub completes : (s : State) → IsOpen r s.open_runs → fits ≡ true → length ns + 1 ≡ length q.names → Completes next s (handle q s x)
   completes s opened fit whole = completes_on s.open_runs s.matched s.started opened fit whole

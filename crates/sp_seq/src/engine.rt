@@ -1,6 +1,8 @@
 // The windows of a simple plan, one after another.
 ghost use Rattle.std.specs.Prelude.{◌≡◌, ◌+◌, ◌<◌, ◌≤◌, length, min, IfOk, IfSome, IsSome, IsNone};
 ghost use Rattle.std.specs.Arc.{arc_value};
+ghost use Rattle.std.specs.List.{All};
+ghost use Rattle.sp_plan.specs.Bounds.{PredWithin, IsSmall};
 ghost use Rattle.sp_plan.specs.Simple.{IsSimple};
 ghost use Rattle.sp_plan.specs.Sequential.{whole};
 ghost use Rattle.sp_seq.specs.Closed.{IsClosed};
@@ -40,6 +42,8 @@ fn match_windows(
 ) -> Result<Vec<Match>, Memory>
     requires simple { IsSimple plan.now }
     requires few { length events.now ≤ 1048576 }
+    requires within { All (λ name. PredWithin name.pred) plan.now.names }
+    requires small { All IsSmall events.now }
     ensures { IfOk result (λ matches. matches.items ≡ (whole plan.now events.now ended).matches) }
 {
     let Length::Events(length) = plan.length else {
@@ -74,8 +78,10 @@ fn match_windows(
 
 /// The matches of all windows that are closed, one window after another, each with its number from
 /// 1 on. Windows that no later event can join are closed, and all of them where the input has
-/// `ended`. The plan is simple, and there are at most 1,048,576 events. Want of memory leaves
-/// nothing behind: the plan and the events are only read.
+/// `ended`. The plan is simple, and there are at most 1,048,576 events, whose numbers are at most
+/// 10^15 in magnitude. A predicate may look at its event and at the events that the run has bound
+/// before it; no value that it computes can then pass 10^36. Want of memory leaves nothing behind:
+/// the plan and the events are only read.
 pub fn plain(
     alloc: Global,
     plan: Arc<Plan>,
@@ -84,6 +90,8 @@ pub fn plain(
 ) -> Result<Vec<Match>, Memory>
     requires simple { IsSimple (arc_value plan) }
     requires few { length events.now ≤ 1048576 }
+    requires within { All (λ name. PredWithin name.pred) (arc_value plan).names }
+    requires small { All IsSmall events.now }
     ensures { IfOk result (λ matches. matches.items ≡ (whole (arc_value plan) events.now ended).matches) }
 {
     match_windows(alloc, &*plan, events, ended)

@@ -1,26 +1,25 @@
 // The run of a simple plan over the visible events of one window.
 ghost use Rattle.std.specs.Prelude.{◌≡◌, ◌<◌, ◌≤◌, [], ◌∷◌, length, map, slice_get, slice_index, IfOk, if◌then◌else◌};
-ghost use Rattle.std.specs.List.{range_with_len};
+ghost use Rattle.std.specs.List.{range_with_len, All};
 ghost use Rattle.std.specs.List.Sorted.{IsStrictlyIncreasing};
 ghost use Rattle.sp_plan.specs.Simple.{IsSimple};
-ghost use Rattle.sp_plan.specs.Runs.{Run, fits_name};
+ghost use Rattle.sp_plan.specs.Bounds.{PredWithin, IsSmall, AllSmall};
+ghost use Rattle.sp_plan.specs.Runs.{Run, bound_events, fits_name};
 ghost use Rattle.sp_plan.specs.Sequential.{match_of};
 ghost use Rattle.sp_seq.specs.Sequence.{IsRunOf};
 
 use sp_plan::{Bound, Event, Listed, Match, Memory, Places, Plan, holds};
 use std::alloc::Global;
 
-// Whether the run that has bound these many names takes the event.
-pub(crate) fn takes(alloc: Global, plan: &Plan, bound: usize, event: &Event) -> bool
-    requires simple { IsSimple plan.now }
-    requires more { bound < length plan.now.names }
-    ensures { result ≡ fits_name (slice_get plan.now.names bound) [] event.now }
+// Whether a run that has bound these events takes the event under the name.
+pub(crate) fn takes(plan: &Plan, name: usize, event: &Event, bound: &Bound) -> bool
+    requires more { name < length plan.now.names }
+    requires within { All (λ name. PredWithin name.pred) plan.now.names }
+    requires event { IsSmall event.now }
+    requires bound { AllSmall bound.now }
+    ensures { (r : Run) → bound_events r ≡ bound.now → result ≡ fits_name (slice_get plan.now.names name) r event.now }
 {
-    holds(
-        &plan.names.as_slice()[bound].pred,
-        event,
-        &Bound::new(alloc),
-    )
+    holds(&plan.names.as_slice()[name].pred, event, bound)
 }
 
 // The one event that a name is bound to.

@@ -1,6 +1,8 @@
 // The runs of one window.
 ghost use Rattle.std.specs.Prelude.{◌≡◌, ℕ, ◌≤◌, List, ◌++◌, length, OnOk};
+ghost use Rattle.std.specs.List.{All};
 ghost use Rattle.sp_plan.specs.Simple.{IsSimple};
+ghost use Rattle.sp_plan.specs.Bounds.{PredWithin, IsSmall};
 ghost use Rattle.sp_plan.specs.Runs.{state, matched_runs};
 ghost use Rattle.sp_plan.specs.Sequential.{Progress, after_window};
 ghost use Rattle.sp_seq.specs.Marked.{IsMarked};
@@ -8,7 +10,7 @@ ghost use Rattle.sp_seq.specs.Kept.{IsKept};
 ghost use Rattle.sp_seq.specs.Unconsumed.{unconsumed};
 
 use crate::run::{found, takes};
-use sp_plan::{Event, Match, Memory, Plan};
+use sp_plan::{Bound, Event, Match, Memory, Plan};
 use std::alloc::Global;
 
 // A closed window: its number from 1, the place of its first event from 0, and the place behind its
@@ -32,9 +34,10 @@ fn mark(consumed: &mut [bool], numbers: &[u32])
     }
 }
 
-// Adds the matches of one window, and marks what they use. The numbers bound so far stand in
-// `numbers`, which each window begins anew: only its room is used again. What is marked on the way
-// lies behind, so the flags ahead still say what was consumed before the window.
+// Adds the matches of one window, and marks what they use. The run at hand stands in `numbers`,
+// which each window begins anew: only its room is used again. `bound` has its events for the
+// predicates of later names, so the event of the last name is not copied. What is marked on the way
+// lies behind, and the flags ahead still say what was consumed before the window.
 pub(crate) fn match_window(
     alloc: Global,
     plan: &Plan,
@@ -46,6 +49,8 @@ pub(crate) fn match_window(
 ) -> Result<(), Memory>
     requires simple { IsSimple plan.now }
     requires few { length events.now ≤ 1048576 }
+    requires predicates { All (λ name. PredWithin name.pred) plan.now.names }
+    requires small { All IsSmall events.now }
     requires ordered { window.first ≤ window.end }
     requires within { window.end ≤ length events.now }
     requires same { length consumed.old ≡ length events.now }
@@ -54,8 +59,11 @@ pub(crate) fn match_window(
         (matched_runs (state plan.now (unconsumed before.consumed events.now window.first window.end)))) matches.new.items consumed.new) }
 {
     numbers.clear();
+    let mut bound = Bound::new(alloc);
     for i in window.first..window.end {
-        if !consumed[i] && takes(alloc, plan, numbers.len(), &events[i]) {
+        let event = &events[i];
+        let name = numbers.len();
+        if !consumed[i] && takes(plan, name, event, &bound) {
             numbers.push((i + 1) as u32)?;
             if numbers.len() == plan.names.as_slice().len() {
                 let next = matches.len() as u64 + 1;
@@ -63,6 +71,9 @@ pub(crate) fn match_window(
                 mark(consumed, one.used.list());
                 matches.push(one)?;
                 numbers.clear();
+                bound = Bound::new(alloc);
+            } else {
+                bound.bind(alloc, name as u8, event)?;
             }
         }
     }

@@ -1,3 +1,7 @@
-pub mod Spelling
-pub mod Reading
-pub mod Placed
+pub mod Trees
+pub mod Phrase
+pub mod Grammar
+pub mod Queries
+pub mod Same
+pub mod Written
+pub mod Printing

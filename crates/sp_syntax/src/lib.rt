@@ -1,17 +1,15 @@
-//! The tokens of a query's text. What they are stands in `specs/Spelling.antt`.
+//! The query language: its tokens, handed on from `sp_lex`, and the trees of its queries. What the
+//! grammar is stands in `specs/Grammar.antt`, which queries a text has in `specs/Queries.antt`.
 #![tactic(auto)]
 
-mod bytes;
-mod fault;
-mod lexer;
-mod literal;
 mod mark;
-mod number;
-mod token;
-mod word;
+mod printing;
+mod query;
+mod same;
+mod tree;
 
-pub use lexer::lex;
-pub use token::{Kernel, LexFault, Span, Token, Word};
-
-#[cfg(test)]
-mod tests;
+pub use mark::{Mark, is_mark};
+pub use printing::print;
+pub use query::{Ident, Query, QueryColumn, QueryConsume, QueryElement, QueryOpening};
+pub use sp_lex::{Kernel, LexFault, Span, Token, Word, lex};
+pub use tree::{Node, Tree};

@@ -1,11 +1,14 @@
 -- Answers before the input is read, answers cut short by want of memory, and an outcome seen as another.
-use Rattle.std.proofs.Common.{◌⊎◌, ◌≡◌, ◌≢◌, inr, ⊎_elim, ℕ, Bool, List, [], refl, arith, sym, subst, ◌∙◌, inl}
+use Rattle.std.proofs.Common.{◌⊎◌, ◌≡◌, ◌≢◌, ◌<◌, inr, ⊎_elim, ℕ, Bool, List, [], refl, arith, sym, subst, ◌∙◌, inl}
 use Rattle.std.proofs.lemmas.List.{append-nil}
 use Rattle.sp_io.specs.Outside.{Told, Gave, Grew, GrewWithin}
 use Rattle.sp_top.specs.declared.status.Status.{Status}
 use Rattle.sp_top.specs.declared.status.Status.TheVariants.{Done, Memory, Usage, Query, Input, Read, Write, Limited}
-use Rattle.sp_top.specs.Outcome.{Outcome, IsOutcome, nothing_for}
-use Rattle.sp_top.specs.Answer.{Outside, Ran, Answered}
+use Rattle.sp_plan.specs.declared.plan.Plan.{Plan}
+use Rattle.sp_top.specs.Commands.{Place, IsCommand}
+use Rattle.sp_top.specs.Outcome.{Outcome, QueryOutcome, IsOutcome, nothing_for}
+use Rattle.sp_top.specs.Answer.{Outside, Ran, IsPlanRun, Filed, FileFault, FileTold, Answered}
+use Rattle.sp_top.specs.Queries.{IsPlanAt, RefusesPlace}
 use Rattle.sp_top.proofs.Told.{gave_none, grew_none}
 
 within_none : (a : Told) (more : List ℕ) → GrewWithin a more a
@@ -14,26 +17,26 @@ within_none a more = ([], (more, refl), grew_none a)
 grew_whole : (a b : Told) (xs : List ℕ) → Grew a xs b → GrewWithin a xs b
 grew_whole a b xs grew = (xs, ([], sym (append-nil xs)), grew)
 
--- the status of words or of a query that are refused
+-- the status of words, of a query or of its length that are refused
 abbrev pub IsRefusal : Status → Type 0
 IsRefusal Usage = Unit {0}
-IsRefusal Query = Unit {0}
+IsRefusal (Query code place) = Unit {0}
 IsRefusal Done = ⊥
 IsRefusal Memory = ⊥
 IsRefusal (Input code row column) = ⊥
 IsRefusal Read = ⊥
 IsRefusal Write = ⊥
-IsRefusal (Limited limit) = ⊥
+IsRefusal (Limited limit) = Unit {0}
 
 refused_by : (s : Status) → IsRefusal s → (s ≢ Done) × (s ≢ Memory) × (s ≢ Read) × (s ≢ Write)
 refused_by Usage is = (λ e. cc, λ e. cc, λ e. cc, λ e. cc)
-refused_by Query is = (λ e. cc, λ e. cc, λ e. cc, λ e. cc)
+refused_by (Query code place) is = (λ e. cc, λ e. cc, λ e. cc, λ e. cc)
 refused_by Done is = absurd is
 refused_by Memory is = absurd is
 refused_by (Input code row column) is = absurd is
 refused_by Read is = absurd is
 refused_by Write is = absurd is
-refused_by (Limited limit) is = absurd is
+refused_by (Limited limit) is = (λ e. cc, λ e. cc, λ e. cc, λ e. cc)
 
 -- nothing is read or written
 pub at_once : (P : List ℕ → Bool → Outcome → Type 0) (old : Outside) (s : Status) → IsRefusal s → P [] old.input.ended (nothing_for s) → Ran P old old s
@@ -105,12 +108,46 @@ ran_short P old new s t which ran = ⊎_elim (λ same. subst (Ran P old new) (sy
         within Write r = r.cut_off (inr refl)
         within Done r = grew_whole _ _ _ (r.exact (λ e. cc) (λ e. cc)).1
         within Usage r = grew_whole _ _ _ (r.exact (λ e. cc) (λ e. cc)).1
-        within Query r = grew_whole _ _ _ (r.exact (λ e. cc) (λ e. cc)).1
+        within (Query code place) r = grew_whole _ _ _ (r.exact (λ e. cc) (λ e. cc)).1
         within (Input code row column) r = grew_whole _ _ _ (r.exact (λ e. cc) (λ e. cc)).1
         within Read r = grew_whole _ _ _ (r.exact (λ e. cc) (λ e. cc)).1
         within (Limited limit) r = grew_whole _ _ _ (r.exact (λ e. cc) (λ e. cc)).1
 
 -- the same of an answer to words
-pub answered_short : (words : List (List ℕ)) (old new : Outside) (s t : Status) → (t ≡ s) ⊎ (t ≡ Memory) → Answered words old new s → Answered words old new t
-answered_short words old new s t which answered =
-    ⊎_elim (λ before. inl (⊎_elim (λ same. same ∙ before.0) (λ short. short) which, before.1)) (λ ran. inr (ran_short (IsOutcome words) old new s t which ran)) answered
+pub answered_short : (words : List (List ℕ)) (before after : Filed) (old new : Outside) (s t : Status) → (t ≡ s) ⊎ (t ≡ Memory) → Answered words before after old new s → Answered words before after old new t
+answered_short words before after old new s t which answered = ⊎_elim none (⊎_elim unread known) answered
+  where
+    none : (s ≡ Memory) × (new ≡ old) → Answered words before after old new t
+    none here = inl (⊎_elim (λ same. same ∙ here.0) (λ short. short) which, here.1)
+
+    unread : FileFault words before after old new s → Answered words before after old new t
+    unread fault =
+        ⊎_elim (λ same. inr (inl (record { name = fault.name; command = fault.command; fault = same ∙ fault.fault; same = fault.same; rose = fault.rose }))) (λ short. inl (short, fault.same)) which
+
+    known : Ran (IsOutcome words before.held) old new s → Answered words before after old new t
+    known ran = inr (inr (ran_short (IsOutcome words before.held) old new s t which ran))
+
+-- and of a fault of the query's file
+pub told_short : (words : List (List ℕ)) (before after : Filed) (old new : Outside) (s t : Status) → (t ≡ s) ⊎ (t ≡ Memory) → FileTold words before after old new s → FileTold words before after old new t
+told_short words before after old new s t which told = λ name command rose.
+    let here = told name command rose in
+    (⊎_elim (λ same. ⊎_elim (λ read. inl (same ∙ read)) (λ short. inr (same ∙ short)) here.0) (λ short. inr short) which, here.1)
+
+-- A query is refused before anything is read or written.
+pub refused_at : (words : List (List ℕ)) (before after : Filed) (old : Outside) (place : Place) (s : Status) → IsCommand words place → RefusesPlace before after place s → Answered words before after old old s
+refused_at words before after old place Memory command refuses = inl (refl, refl)
+refused_at words before after old place Read command refuses =
+    inr (inl (record { name = refuses.name; command = subst (IsCommand words) refuses.is_file command; fault = refl; same = refl; rose = refuses.rose }))
+refused_at words before after old place (Query code at) command refuses =
+    inr (inr (at_once (IsOutcome words before.held) old (Query code at) tt (inr (place, command, refuses [] old.input.ended))))
+refused_at words before after old place (Limited limit) command refuses =
+    inr (inr (at_once (IsOutcome words before.held) old (Limited limit) tt (inr (place, command, refuses [] old.input.ended))))
+refused_at words before after old place Done command refuses = absurd refuses
+refused_at words before after old place Usage command refuses = absurd refuses
+refused_at words before after old place (Input code row column) command refuses = absurd refuses
+refused_at words before after old place Write command refuses = absurd refuses
+
+-- A plan is run.
+pub ran_at : (words : List (List ℕ)) (before after : Filed) (old new : Outside) (place : Place) (q : Plan) (s : Status) → IsCommand words place → IsPlanAt before place q → Ran (IsPlanRun q) old new s → Answered words before after old new s
+ran_at words before after old new place q s command plan ran =
+    inr (inr (ran_weaker (IsPlanRun q) (IsOutcome words before.held) old new s (λ b e o is. inr (place, command, subst (QueryOutcome before.held b e place) (sym is) (plan.runs b e))) ran))

@@ -1,10 +1,12 @@
 mod Answered
 mod Answering
+mod Commands
 mod FewEvents
 mod Leading
 mod LinesOf
-mod QueryPlan
-mod QueryText
 mod ReadSoFar
+mod Refusals
+mod SimplePlans
+mod SmallReading
 mod Told
 mod Words

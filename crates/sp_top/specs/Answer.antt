@@ -1,8 +1,9 @@
 -- The promise of the program: what a call took, what that comes to, and what it wrote and answered.
 use Rattle.std.specs.Prelude.{◌≡◌, ◌≢◌, ◌⊎◌, ◌<◌, ℕ, Bool, true, List, [], Result, IfOk}
 use Rattle.std.specs.declared.alloc.AllocError.{AllocError}
-use Rattle.sp_io.specs.Outside.{SourceState, SinkState, Gave, Grew, GrewWithin, Rose}
+use Rattle.sp_io.specs.Outside.{SourceState, SinkState, ToldFiles, Gave, Grew, GrewWithin, Rose}
 use Rattle.sp_plan.specs.declared.plan.Plan.{Plan}
+use Rattle.sp_top.specs.Commands.{file, IsCommand}
 use Rattle.sp_top.specs.Reading.{read, stop_of}
 use Rattle.sp_top.specs.Outcome.{Outcome, IsOutcome, run_outcome, number_of, line_of}
 use Rattle.sp_top.specs.declared.input.Given.{Given}
@@ -35,19 +36,40 @@ pub record Ran (is_outcome : List ℕ → Bool → Outcome → Type 0) (old new 
   pub write_told : old.out.faults < new.out.faults → (status ≡ Write) ⊎ (status ≡ Memory)
 
 -- the outcome of a plan
-abbrev pub IsRun : Plan → List ℕ → Bool → Outcome → Type 0
-IsRun q bytes ended o = o ≡ run_outcome q bytes ended
+abbrev pub IsPlanRun : Plan → List ℕ → Bool → Outcome → Type 0
+IsPlanRun q bytes ended o = o ≡ run_outcome q bytes ended
 
--- memory ran out before the query was known, with nothing read and nothing written; or the words have an outcome
-abbrev pub Answered : List (List ℕ) → Outside → Outside → Status → Type 0
-Answered words old new status = ((status ≡ Memory) × (new ≡ old)) ⊎ Ran (IsOutcome words) old new status
+-- the files as the call sees them: what they hold, and how often a load of each name has failed
+pub record Filed : Type 0 where
+  pub held : ToldFiles
+  pub faults : List ℕ → ℕ
 
--- The promise: the number is that of a status, the output is what the status says, and the error output has its line.
+-- The file of the query could not be loaded: nothing is read from the input and nothing is written.
+pub record FileFault (words : List (List ℕ)) (before after : Filed) (old new : Outside) (status : Status) : Type 0 where
+  pub name : List ℕ
+  pub command : IsCommand words (file name)
+  pub fault : status ≡ Read
+  pub same : new ≡ old
+  pub rose : Rose (before.faults name) (after.faults name)
+
+-- memory ran out before the query was known, with nothing read and nothing written; or its file could not be loaded; or the words have an outcome
+abbrev pub Answered : List (List ℕ) → Filed → Filed → Outside → Outside → Status → Type 0
+Answered words before after old new status =
+    ((status ≡ Memory) × (new ≡ old)) ⊎ (FileFault words before after old new status ⊎ Ran (IsOutcome words before.held) old new status)
+
+-- A fault of the query's file is answered: nothing is written then.
+abbrev pub FileTold : List (List ℕ) → Filed → Filed → Outside → Outside → Status → Type 0
+FileTold words before after old new status =
+    (name : List ℕ) → IsCommand words (file name) → before.faults name < after.faults name → ((status ≡ Read) ⊎ (status ≡ Memory)) × (new ≡ old)
+
+-- The promise: the number is that of a status, the output is what the status says, and the error output has its line. The files hold what they held.
 -- Where the count of faults of the error output rose its line may be cut short, and nothing else changes.
-pub record Promise (words : List (List ℕ)) (old new : Outside) (err_old err_new : SinkState) (result : ℕ) : Type 0 where
+pub record Promise (words : List (List ℕ)) (before after : Filed) (old new : Outside) (err_old err_new : SinkState) (result : ℕ) : Type 0 where
   pub status : Status
   pub number : result ≡ number_of status
-  pub answered : Answered words old new status
+  pub answered : Answered words before after old new status
+  pub file_told : FileTold words before after old new status
+  pub files : after.held ≡ before.held
   pub line : (Rose err_old.faults err_new.faults → ⊥) → Grew err_old.held (line_of status) err_new.held
   pub line_front : GrewWithin err_old.held (line_of status) err_new.held
 

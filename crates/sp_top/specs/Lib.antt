@@ -1,7 +1,8 @@
-pub mod Query
-pub mod QueryParts
+pub mod Commands
+pub mod SimplePlans
 pub mod Reading
 pub mod Kept
 pub mod Coming
 pub mod Outcome
 pub mod Answer
+pub mod Queries

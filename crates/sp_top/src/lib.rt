@@ -1,14 +1,16 @@
-//! The program as a function of its words, its input and its outputs. What it promises is the record
+//! The program as a function of its words, its input, its files and its outputs. What it promises is the record
 //! `Promise` of `specs/Answer.antt`, the contract of `spectre`.
 #![tactic(auto)]
 
+mod command;
 mod input;
 mod kept;
-mod numeral;
 mod output;
+mod placed;
 mod query;
 mod reader;
 mod run;
+mod simple;
 mod status;
 mod top;
 

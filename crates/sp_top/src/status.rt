@@ -11,12 +11,13 @@ pub(crate) enum Status {
     Done,
     Memory,
     Usage,
-    Query,
+    /// The query's text has this fault, which stands there.
+    Query { code: u8, place: u32 },
     /// A faulty row: the fault's code, the row and the cell's place.
     Input { code: u8, row: u32, column: u32 },
     Read,
     Write,
-    /// The input has more rows or more events than this.
+    /// The input has more rows or more events than this, or the query more bytes.
     Limited { limit: u32 },
 }
 
@@ -29,7 +30,7 @@ impl Status {
             Status::Done => 0,
             Status::Memory => 1,
             Status::Usage => 2,
-            Status::Query => 3,
+            Status::Query { code: _, place: _ } => 3,
             Status::Input {
                 code: _,
                 row: _,
@@ -49,7 +50,7 @@ impl Status {
             Status::Done => Ok(String::new(alloc)),
             Status::Memory => String::from_str(alloc, "memory\n"),
             Status::Usage => String::from_str(alloc, "usage\n"),
-            Status::Query => String::from_str(alloc, "query code 0 at 0\n"),
+            Status::Query { code, place } => format!(in alloc; "query code {code} at {place}\n"),
             Status::Input { code, row, column } => {
                 format!(in alloc; "input code {code} row {row} column {column}\n")
             }

@@ -1,45 +1,45 @@
 // The words, and the answer to them.
-ghost use Rattle.std.specs.Prelude.{◌≡◌, ◌⊎◌, ℕ, List, false, map, IfSome, IfNone, string_bytes};
+ghost use Rattle.std.specs.Prelude.{◌≡◌, ◌⊎◌, false, map, string_bytes};
 ghost use Rattle.sp_io.specs.Outside.{Grew, GrewWithin, Rose};
-ghost use Rattle.sp_top.specs.Answer.{Answered, Promise};
-ghost use Rattle.sp_top.specs.Outcome.{IsCommand, IsNoCommand, line_of};
+ghost use Rattle.sp_top.specs.Answer.{Answered, FileTold, Promise};
+ghost use Rattle.sp_top.specs.Outcome.{line_of};
 
-use crate::query::read_query;
+use crate::command::command;
+use crate::placed::plan_at;
 use crate::run::run_plan;
 use crate::status::Status;
-use sp_io::{Sink, Source};
+use sp_io::{Files, Sink, Source};
 use std::alloc::Global;
 
-// The text of the query, where the words are a command.
-fn command(words: &[String]) -> Option<&str>
-    ensures some { IfSome result (λ text. IsCommand (map string_bytes words.now) text.now) }
-    ensures none { IfNone result (IsNoCommand (map string_bytes words.now)) }
-{
-    let [first, option, text] = words else {
-        return None;
-    };
-    if first.as_str() == "run" && option.as_str() == "-q" {
-        Some(text.as_str())
-    } else {
-        None
-    }
-}
-
 // The status, before its line is written.
-fn answer<S: Source, K: Sink>(alloc: Global, words: &[String], input: &mut S, out: &mut K) -> Status
+fn answer<S: Source, F: Files, K: Sink>(
+    alloc: Global,
+    words: &[String],
+    input: &mut S,
+    files: &mut F,
+    out: &mut K,
+) -> Status
     requires not_ended { (S.state input.old).ended ≡ false }
-    ensures { Answered (map string_bytes words.now)
+    ensures answered { Answered (map string_bytes words.now)
+        (record { held = F.held files.old; faults = F.faults files.old })
+        (record { held = F.held files.new; faults = F.faults files.new })
         (record { input = S.state input.old; out = K.state out.old })
         (record { input = S.state input.new; out = K.state out.new })
         result }
+    ensures told { FileTold (map string_bytes words.now)
+        (record { held = F.held files.old; faults = F.faults files.old })
+        (record { held = F.held files.new; faults = F.faults files.new })
+        (record { input = S.state input.old; out = K.state out.old })
+        (record { input = S.state input.new; out = K.state out.new })
+        result }
+    ensures held { F.held files.new ≡ F.held files.old }
 {
-    let Some(text) = command(words) else {
+    let Some(place) = command(words) else {
         return Status::Usage;
     };
-    match read_query(alloc, text) {
-        Ok(Some(plan)) => run_plan(alloc, plan, input, out),
-        Ok(None) => Status::Query,
-        Err(_) => Status::Memory,
+    match plan_at(alloc, place, files) {
+        Ok(plan) => run_plan(alloc, plan, input, out),
+        Err(status) => status,
     }
 }
 
@@ -72,22 +72,26 @@ fn tell<E: Sink>(alloc: Global, status: Status, err: &mut E) -> Status
 }
 
 /// Runs the words, which are the command line without the program's name, over an input that has not
-/// ended yet, and answers the number of its status; docs/formats.md lists them. Matches are written to
-/// `out`, one call a line, and the line of the status to `err`. What is promised of status, output and
-/// faults stands in `specs/Answer.antt`; docs/statement.md says it in words.
-pub fn spectre<S: Source, K: Sink, E: Sink>(
+/// ended yet, and answers the number of its status; docs/formats.md lists them. A query may stand in
+/// one of `files`. Matches are written to `out`, one call a line, and the line of the status to `err`.
+/// What is promised of status, output and faults stands in `specs/Answer.antt`; docs/statement.md says
+/// it in words.
+pub fn spectre<S: Source, F: Files, K: Sink, E: Sink>(
     alloc: Global,
     words: &[String],
     input: &mut S,
+    files: &mut F,
     out: &mut K,
     err: &mut E,
 ) -> u8
     requires not_ended { (S.state input.old).ended ≡ false }
     ensures { Promise (map string_bytes words.now)
+        (record { held = F.held files.old; faults = F.faults files.old })
+        (record { held = F.held files.new; faults = F.faults files.new })
         (record { input = S.state input.old; out = K.state out.old })
         (record { input = S.state input.new; out = K.state out.new })
         (E.state err.old) (E.state err.new) result }
 {
-    let status = answer(alloc, words, input, out);
+    let status = answer(alloc, words, input, files, out);
     tell(alloc, status, err).number()
 }

@@ -1,24 +1,32 @@
-use Rattle.std.proofs.Common.{[], length, refl, ap, arith}
+use Rattle.std.proofs.Common.{[], length, refl, sym, ap, subst, arith}
 use Rattle.std.specs.Arc.{arc_value}
+use Rattle.std.specs.List.{All}
+use Rattle.sp_plan.specs.Bounds.{IsSmall}
 use Rattle.sp_top.specs.Outcome.{run_outcome}
-use Rattle.sp_top.specs.Answer.{IsRun}
+use Rattle.sp_top.specs.Answer.{IsPlanRun}
 use Rattle.sp_top.proofs.Answering.{cut_short}
 use Rattle.sp_top.proofs.Told.{gave_none}
 use Rattle.sp_top.proofs.FewEvents.{read_few}
+use Rattle.sp_top.proofs.SmallReading.{read_small}
 use Rattle.sp_top.proofs.run.run_plan.Goals as goal
 
 pub returns-in_default : goal.returns-in_default
 returns-in_default g c =
     let state = g.S.Source.state c.args.input.now in
-    cut_short (IsRun c.args.plan) _ _ [] (run_outcome c.args.plan [] state.ended) (gave_none state.left) refl refl
+    cut_short (IsPlanRun c.args.plan) _ _ [] (run_outcome c.args.plan [] state.ended) (gave_none state.left) refl refl
 
 pub returns-in_default-read_input : goal.returns-in_default-read_input
 returns-in_default-read_input g c =
     let taken = c.read_input.ensures.taken in
-    cut_short (IsRun c.args.plan) _ _ taken (run_outcome c.args.plan taken (g.S.Source.state c.read_input.new.input).ended) c.read_input.ensures.gave refl refl
+    cut_short (IsPlanRun c.args.plan) _ _ taken (run_outcome c.args.plan taken (g.S.Source.state c.read_input.new.input).ended) c.read_input.ensures.gave refl refl
 
 pub write_windows-requires-clause-few : goal.write_windows-requires-clause-few
 write_windows-requires-clause-few g c κs within =
     let reads = c.in-Ok-read_input.ensures in
     let few = (read_few (arc_value c.in-Ok.plan) reads.taken (g.S.Source.state c.read_input.new.input).ended).few in
     omega (arith, few, ap length reads.events)
+
+pub write_windows-requires-clause-small : goal.write_windows-requires-clause-small
+write_windows-requires-clause-small g c κs within =
+    let reads = c.in-Ok-read_input.ensures in
+    subst (All IsSmall) (sym reads.events) (read_small (arc_value c.in-Ok.plan) reads.taken (g.S.Source.state c.read_input.new.input).ended).small

@@ -1,19 +1,28 @@
 use Rattle.std.proofs.Common.{inl, inr, refl, map}
 use Rattle.std.specs.Prelude.{string_bytes}
-use Rattle.sp_top.specs.declared.status.Status.TheVariants.{Usage, Query}
+use Rattle.sp_top.specs.declared.status.Status.TheVariants.{Usage}
+use Rattle.sp_top.specs.Commands.{place_of}
 use Rattle.sp_top.specs.Outcome.{IsOutcome}
-use Rattle.sp_top.specs.Answer.{IsRun}
-use Rattle.sp_top.proofs.Answering.{at_once, ran_weaker}
+use Rattle.sp_top.specs.Answer.{Outside, Filed}
+use Rattle.sp_top.proofs.Answering.{at_once, refused_at, ran_at}
 use Rattle.sp_top.proofs.top.answer.Goals as goal
 
-pub returns-in_default : goal.returns-in_default
-returns-in_default g c =
-    inr (at_once (IsOutcome (map string_bytes c.args.words.now)) _ Usage tt (inl (c.in_default.ensures.none, refl)))
+pub returns-in_default-clause-answered : goal.returns-in_default-clause-answered
+returns-in_default-clause-answered g c =
+    let old : Outside = record { input = g.S.Source.state c.args.input.now; out = g.K.Sink.state c.args.out.now } in
+    inr (inr (at_once (IsOutcome (map string_bytes c.args.words.now) (g.F.Files.held c.args.files.now)) old Usage tt (inl (c.in_default.ensures.none, refl))))
 
-pub returns-in-Ok-None : goal.returns-in-Ok-None
-returns-in-Ok-None g c =
-    inr (at_once (IsOutcome (map string_bytes c.args.words.now)) _ Query tt (inr (c.in-Some.text.now, c.in-Some.ensures.some, inl ((rw c.in-Ok-None.field-0-is at c.in-Ok-None.ensures.none), refl))))
+pub returns-in-Ok-clause-answered : goal.returns-in-Ok-clause-answered
+returns-in-Ok-clause-answered g c =
+    let before : Filed = record { held = g.F.Files.held c.args.files.now; faults = g.F.Files.faults c.args.files.now } in
+    let after : Filed = record { held = g.F.Files.held c.plan_at.new.files; faults = g.F.Files.faults c.plan_at.new.files } in
+    let old : Outside = record { input = g.S.Source.state c.args.input.now; out = g.K.Sink.state c.args.out.now } in
+    let new : Outside = record { input = g.S.Source.state c.run_plan.new.input; out = g.K.Sink.state c.run_plan.new.out } in
+    ran_at (map string_bytes c.args.words.now) before after old new (place_of c.in-Some.place) c.in-Ok.plan c.run_plan.result c.in-Some.ensures.some c.in-Ok.ensures.plan c.run_plan.ensures
 
-pub returns-in-Ok-Some : goal.returns-in-Ok-Some
-returns-in-Ok-Some g c =
-    inr (ran_weaker (IsRun c.in-Ok-Some.plan) (IsOutcome (map string_bytes c.args.words.now)) _ _ _ (λ b e o is. inr (c.in-Some.text.now, c.in-Some.ensures.some, inr (c.in-Ok-Some.plan, (rw c.in-Ok-Some.field-0-is at c.in-Ok-Some.ensures.some), is))) c.run_plan.ensures)
+pub returns-in-Err-clause-answered : goal.returns-in-Err-clause-answered
+returns-in-Err-clause-answered g c =
+    let before : Filed = record { held = g.F.Files.held c.args.files.now; faults = g.F.Files.faults c.args.files.now } in
+    let after : Filed = record { held = g.F.Files.held c.plan_at.new.files; faults = g.F.Files.faults c.plan_at.new.files } in
+    let old : Outside = record { input = g.S.Source.state c.args.input.now; out = g.K.Sink.state c.args.out.now } in
+    refused_at (map string_bytes c.args.words.now) before after old (place_of c.in-Some.place) c.in-Err.status c.in-Some.ensures.some c.in-Err.ensures.refused

@@ -1,5 +1,5 @@
 use Rattle.std.proofs.Common.{◌≡◌, ℕ, List, Vec, Global, sym, ◌∙◌, ap, subst, IfOk, map}
-use Rattle.sp_rows.specs.Texts.{symbol_of, with_text}
+use Rattle.sp_plan.specs.Texts.{symbol_of, with_text}
 use Rattle.sp_rows.proofs.Answered.{on_ok}
 use Rattle.sp_rows.proofs.Numbered.{found_number, found_known, place_of_texts, added_text}
 use Rattle.sp_rows.proofs.texts.Texts.number.Goals as goal

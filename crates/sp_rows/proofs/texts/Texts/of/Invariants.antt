@@ -1,5 +1,5 @@
 use Rattle.std.proofs.Common.{◌≡◌, [], take, fold}
-use Rattle.sp_rows.specs.Texts.{with_text}
+use Rattle.sp_plan.specs.Texts.{with_text}
 use Rattle.sp_rows.proofs.texts.Texts.of.Given as goal
 
 abbrev pub invariant-loop-text : goal.invariant-loop-text

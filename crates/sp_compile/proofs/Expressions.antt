@@ -1,0 +1,167 @@
+-- What is known of an expression, by what is known of its parts.
+use Rattle.std.proofs.Common.{◌≡◌, ◌≢◌, ℕ, ◌≤◌, ◌<◌, true, List, [], ◌∷◌, length, get_or, Option, Some, None, Result, Ok, Err, slice_get, refl, sym, ◌∙◌, ap, subst, arith}
+use Rattle.sp_plan.specs.declared.event.Event.{Event}
+use Rattle.sp_plan.specs.declared.plan.Expr.{Expr}
+use Rattle.sp_plan.specs.Values.{BoundEvents, column_of, earlier_column, last_bound}
+use Rattle.sp_syntax.specs.declared.tree.Tree.{Tree, out-Tree}
+use Rattle.sp_syntax.specs.declared.tree.Node.TheVariants as n
+use Rattle.sp_syntax.specs.declared.query.QueryColumn.{QueryColumn}
+use Rattle.sp_compile.specs.declared.fault.CompileFault.{CompileFault}
+use Rattle.sp_compile.specs.declared.fault.CompileFault.TheVariants as f
+use Rattle.sp_compile.specs.declared.sort.Sort.{Sort}
+use Rattle.sp_compile.specs.Scopes.{Scope, column_place, name_place}
+use Rattle.sp_compile.specs.Sorts.{Verdict, own_sort, earlier_sort, constant_sort, is_arithmetic, operator_sort, binary_sort, negative_sort}
+use Rattle.sp_compile.specs.Checks as ch
+use Rattle.sp_compile.specs.Checks.{Types, span_of}
+use Rattle.sp_compile.specs.Meaning as m
+use Rattle.sp_compile.specs.Meaning.{Datum, Means, constant_datum, datum_of, combined, negative}
+use Rattle.sp_compile.specs.Answers.{Untyped, ExprAnswer}
+use Rattle.sp_compile.specs.Parts.{comes_to, Refused, MadeAnswer, NumberAnswer, TextAnswer, column_datum, placed_datum, own_datum, bound_datum, earlier_datum, FirstFault}
+
+-- ---- the parts of a tree
+
+pub one_part : (xs : List Tree) (x : Tree) → 1 ≤ length xs → length xs < 2 → x ≡ get_or xs 0 x → xs ≡ x ∷ []
+one_part [] x l u e = absurd (omega arith)
+one_part (y ∷ []) x l u e = ap (λ z. z ∷ []) (sym e)
+one_part (y ∷ z ∷ xs) x l u e = absurd (omega arith)
+
+pub two_parts : (xs : List Tree) (x y : Tree) → 2 ≤ length xs → length xs < 3 → x ≡ get_or xs 0 x → y ≡ get_or xs 1 y → xs ≡ x ∷ y ∷ []
+two_parts [] x y l u e d = absurd (omega arith)
+two_parts (z ∷ []) x y l u e d = absurd (omega arith)
+two_parts (z ∷ w ∷ []) x y l u e d = ap (λ k. k ∷ w ∷ []) (sym e) ∙ ap (λ k. x ∷ k ∷ []) (sym d)
+two_parts (z ∷ w ∷ v ∷ xs) x y l u e d = absurd (omega arith)
+
+-- ---- faults that are not want of memory
+
+pub untyped : (scope : Scope) (t : Tree) (fault : CompileFault) → (fault ≢ f.Memory → Types scope t (Err fault)) → Untyped scope t fault
+untyped scope t (f.Unknown span) h = h (λ e. cc)
+untyped scope t (f.Twice span) h = h (λ e. cc)
+untyped scope t (f.WrongKind span) h = h (λ e. cc)
+untyped scope t (f.PlusLast span) h = h (λ e. cc)
+untyped scope t (f.LateReference span) h = h (λ e. cc)
+untyped scope t (f.TooWide span) h = h (λ e. cc)
+untyped scope t (f.BadWindow span) h = h (λ e. cc)
+untyped scope t (f.TooMany span) h = h (λ e. cc)
+untyped scope t f.Memory h = tt
+
+pub typed : (scope : Scope) (t : Tree) (fault : CompileFault) → fault ≢ f.Memory → Untyped scope t fault → Types scope t (Err fault)
+typed scope t (f.Unknown span) some h = h
+typed scope t (f.Twice span) some h = h
+typed scope t (f.WrongKind span) some h = h
+typed scope t (f.PlusLast span) some h = h
+typed scope t (f.LateReference span) some h = h
+typed scope t (f.TooWide span) some h = h
+typed scope t (f.BadWindow span) some h = h
+typed scope t (f.TooMany span) some h = h
+typed scope t f.Memory some h = absurd (some refl)
+
+pub refused_by : (verdict : Verdict) (fault : CompileFault) → fault ≢ f.Memory → Refused verdict fault → verdict ≡ Err fault
+refused_by verdict (f.Unknown span) some h = h
+refused_by verdict (f.Twice span) some h = h
+refused_by verdict (f.WrongKind span) some h = h
+refused_by verdict (f.PlusLast span) some h = h
+refused_by verdict (f.LateReference span) some h = h
+refused_by verdict (f.TooWide span) some h = h
+refused_by verdict (f.BadWindow span) some h = h
+refused_by verdict (f.TooMany span) some h = h
+refused_by verdict f.Memory some h = absurd (some refl)
+
+module _ (scope : Scope) (texts : List (List ℕ)) (t : Tree) where
+  -- ---- from verdicts and data to trees
+
+  made : (verdict : Verdict) (meant : Event → BoundEvents → Option Datum) (r : Result (Expr × Sort) CompileFault) → MadeAnswer verdict meant r
+      → Types scope t verdict → ((e : Event) (b : BoundEvents) (d : Datum) → meant e b ≡ Some d → Means scope texts e b t d) → ExprAnswer scope texts t r
+  made verdict meant (Ok p) h types means = record {
+    types = subst (Types scope t) h.sort types;
+    bounded = h.sound.bounded;
+    within = h.sound.within;
+    means = λ e b. means e b (comes_to p e b) (h.comes e b);
+  }
+  made verdict meant (Err fault) h types means = untyped scope t fault (λ some. subst (Types scope t) (refused_by verdict fault some h) types)
+
+  -- ---- constants
+
+  constant : (sort : Sort) (datum : Datum) (r : Result (Expr × Sort) CompileFault) → constant_sort (out-Tree t).node ≡ Some sort → constant_datum texts (out-Tree t).node ≡ Some datum
+      → MadeAnswer (Ok sort) (λ e b. Some datum) r → ExprAnswer scope texts t r
+  constant sort datum r one other h = made (Ok sort) (λ e b. Some datum) r h (ch.constant t sort (Ok sort) one refl) (λ e b d is. m.constant t d (other ∙ is))
+
+  pub whole_is : (x : ℕ) (r : Result (Expr × Sort) CompileFault) → (out-Tree t).node ≡ n.Whole x → NumberAnswer x 0 r → ExprAnswer scope texts t r
+  whole_is x r is h = constant _ _ r (ap constant_sort is) (ap (constant_datum texts) is) h
+
+  pub decimal_is : (x k : ℕ) (r : Result (Expr × Sort) CompileFault) → (out-Tree t).node ≡ n.Decimal x k → NumberAnswer x k r → ExprAnswer scope texts t r
+  decimal_is x k r is h = constant _ _ r (ap constant_sort is) (ap (constant_datum texts) is) h
+
+  pub literal_is : (x : List ℕ) (r : Result (Expr × Sort) CompileFault) → (out-Tree t).node ≡ n.Literal x → TextAnswer texts x r → ExprAnswer scope texts t r
+  literal_is x r is h = constant _ _ r (ap constant_sort is) (ap (constant_datum texts) is) h
+
+  -- ---- columns
+
+  own_there : (e : Event) (b : BoundEvents) (name : List ℕ) (place : ℕ) (column : Option QueryColumn) (d : Datum) → (out-Tree t).node ≡ n.Own name → column_place scope.columns name ≡ Some place
+      → slice_get scope.columns place ≡ column → column_datum column (column_of place e) ≡ Some d → Means scope texts e b t d
+  own_there e b name place None d is placed there h = absurd cc
+  own_there e b name place (Some column) d is placed there h = let same : d ≡ datum_of column.kind column.digits (column_of place e) = cc in m.own t name place column d is placed there same
+
+  own_placed : (e : Event) (b : BoundEvents) (name : List ℕ) (place : Option ℕ) (d : Datum) → (out-Tree t).node ≡ n.Own name → column_place scope.columns name ≡ place
+      → placed_datum scope.columns place (λ place. column_of place e) ≡ Some d → Means scope texts e b t d
+  own_placed e b name None d is placed h = absurd cc
+  own_placed e b name (Some place) d is placed h = own_there e b name place (slice_get scope.columns place) d is placed refl h
+
+  pub own_is : (name : List ℕ) (r : Result (Expr × Sort) CompileFault) → (out-Tree t).node ≡ n.Own name → MadeAnswer (own_sort scope (span_of t) name) (own_datum scope name) r → ExprAnswer scope texts t r
+  own_is name r is h = made (own_sort scope (span_of t) name) (own_datum scope name) r h (ch.own t name (own_sort scope (span_of t) name) is refl) (λ e b d same. own_placed e b name (column_place scope.columns name) d is refl same)
+
+  earlier_there : (e : Event) (b : BoundEvents) (bound name : List ℕ) (number place : ℕ) (column : Option QueryColumn) (d : Datum) → (out-Tree t).node ≡ n.Earlier bound name → name_place scope.names bound ≡ Some number
+      → column_place scope.columns name ≡ Some place → slice_get scope.columns place ≡ column → column_datum column (earlier_column (last_bound number b) place) ≡ Some d → Means scope texts e b t d
+  earlier_there e b bound name number place None d is named placed there h = absurd cc
+  earlier_there e b bound name number place (Some column) d is named placed there h =
+      let same : d ≡ datum_of column.kind column.digits (earlier_column (last_bound number b) place) = cc in
+      m.earlier t bound name number place column d is named placed there same
+
+  earlier_placed : (e : Event) (b : BoundEvents) (bound name : List ℕ) (number place : Option ℕ) (d : Datum) → (out-Tree t).node ≡ n.Earlier bound name → name_place scope.names bound ≡ number
+      → column_place scope.columns name ≡ place → bound_datum scope.columns number place b ≡ Some d → Means scope texts e b t d
+  earlier_placed e b bound name None place d is named placed h = absurd cc
+  earlier_placed e b bound name (Some number) None d is named placed h = absurd cc
+  earlier_placed e b bound name (Some number) (Some place) d is named placed h = earlier_there e b bound name number place (slice_get scope.columns place) d is named placed refl h
+
+  pub earlier_is : (bound name : List ℕ) (r : Result (Expr × Sort) CompileFault) → (out-Tree t).node ≡ n.Earlier bound name → MadeAnswer (earlier_sort scope (span_of t) bound name) (earlier_datum scope bound name) r → ExprAnswer scope texts t r
+  earlier_is bound name r is h =
+      made (earlier_sort scope (span_of t) bound name) (earlier_datum scope bound name) r h (ch.earlier t bound name (earlier_sort scope (span_of t) bound name) is refl)
+      (λ e b d same. earlier_placed e b bound name (name_place scope.names bound) (column_place scope.columns name) d is refl refl same)
+
+  -- ---- minus
+
+  pub minus_is : (part : Tree) (inner : Expr × Sort) (r : Result (Expr × Sort) CompileFault) → (out-Tree t).node ≡ n.Minus → (out-Tree t).parts ≡ part ∷ [] → ExprAnswer scope texts part (Ok inner)
+      → MadeAnswer (negative_sort (span_of t) inner.1) (λ e b. negative (comes_to inner e b)) r → ExprAnswer scope texts t r
+  minus_is part inner r is parts p h =
+      made (negative_sort (span_of t) inner.1) (λ e b. negative (comes_to inner e b)) r h (ch.minus t part (Ok inner.1) (negative_sort (span_of t) inner.1) is parts p.types refl)
+      (λ e b d same. m.minus t part (comes_to inner e b) d is parts (p.means e b) same)
+
+  pub minus_fault : (part : Tree) (fault : CompileFault) → (out-Tree t).node ≡ n.Minus → (out-Tree t).parts ≡ part ∷ [] → Untyped scope part fault → Untyped scope t fault
+  minus_fault part fault is parts p = untyped scope t fault (λ some. ch.minus t part (Err fault) (Err fault) is parts (typed scope part fault some p) refl)
+
+  -- ---- sums, differences and products
+
+  pub binary_is : (left right : Tree) (one other : Expr × Sort) (r : Result (Expr × Sort) CompileFault) → is_arithmetic (out-Tree t).node ≡ true → (out-Tree t).parts ≡ left ∷ right ∷ []
+      → ExprAnswer scope texts left (Ok one) → ExprAnswer scope texts right (Ok other)
+      → MadeAnswer (operator_sort (out-Tree t).node (span_of t) one.1 other.1) (λ e b. combined (out-Tree t).node (comes_to one e b) (comes_to other e b)) r → ExprAnswer scope texts t r
+  binary_is left right one other r is parts p q h =
+      made (operator_sort (out-Tree t).node (span_of t) one.1 other.1) (λ e b. combined (out-Tree t).node (comes_to one e b) (comes_to other e b)) r h
+      (ch.binary t left right (Ok one.1) (Ok other.1) (operator_sort (out-Tree t).node (span_of t) one.1 other.1) is parts p.types q.types refl)
+      (λ e b d same. m.binary t left right (comes_to one e b) (comes_to other e b) d parts (p.means e b) (q.means e b) same)
+
+  binary_types : (left right : Tree) (one other verdict : Verdict) → is_arithmetic (out-Tree t).node ≡ true → (out-Tree t).parts ≡ left ∷ right ∷ [] → Types scope left one → Types scope right other
+      → verdict ≡ binary_sort (out-Tree t).node (span_of t) one other → Types scope t verdict
+  binary_types left right one other verdict is parts p q e = ch.binary t left right one other verdict is parts p q e
+
+  binary_first : (left right : Tree) (l r : Result (Expr × Sort) CompileFault) (fault : CompileFault) → is_arithmetic (out-Tree t).node ≡ true → (out-Tree t).parts ≡ left ∷ right ∷ []
+      → ExprAnswer scope texts left l → ExprAnswer scope texts right r → fault ≢ f.Memory → FirstFault l r fault → Types scope t (Err fault)
+  binary_first left right (Ok one) (Ok other) fault is parts p q some h = absurd h
+  binary_first left right (Ok one) (Err found) fault is parts p q some h =
+      subst (λ x. Types scope t (Err x)) (sym h) (binary_types left right (Ok one.1) (Err found) (Err found) is parts p.types (typed scope right found (λ e. some (h ∙ e)) q) refl)
+  binary_first left right (Err found) (Ok other) fault is parts p q some h =
+      subst (λ x. Types scope t (Err x)) (sym h) (binary_types left right (Err found) (Ok other.1) (Err found) is parts (typed scope left found (λ e. some (h ∙ e)) p) q.types refl)
+  binary_first left right (Err found) (Err later) fault is parts p q some h =
+      subst (λ x. Types scope t (Err x)) (sym h.0) (binary_types left right (Err found) (Err later) (Err found) is parts (typed scope left found (λ e. some (h.0 ∙ e)) p) (typed scope right later h.1 q) refl)
+
+  pub binary_fault : (left right : Tree) (l r : Result (Expr × Sort) CompileFault) (fault : CompileFault) → is_arithmetic (out-Tree t).node ≡ true → (out-Tree t).parts ≡ left ∷ right ∷ []
+      → ExprAnswer scope texts left l → ExprAnswer scope texts right r → (fault ≢ f.Memory → FirstFault l r fault) → Untyped scope t fault
+  binary_fault left right l r fault is parts p q h = untyped scope t fault (λ some. binary_first left right l r fault is parts p q some (h some))

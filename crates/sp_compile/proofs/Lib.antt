@@ -1,0 +1,16 @@
+pub mod OneFault
+pub mod OneTruth
+pub mod Gathering
+pub mod Taken
+pub mod Defined
+pub mod WindowLimits
+pub mod LastElement
+pub mod Placed
+pub mod Limits
+mod Places
+mod Powers
+mod Expressions
+mod Predicates
+pub mod Naming
+pub mod Opened
+pub mod Staged

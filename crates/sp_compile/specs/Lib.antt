@@ -1,0 +1,12 @@
+pub mod Scopes
+pub mod Sorts
+pub mod Checks
+pub mod Meaning
+pub mod Stands
+pub mod Codes
+pub mod Answers
+pub mod Told
+pub mod Gathers
+pub mod Parts
+pub mod Naming
+pub mod Stages

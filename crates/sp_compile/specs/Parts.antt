@@ -1,0 +1,160 @@
+-- What the compiler's functions answer of the parts of an expression or a predicate.
+use Rattle.std.specs.Prelude.{◌≡◌, ◌≢◌, ℕ, ℤ, ◌+◌, ◌*◌, ◌^◌, ◌<◌, ◌≤◌, ◌+ℤ◌, ◌-ℤ◌, ◌*ℤ◌, pos, Bool, ◌&&◌, ◌||◌, List, Option, Some, None, Result, Ok, Err, slice_get, nat_le, if◌then◌else◌}
+use Rattle.sp_lex.specs.declared.token.Span.{Span}
+use Rattle.sp_plan.specs.declared.event.Event.{Event}
+use Rattle.sp_plan.specs.declared.plan.Expr.{Expr}
+use Rattle.sp_plan.specs.declared.plan.Pred.{Pred}
+use Rattle.sp_plan.specs.Bounds.{bound, greatest, StaysWithin, PredWithin}
+use Rattle.sp_plan.specs.Texts.{symbol_of}
+use Rattle.sp_plan.specs.Values.{BoundEvents, value, holds, column_of, earlier_column, last_bound}
+use Rattle.sp_syntax.specs.declared.query.Ident.{Ident}
+use Rattle.sp_syntax.specs.declared.query.QueryColumn.{QueryColumn}
+use Rattle.sp_syntax.specs.declared.tree.Node.{Node}
+use Rattle.sp_syntax.specs.declared.tree.Node.TheVariants as n
+use Rattle.sp_compile.specs.declared.fault.CompileFault.{CompileFault}
+use Rattle.sp_compile.specs.declared.fault.CompileFault.TheVariants as f
+use Rattle.sp_compile.specs.declared.sort.Sort.{Sort}
+use Rattle.sp_compile.specs.declared.sort.Sort.TheVariants as s
+use Rattle.sp_compile.specs.Scopes.{Scope, column_place, name_place}
+use Rattle.sp_compile.specs.Sorts.{Verdict, sum_sort}
+use Rattle.sp_compile.specs.Meaning.{Datum, number, text, datum_of, combined}
+use Rattle.sp_compile.specs.Answers.{datum, IsBounded}
+
+-- The name at this place is of this element.
+pub record IsPlaced (names : List (Ident × ℕ)) (place element : ℕ) : Type 0 where
+  pub name : Ident
+  pub at : slice_get names place ≡ Some (name, element)
+
+-- a bound, if no value may be greater
+abbrev pub within_limit : ℕ → Option ℕ
+within_limit n = if nat_le n greatest then Some n else None
+
+-- the bound of a sum of numbers of these bounds, if no value may be greater
+abbrev pub limit_of_sum : Option ℕ → Option ℕ → Option ℕ
+limit_of_sum (Some bound) (Some more) = within_limit (bound + more)
+limit_of_sum _ _ = None
+
+-- An expression that has this sort, and stays within bounds.
+pub record IsSound (p : Expr × Sort) : Type 0 where
+  pub bounded : IsBounded p.0 p.1
+  pub within : StaysWithin p.0
+
+-- what an expression of some sort comes to
+abbrev pub comes_to : Expr × Sort → Event → BoundEvents → Datum
+comes_to p event bound = datum p.1 (value p.0 event bound)
+
+-- An expression with the sort of this verdict, which comes to these data.
+pub record Made (verdict : Verdict) (meant : Event → BoundEvents → Option Datum) (p : Expr × Sort) : Type 0 where
+  pub sort : verdict ≡ Ok p.1
+  pub sound : IsSound p
+  pub comes : (event : Event) (bound : BoundEvents) → meant event bound ≡ Some (comes_to p event bound)
+
+-- the verdict is a fault; want of memory says nothing
+abbrev pub Refused : Verdict → CompileFault → Type 0
+Refused verdict f.Memory = Unit {0}
+Refused verdict fault = verdict ≡ Err fault
+
+-- such an expression, or the verdict's fault
+abbrev pub MadeAnswer : Verdict → (Event → BoundEvents → Option Datum) → Result (Expr × Sort) CompileFault → Type 0
+MadeAnswer verdict meant (Ok p) = Made verdict meant p
+MadeAnswer verdict meant (Err fault) = Refused verdict fault
+
+-- A number with more decimals.
+pub record IsRaised (expr : Expr) (by : ℕ) (raised : Expr) : Type 0 where
+  pub within : StaysWithin raised
+  pub bounded : bound raised ≡ bound expr * 10 ^ by
+  pub raises : (event : Event) (bound : BoundEvents) → value raised event bound ≡ value expr event bound *ℤ pos (10 ^ by)
+
+-- a number of this scale and this bound
+abbrev pub IsNumber : ℕ → ℕ → Sort → Type 0
+IsNumber scale most sort = (scale ≤ 36) × (sort ≡ s.Number scale most)
+
+-- a side of a comparison, raised; or one that may be too great
+abbrev pub SideAnswer : Span → Expr → ℕ → Result Expr CompileFault → Type 0
+SideAnswer span expr by (Ok raised) = (bound expr * 10 ^ by ≤ greatest) × IsRaised expr by raised
+SideAnswer span expr by (Err f.Memory) = Unit {0}
+SideAnswer span expr by (Err fault) = (greatest < bound expr * 10 ^ by) × (fault ≡ f.TooWide span)
+
+-- Two numbers at the greater of their scales, with the sort of their sum.
+pub record Aligned (span : Span) (left right : Expr × Sort) (one other : Expr) (all : Sort) : Type 0 where
+  pub sort : sum_sort span left.1 right.1 ≡ Ok all
+  pub scale : ℕ
+  pub number : IsNumber scale (bound one + bound other) all
+  pub within : bound one + bound other ≤ greatest
+  pub within_one : StaysWithin one
+  pub within_other : StaysWithin other
+  pub sums : (event : Event) (bound : BoundEvents) → combined n.Add (comes_to left event bound) (comes_to right event bound) ≡ Some (datum all (value one event bound +ℤ value other event bound))
+  pub differences : (event : Event) (bound : BoundEvents) → combined n.Sub (comes_to left event bound) (comes_to right event bound) ≡ Some (datum all (value one event bound -ℤ value other event bound))
+
+-- two such numbers, or the fault of their sum
+abbrev pub AlignedAnswer : Span → Expr × Sort → Expr × Sort → Result (Expr × Expr × Sort) CompileFault → Type 0
+AlignedAnswer span left right (Ok p) = Aligned span left right p.0 p.1 p.2
+AlignedAnswer span left right (Err fault) = Refused (sum_sort span left.1 right.1) fault
+
+-- A predicate without this fault, which holds exactly where this is true.
+pub record MadePred (fault : Option CompileFault) (meant : Event → BoundEvents → Option Bool) (pred : Pred) : Type 0 where
+  pub none : fault ≡ None
+  pub within : PredWithin pred
+  pub holds_as : (event : Event) (bound : BoundEvents) → meant event bound ≡ Some (holds pred event bound)
+
+-- the fault is this one; want of memory says nothing
+abbrev pub Found : Option CompileFault → CompileFault → Type 0
+Found found f.Memory = Unit {0}
+Found found fault = found ≡ Some fault
+
+-- such a predicate, or the fault
+abbrev pub MadePredAnswer : Option CompileFault → (Event → BoundEvents → Option Bool) → Result Pred CompileFault → Type 0
+MadePredAnswer found meant (Ok pred) = MadePred found meant pred
+MadePredAnswer found meant (Err fault) = Found found fault
+
+-- what a predicate of two others holds as
+abbrev pub joined : Node → Bool → Bool → Bool
+joined n.Or one other = one || other
+joined _ one other = one && other
+
+-- ---- numbers, texts and columns
+
+-- a number of the query, in units of its scale
+abbrev pub NumberAnswer : ℕ → ℕ → Result (Expr × Sort) CompileFault → Type 0
+NumberAnswer units scale result = MadeAnswer (Ok (s.Number scale units)) (λ event bound. Some (number (pos units) scale)) result
+
+-- a text of the query, by its number among the texts
+abbrev pub TextAnswer : List (List ℕ) → List ℕ → Result (Expr × Sort) CompileFault → Type 0
+TextAnswer texts t result = MadeAnswer (Ok s.Text) (λ event bound. Some (text (pos (symbol_of texts t)))) result
+
+-- what a column comes to, by what stands in it
+abbrev pub column_datum : Option QueryColumn → ℤ → Option Datum
+column_datum None value = None
+column_datum (Some column) value = Some (datum_of column.kind column.digits value)
+
+-- what a column that is at a place comes to, by what stands there
+abbrev pub placed_datum : List QueryColumn → Option ℕ → (ℕ → ℤ) → Option Datum
+placed_datum columns None at = None
+placed_datum columns (Some place) at = column_datum (slice_get columns place) (at place)
+
+-- what a column of the event at hand comes to
+abbrev pub own_datum : Scope → List ℕ → Event → BoundEvents → Option Datum
+own_datum scope t event bound = placed_datum scope.columns (column_place scope.columns t) (λ place. column_of place event)
+
+-- what a column of the last event that is bound to a name comes to, by the name's number and the column's place
+abbrev pub bound_datum : List QueryColumn → Option ℕ → Option ℕ → BoundEvents → Option Datum
+bound_datum columns None place bound = None
+bound_datum columns (Some name) place bound = placed_datum columns place (λ place. earlier_column (last_bound name bound) place)
+
+-- the same by the name and the column's name
+abbrev pub earlier_datum : Scope → List ℕ → List ℕ → Event → BoundEvents → Option Datum
+earlier_datum scope name t event bound = bound_datum scope.columns (name_place scope.names name) (column_place scope.columns t) bound
+
+-- ---- both sides of an operator
+
+-- the first fault of two sides, of which the other is not want of memory
+abbrev pub FirstFault : {A : Type 0} → Result A CompileFault → Result A CompileFault → CompileFault → Type 0
+FirstFault (Ok one) (Ok other) found = ⊥
+FirstFault (Ok one) (Err fault) found = found ≡ fault
+FirstFault (Err fault) (Ok other) found = found ≡ fault
+FirstFault (Err fault) (Err other) found = (found ≡ fault) × (other ≢ f.Memory)
+
+-- what both sides are, or a fault; want of memory says nothing
+abbrev pub BothAnswer : {A : Type 0} → Result A CompileFault → Result A CompileFault → Result (A × A) CompileFault → Type 0
+BothAnswer left right (Ok p) = (left ≡ Ok p.0) × (right ≡ Ok p.1)
+BothAnswer left right (Err fault) = fault ≢ f.Memory → FirstFault left right fault

@@ -1,0 +1,39 @@
+-- What the names of a query are: its columns, and the names of its pattern with their elements.
+use Rattle.std.specs.Prelude.{ℕ, suc, List, [], ◌∷◌, ◌++◌, map, Option}
+use Rattle.std.specs.List.{position}
+use Rattle.std.specs.Str.{bytes_eq}
+use Rattle.sp_syntax.specs.declared.query.Ident.{Ident}
+use Rattle.sp_syntax.specs.declared.query.Query.{Query}
+use Rattle.sp_syntax.specs.declared.query.QueryColumn.{QueryColumn}
+use Rattle.sp_syntax.specs.declared.query.QueryElement.{QueryElement}
+use Rattle.sp_syntax.specs.declared.query.QueryElement.TheVariants as e
+
+-- the names of an element
+abbrev pub names_in : QueryElement → List Ident
+names_in (e.One name) = name ∷ []
+names_in (e.Plus name span) = name ∷ []
+names_in (e.Set names) = names
+
+-- the names of these elements, each with the number of its element, the first of which has this one
+abbrev pub placed_names : ℕ → List QueryElement → List (Ident × ℕ)
+placed_names at [] = []
+placed_names at (element ∷ elements) = map (λ name. (name, at)) (names_in element) ++ placed_names (suc at) elements
+
+-- the names of the pattern, each with the number of its element from 0
+abbrev pub pattern_names : Query → List (Ident × ℕ)
+pattern_names query = placed_names 0 query.elements
+
+-- What a predicate may name: columns, and names of the pattern with their elements. Those of the elements before `here`
+-- are bound earlier; where there is no such element, none is.
+pub record Scope : Type 0 where
+  pub columns : List QueryColumn
+  pub names : List (Ident × ℕ)
+  pub here : Option ℕ
+
+-- the place of the first column of this name
+abbrev pub column_place : List QueryColumn → List ℕ → Option ℕ
+column_place columns text = position (λ column. bytes_eq column.name.text text) columns
+
+-- the place of the first name of the pattern with this text
+abbrev pub name_place : List (Ident × ℕ) → List ℕ → Option ℕ
+name_place names text = position (λ name. bytes_eq name.0.text text) names

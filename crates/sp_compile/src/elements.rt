@@ -1,0 +1,149 @@
+// The elements of a pattern and their names.
+ghost use Rattle.std.specs.Prelude.{◌≡◌, ◌≤◌, ◌+◌, [], length, map, None, IfOk};
+ghost use Rattle.std.specs.List.{last_or, list_any};
+ghost use Rattle.std.specs.Str.{bytes_eq};
+ghost use Rattle.sp_compile.specs.Checks as checks;
+ghost use Rattle.sp_compile.specs.Scopes as scopes;
+ghost use Rattle.sp_compile.specs.Stands as stands;
+
+use crate::CompileFault;
+use sp_plan::Element;
+use sp_syntax::{Ident, QueryElement};
+use std::alloc::{AllocError, Global};
+use std::marker::Model;
+
+/// How many names a pattern may have.
+const MOST_NAMES: usize = 32;
+
+/// A name of the pattern, and the number of its element from 0.
+#[derive(Drop)]
+pub(crate) struct Named<'a> {
+    pub(crate) name: &'a Ident,
+    pub(crate) element: usize,
+}
+
+impl<'a> Model for Named<'a> {
+    ghost use Rattle.std.specs.Prelude.{ℕ};
+    ghost use Rattle.sp_syntax.specs.declared.query.Ident.{Ident};
+
+    ghost Value = { Ident × ℕ };
+
+    ghost view = { λ named. (named.name.now, named.element) };
+}
+
+/// The names of an element.
+pub(crate) fn names_in(element: &QueryElement) -> &[Ident]
+    ensures { result.now ≡ scopes.names_in element.now }
+{
+    match element {
+        QueryElement::One(name) | QueryElement::Plus(name, _) => std::slice::from_ref(name),
+        QueryElement::Set(names) => names.as_slice(),
+    }
+}
+
+/// The names of the pattern, from the left.
+pub(crate) fn pattern_names<'a>(
+    alloc: Global,
+    elements: &'a [QueryElement],
+) -> Result<Vec<Named<'a>>, AllocError>
+    ensures { IfOk result (λ names. names.items ≡ scopes.placed_names 0 elements.now) }
+{
+    let mut names = Vec::new(alloc);
+    for (number, element) in elements.iter().enumerate() {
+        for name in names_in(element) {
+            names.push(Named {
+                name,
+                element: number,
+            })?;
+        }
+    }
+    Ok(names)
+}
+
+// Whether one of these names has the text.
+fn is_taken(before: &[Named], name: &Ident) -> bool
+    ensures { result ≡ list_any (λ other. bytes_eq name.now.text other.0.text) before.now }
+{
+    before
+        .iter()
+        .any(|other| name.text.as_str() == other.name.text.as_str())
+}
+
+// What is wrong with a name behind these.
+fn name_fault(before: &[Named], name: &Ident) -> Option<CompileFault>
+    ensures { result ≡ checks.name_fault (map (λ name. name.0.text) before.now) name.now }
+{
+    if before.len() >= MOST_NAMES {
+        Some(CompileFault::TooMany(name.span))
+    } else if is_taken(before, name) {
+        Some(CompileFault::Twice(name.span))
+    } else {
+        None
+    }
+}
+
+/// The first fault of the names, from the left.
+pub(crate) fn names_fault(names: &[Named]) -> Option<CompileFault>
+    ensures { result ≡ checks.names_fault [] names.now }
+{
+    for (at, named) in names.iter().enumerate() {
+        if let Some(fault) = name_fault(&names[..at], named.name) {
+            return Some(fault);
+        }
+    }
+    None
+}
+
+/// What is wrong with the last element: it is one event or more.
+#[tactic(auto, using(crate::proofs::LastElement::last_is))]
+pub(crate) fn last_fault(elements: &[QueryElement]) -> Option<CompileFault>
+    ensures { result ≡ checks.last_fault (last_or None elements.now) }
+{
+    match elements.last()? {
+        QueryElement::Plus(_, span) => Some(CompileFault::PlusLast(*span)),
+        QueryElement::One(_) | QueryElement::Set(_) => None,
+    }
+}
+
+// How many names an element has.
+fn width(element: &QueryElement) -> usize
+    ensures { result ≡ stands.width element.now }
+{
+    match element {
+        QueryElement::Set(names) => names.len(),
+        _ => 1,
+    }
+}
+
+// An element of the plan, of which the first name has this number.
+fn plan_element(first: usize, element: &QueryElement) -> Element
+    requires { first + stands.width element.now ≤ 32 }
+    ensures { result ≡ stands.plan_element first element.now }
+{
+    let first = first as u8;
+    match element {
+        QueryElement::One(_) => Element::One(first),
+        QueryElement::Plus(_, _) => Element::Plus(first),
+        QueryElement::Set(names) => Element::Set {
+            first,
+            count: names.len() as u8,
+        },
+    }
+}
+
+/// The elements of the plan.
+pub(crate) fn plan_elements(
+    alloc: Global,
+    elements: &[QueryElement],
+) -> Result<Vec<Element>, AllocError>
+    requires { length (scopes.placed_names 0 elements.now) ≤ 32 }
+    ensures { IfOk result (λ planned. planned.items ≡ stands.plan_elements 0 elements.now) }
+{
+    let mut planned = Vec::with_capacity(alloc, elements.len())?;
+    let mut first = 0;
+    for element in elements {
+        planned.push(plan_element(first, element))?;
+        first += width(element);
+    }
+    Ok(planned)
+}

@@ -1,0 +1,105 @@
+// Numbers, texts and columns of expressions, each with what it is.
+ghost use Rattle.std.specs.Prelude.{◌≡◌, ◌≤◌};
+ghost use Rattle.sp_lex.specs.declared.token.Word.TheVariants as w;
+ghost use Rattle.sp_compile.specs.Answers.{scope_in, IsNamed};
+ghost use Rattle.sp_compile.specs.Sorts as sorts;
+ghost use Rattle.sp_compile.specs.Parts.{MadeAnswer, NumberAnswer, TextAnswer, own_datum, earlier_datum};
+
+use crate::lookup::{column_place, name_place, text_number};
+use crate::scope::Scope;
+use crate::{CompileFault, Sort};
+use sp_plan::{Expr, Text};
+use sp_syntax::{QueryColumn, Span, Word};
+
+// The greatest magnitude of a number that a query or an event may have.
+const GREATEST_NUMBER: u64 = 1_000_000_000_000_000;
+
+// The most decimals that a query writes.
+const MOST_DIGITS: u8 = 6;
+
+// What a column is.
+fn column_sort(column: &QueryColumn) -> Sort
+    requires { column.now.kind ≡ w.Dec → column.now.digits ≤ 6 }
+    ensures { result ≡ sorts.column_sort column.now }
+{
+    let bound = u128::from(GREATEST_NUMBER);
+    match column.kind {
+        Word::Int => Sort::Number { scale: 0, bound },
+        Word::Dec => Sort::Number {
+            scale: column.digits as u8,
+            bound,
+        },
+        _ => Sort::Text,
+    }
+}
+
+// A number that stands in the query.
+pub(crate) fn number(units: u64, scale: u8) -> Result<(Expr, Sort), CompileFault>
+    ensures { NumberAnswer units scale result }
+{
+    // No text has such a number.
+    if units > GREATEST_NUMBER || scale > MOST_DIGITS {
+        return Err(CompileFault::Memory);
+    }
+    let sort = Sort::Number {
+        scale,
+        bound: u128::from(units),
+    };
+    Ok((Expr::Literal(units as i64), sort))
+}
+
+// A text that stands in the query.
+pub(crate) fn literal(texts: &[Text], text: &Text) -> Result<(Expr, Sort), CompileFault>
+    ensures { TextAnswer texts.now text.now result }
+{
+    match u32::try_from(text_number(texts, text)) {
+        Ok(symbol) => Ok((Expr::Word(symbol), Sort::Text)),
+        // No query has so many texts.
+        Err(_) => Err(CompileFault::Memory),
+    }
+}
+
+// A column of the event at hand.
+pub(crate) fn own(scope: &Scope, span: Span, text: &Text) -> Result<(Expr, Sort), CompileFault>
+    requires { IsNamed scope.now.query.now }
+    ensures { let names = scope_in scope.now.query.now scope.now.here in
+        MadeAnswer (sorts.own_sort names span text.now) (own_datum names text.now) result }
+{
+    let columns = scope.query.columns.as_slice();
+    match column_place(columns, text) {
+        Some(place) => Ok((Expr::Column(place as u16), column_sort(&columns[place]))),
+        None => Err(CompileFault::Unknown(span)),
+    }
+}
+
+// A column of the last event that is bound to an earlier name.
+pub(crate) fn earlier(
+    scope: &Scope,
+    span: Span,
+    name: &Text,
+    text: &Text,
+) -> Result<(Expr, Sort), CompileFault>
+    requires { IsNamed scope.now.query.now }
+    ensures { let names = scope_in scope.now.query.now scope.now.here in
+        MadeAnswer (sorts.earlier_sort names span name.now text.now)
+        (earlier_datum names name.now text.now) result }
+{
+    let Some(here) = scope.here else {
+        return Err(CompileFault::LateReference(span));
+    };
+    let Some((number, element)) = name_place(scope.query.elements.as_slice(), name) else {
+        return Err(CompileFault::Unknown(span));
+    };
+    let columns = scope.query.columns.as_slice();
+    let Some(place) = column_place(columns, text) else {
+        return Err(CompileFault::Unknown(span));
+    };
+    if element >= here {
+        return Err(CompileFault::LateReference(span));
+    }
+    let expr = Expr::Earlier {
+        name: number as u8,
+        column: place as u16,
+    };
+    Ok((expr, column_sort(&columns[place])))
+}

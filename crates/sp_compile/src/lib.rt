@@ -1,0 +1,28 @@
+//! From a query to its plan. In which order a query is checked stands in `specs/Checks.antt`, when a
+//! plan stands for a query in `specs/Stands.antt`.
+#![tactic(auto)]
+
+mod arithmetic;
+mod boxed;
+mod columns;
+mod comparison;
+mod compiling;
+mod consume;
+mod definitions;
+mod elements;
+mod expression;
+mod fault;
+mod law;
+mod leaf;
+mod lookup;
+mod opening;
+mod predicate;
+mod scope;
+mod sort;
+mod texts;
+mod window;
+
+pub use compiling::compile;
+pub use fault::CompileFault;
+pub use law::one_truth;
+pub use sort::Sort;

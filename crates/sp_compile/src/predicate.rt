@@ -1,0 +1,93 @@
+// From predicates of a query to those of its plan.
+ghost use Rattle.sp_compile.specs.Answers.{scope_in, IsNamed, PredAnswer};
+ghost use Rattle.sp_syntax.specs.declared.tree.Tree.{out-Tree};
+ghost use Rattle.sp_syntax.specs.declared.tree.Node.TheVariants as n;
+ghost use Rattle.std.specs.Prelude.{◌≡◌, ◌∷◌, [], true, not, Some, None};
+ghost use Rattle.sp_plan.specs.Bounds.{PredWithin};
+ghost use Rattle.sp_plan.specs.Values.{holds};
+ghost use Rattle.sp_compile.specs.Checks.{is_junction};
+ghost use Rattle.sp_compile.specs.Parts.{MadePredAnswer, joined};
+
+use crate::CompileFault;
+use crate::boxed::boxed;
+use crate::comparison::{Spans, comparison};
+use crate::expression::{both, expression};
+use crate::scope::Scope;
+use sp_plan::{Compare, Pred, Text};
+use sp_syntax::{Node, Tree};
+use std::alloc::Global;
+
+// The predicate of a comparison, or its first fault.
+fn test(
+    alloc: Global,
+    scope: &Scope,
+    texts: &[Text],
+    tree: &Tree,
+    by: Compare,
+    left: &Tree,
+    right: &Tree,
+) -> Result<Pred, CompileFault>
+    requires named { IsNamed scope.now.query.now }
+    requires node { (out-Tree tree.now).node ≡ n.Test by }
+    requires parts { (out-Tree tree.now).parts ≡ left.now ∷ right.now ∷ [] }
+    ensures { PredAnswer (scope_in scope.now.query.now scope.now.here) texts.now tree.now result }
+{
+    let spans = Spans {
+        whole: tree.span,
+        left: left.span,
+        right: right.span,
+    };
+    let left = expression(alloc, scope, texts, left);
+    let right = expression(alloc, scope, texts, right);
+    let (left, right) = both(left, right)?;
+    comparison(alloc, by, spans, left, right)
+}
+
+// Both of two predicates, or either.
+fn junction(alloc: Global, node: &Node, left: Pred, right: Pred) -> Result<Pred, CompileFault>
+    requires node { is_junction node.now ≡ true }
+    requires left { PredWithin left }
+    requires right { PredWithin right }
+    ensures { MadePredAnswer None
+        (λ event bound. Some (joined node.now (holds left event bound) (holds right event bound)))
+        result }
+{
+    let left = boxed(alloc, left)?;
+    let right = boxed(alloc, right)?;
+    match node {
+        Node::Or => Ok(Pred::Or(left, right)),
+        _ => Ok(Pred::And(left, right)),
+    }
+}
+
+// Not a predicate.
+fn negation(alloc: Global, inner: Pred) -> Result<Pred, CompileFault>
+    requires { PredWithin inner }
+    ensures { MadePredAnswer None (λ event bound. Some (not (holds inner event bound))) result }
+{
+    Ok(Pred::Not(boxed(alloc, inner)?))
+}
+
+// The predicate of a tree, or its first fault. The texts of the tree are among these.
+pub(crate) fn predicate(
+    alloc: Global,
+    scope: &Scope,
+    texts: &[Text],
+    tree: &Tree,
+) -> Result<Pred, CompileFault>
+    requires { IsNamed scope.now.query.now }
+    ensures { PredAnswer (scope_in scope.now.query.now scope.now.here) texts.now tree.now result }
+{
+    match (&tree.node, tree.parts.as_slice()) {
+        (Node::Test(by), [left, right]) => test(alloc, scope, texts, tree, *by, left, right),
+        (Node::And | Node::Or, [left, right]) => {
+            let left = predicate(alloc, scope, texts, left);
+            let right = predicate(alloc, scope, texts, right);
+            let (left, right) = both(left, right)?;
+            junction(alloc, &tree.node, left, right)
+        }
+        (Node::Not, [part]) => negation(alloc, predicate(alloc, scope, texts, part)?),
+        // No text has such a tree.
+        _ => Err(CompileFault::Memory),
+    }
+}

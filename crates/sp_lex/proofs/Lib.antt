@@ -1,0 +1,6 @@
+pub mod Tables
+pub mod Literals
+pub mod Longest
+pub mod Front
+pub mod Lexing
+pub mod Faults

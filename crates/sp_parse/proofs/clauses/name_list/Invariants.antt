@@ -1,0 +1,11 @@
+use Rattle.std.proofs.Common.{ℕ, length}
+use Rattle.sp_syntax.specs.Grammar.{Name}
+use Rattle.sp_parse.specs.Reads.{never}
+use Rattle.sp_parse.proofs.Forms.{Listing}
+use Rattle.sp_parse.proofs.clauses.name_list.Given as goal
+
+abbrev pub invariant-each : goal.invariant-each
+invariant-each l = (room : ℕ) → Listing (λ _. Name) never room l.tokens l.list l.rest
+
+abbrev pub decreases-each : goal.decreases-each
+decreases-each l = length l.rest

@@ -1,0 +1,88 @@
+use Rattle.std.proofs.Common.{[], ◌∷◌, sym, ◌∙◌, ap}
+use Rattle.sp_syntax.specs.Trees.{tree_at}
+use Rattle.sp_syntax.specs.Grammar.{kernel, both_hold, one_holds, joined, Atom, ConjOf, Pred}
+use Rattle.sp_syntax.specs.declared.mark.Mark.TheVariants as m
+use Rattle.sp_parse.specs.Follow.{after_sum, after_conj, after_pred}
+use Rattle.sp_parse.proofs.Nested as d
+use Rattle.sp_parse.proofs.Levels as l
+use Rattle.sp_parse.proofs.Forms as o
+use Rattle.sp_syntax.specs.declared.tree.Node.TheVariants as n
+use Rattle.sp_parse.proofs.Repeats as g
+use Rattle.sp_parse.proofs.Reading.{exit}
+use Rattle.sp_parse.proofs.Atoms as f
+use Rattle.sp_parse.proofs.predicate.+atom.Goals as goal
+
+pub squared-returns-in_err-rest : goal.squared-returns-in_err-rest
+squared-returns-in_err-rest t c = exit _ _ _ _ _ _ _ c.from_residual.ensures.1 (o.between_first_stops m.LeftSquare Pred m.RightSquare after_pred f.pred_some f.square_out c.args.room _ _ c.in_err-rest.ensures)
+
+pub squared-returns-in_err-tree : goal.squared-returns-in_err-tree
+squared-returns-in_err-tree t c = exit _ _ _ _ _ _ _ c.from_residual-in_err-tree.ensures.1 (o.between_stops m.LeftSquare Pred m.RightSquare after_pred f.pred_some f.square_out c.args.room _ _ _ c.in_ok-rest.ensures c.in_err-tree.ensures)
+
+pub squared-returns-in_err-rest-2 : goal.squared-returns-in_err-rest-2
+squared-returns-in_err-rest-2 t c = exit _ _ _ _ _ _ _ c.from_residual-in_err-rest-2.ensures.1 (o.between_last_stops m.LeftSquare Pred m.RightSquare after_pred f.pred_some f.square_out c.args.room _ _ _ _ _ c.in_ok-rest.ensures c.in_ok-tree.ensures c.in_err-rest-2.ensures)
+
+pub squared-returns : goal.squared-returns
+squared-returns t c = o.between_found m.LeftSquare Pred m.RightSquare after_pred f.pred_some f.square_out c.args.room _ _ _ _ _ c.in_ok-rest.ensures c.in_ok-tree.ensures c.in_ok-rest-2.ensures
+
+pub atom-returns-then-room-eq0 : goal.atom-returns-then-room-eq0
+atom-returns-then-room-eq0 t c = f.full_not _ _ c.if-room-eq0.true (sym c.begins.ensures ∙ c.if-begins.true)
+
+pub atom-returns-then-begins : goal.atom-returns-then-begins
+atom-returns-then-begins t c = f.denied_at _ _ _ c.args.room c.if-room-eq0.false (sym c.begins.ensures ∙ c.if-begins.true) c.denied.ensures
+
+pub atom-returns-then-room-eq0-2 : goal.atom-returns-then-room-eq0-2
+atom-returns-then-room-eq0-2 t c = f.full_square _ _ c.if-room-eq0-2.true (sym c.begins-2.ensures ∙ c.if-begins-2.true)
+
+pub atom-returns-then-begins-2 : goal.atom-returns-then-begins-2
+atom-returns-then-begins-2 t c = f.squared_at _ _ _ c.args.room c.if-room-eq0-2.false (sym c.begins-2.ensures ∙ c.if-begins-2.true) c.squared.ensures
+
+pub atom-returns : goal.atom-returns
+atom-returns t c = f.test_at _ _ _ c.args.room (sym c.begins.ensures ∙ c.if-begins.false) (sym c.begins-2.ensures ∙ c.if-begins-2.false) c.test.ensures
+
+pub denied-returns-in_err-rest : goal.denied-returns-in_err-rest
+denied-returns-in_err-rest t c = exit _ _ _ _ _ _ _ c.from_residual.ensures.1 (d.prefix_stops m.Not Atom after_sum f.atom_some (l.applied n.Not) c.args.room _ _ c.in_err-rest.ensures)
+
+pub denied-returns-in_err-part : goal.denied-returns-in_err-part
+denied-returns-in_err-part t c = exit _ _ _ _ _ _ _ c.from_residual-in_err-part.ensures.1 (d.prefix_stops_later m.Not Atom after_sum f.atom_some (l.applied n.Not) c.args.room _ _ _ c.in_ok-rest.ensures c.in_err-part.ensures)
+
+pub denied-returns : goal.denied-returns
+denied-returns t c = d.prefix_found m.Not Atom after_sum f.atom_some (l.applied n.Not) c.args.room _ _ _ _ _ c.in_ok-rest.ensures c.in_ok-part.ensures
+    (λ front e. c.in_ok-tree.ensures ∙ ap (tree_at n.Not (c.in_ok-part.part ∷ [])) (c.span_of.ensures front e))
+
+pub pred-returns-in_err-tree : goal.pred-returns-in_err-tree
+pred-returns-in_err-tree t c = exit _ _ _ _ _ _ _ c.from_residual.ensures.1
+    (g.start_stops (kernel one_holds) (λ n. ConjOf (Atom n)) joined after_conj f.one_apart c.args.room _ _ c.in_err-tree.ensures)
+
+pub pred-loop-node-init : goal.pred-loop-node-init
+pred-loop-node-init t c = g.starts (kernel one_holds) (λ n. ConjOf (Atom n)) joined after_conj f.one_apart c.args.room _ _ _ c.in_ok-tree.ensures
+
+pub pred-returns-in_err-right : goal.pred-returns-in_err-right
+pred-returns-in_err-right t c = exit _ _ _ _ _ _ _ c.from_residual-in_err-right.ensures.1
+    (g.step_stops (kernel one_holds) (λ n. ConjOf (Atom n)) joined after_conj f.one_apart c.args.room _ _ _ _ _ _ c.in-Some.ensures c.loop-node.invariant c.in_err-right.ensures)
+
+pub pred-loop-node-preserved : goal.pred-loop-node-preserved
+pred-loop-node-preserved t c =
+    let s = g.steps_on (kernel one_holds) (λ n. ConjOf (Atom n)) joined after_conj f.one_apart c.args.room _ _ _ _ _ _ _ c.in-Some.ensures c.loop-node.invariant c.in_ok-right.ensures in
+    s.goes _ (λ front e. c.in_ok-tree-2.ensures ∙ ap (tree_at c.in-Some.node (c.loop-node.tree ∷ c.in_ok-right.right ∷ [])) (c.span_of.ensures front e))
+
+pub pred-returns : goal.pred-returns
+pred-returns t c = g.group_ends (kernel one_holds) (λ n. ConjOf (Atom n)) joined after_conj f.one_apart c.args.room _ _ _ c.in_default.ensures c.loop-node.invariant
+
+pub conj-returns-in_err-tree : goal.conj-returns-in_err-tree
+conj-returns-in_err-tree t c = exit _ _ _ _ _ _ _ c.from_residual.ensures.1
+    (g.start_stops (kernel both_hold) Atom joined after_sum f.both_apart c.args.room _ _ c.in_err-tree.ensures)
+
+pub conj-loop-node-init : goal.conj-loop-node-init
+conj-loop-node-init t c = g.starts (kernel both_hold) Atom joined after_sum f.both_apart c.args.room _ _ _ c.in_ok-tree.ensures
+
+pub conj-returns-in_err-right : goal.conj-returns-in_err-right
+conj-returns-in_err-right t c = exit _ _ _ _ _ _ _ c.from_residual-in_err-right.ensures.1
+    (g.step_stops (kernel both_hold) Atom joined after_sum f.both_apart c.args.room _ _ _ _ _ _ c.in-Some.ensures c.loop-node.invariant c.in_err-right.ensures)
+
+pub conj-loop-node-preserved : goal.conj-loop-node-preserved
+conj-loop-node-preserved t c =
+    let s = g.steps_on (kernel both_hold) Atom joined after_sum f.both_apart c.args.room _ _ _ _ _ _ _ c.in-Some.ensures c.loop-node.invariant c.in_ok-right.ensures in
+    s.goes _ (λ front e. c.in_ok-tree-2.ensures ∙ ap (tree_at c.in-Some.node (c.loop-node.tree ∷ c.in_ok-right.right ∷ [])) (c.span_of.ensures front e))
+
+pub conj-returns : goal.conj-returns
+conj-returns t c = g.group_ends (kernel both_hold) Atom joined after_sum f.both_apart c.args.room _ _ _ c.in_default.ensures c.loop-node.invariant

@@ -1,0 +1,26 @@
+-- Which tokens may go on with a phrase that could end before them.
+use Rattle.std.specs.Prelude.{Bool}
+use Rattle.sp_lex.specs.declared.token.Token.{Token}
+use Rattle.sp_syntax.specs.declared.mark.Mark.TheVariants as m
+use Rattle.sp_syntax.specs.Grammar.{kernel, mark, times, plus, both_hold, one_holds}
+use Rattle.sp_parse.specs.Reads.{reads_as, among}
+
+-- a point, behind a name
+abbrev pub after_factor : Token → Bool
+after_factor = reads_as (kernel (mark m.Dot))
+
+abbrev pub after_term : Token → Bool
+after_term = among after_factor (reads_as (kernel times))
+
+abbrev pub after_sum : Token → Bool
+after_sum = among after_term (reads_as (kernel plus))
+
+abbrev pub after_conj : Token → Bool
+after_conj = among after_sum (reads_as (kernel both_hold))
+
+abbrev pub after_pred : Token → Bool
+after_pred = among after_conj (reads_as (kernel one_holds))
+
+-- behind definitions also a comma
+abbrev pub after_definitions : Token → Bool
+after_definitions = among after_pred (reads_as (kernel (mark m.Comma)))

@@ -1,0 +1,4 @@
+pub mod Reads
+pub mod Follow
+pub mod Parses
+pub mod Codes

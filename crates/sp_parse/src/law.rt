@@ -1,0 +1,9 @@
+// What holds of every text.
+ghost use Rattle.std.specs.Prelude.{◌≡◌, ℕ, List};
+ghost use Rattle.sp_syntax.specs.declared.query.Query.{Query};
+ghost use Rattle.sp_syntax.specs.Queries.{IsQuery};
+
+/// A text is at most one query.
+pub fn one_query()
+    ensures { (text : List ℕ) (query other : Query) → IsQuery text query → IsQuery text other → query ≡ other }
+{}

@@ -1,0 +1,104 @@
+// The pattern.
+ghost use Rattle.std.specs.Prelude.{◌≡◌, ℕ};
+ghost use Rattle.sp_syntax.specs.declared.mark.Mark.TheVariants as m;
+ghost use Rattle.sp_syntax.specs.Grammar as g;
+ghost use Rattle.sp_parse.specs.Reads.{Answers, among, heads, never, reads_as};
+
+use crate::columns::ident;
+use crate::stop::Stop;
+use crate::tokens::{begins, begins_name, behind, expect, span_of};
+use sp_syntax::{Ident, Mark, QueryElement, Token};
+use sqlite_items::Items;
+use std::alloc::Global;
+
+// name [ "+" ]
+fn single<'a>(alloc: Global, tokens: &'a [Token]) -> Result<(QueryElement, &'a [Token]), Stop>
+    ensures { (room : ℕ) → Answers (λ _. g.Single) (reads_as (g.kernel (g.mark m.Plus))) room tokens.now (λ p. (p.0, p.1.now)) result }
+{
+    let (name, rest) = ident(alloc, tokens)?;
+    match behind(rest, Mark::Plus) {
+        Some(after) => {
+            let span = span_of(tokens, after);
+            Ok((QueryElement::Plus(name, span), after))
+        }
+        None => Ok((QueryElement::One(name), rest)),
+    }
+}
+
+// name name { name }
+fn names<'a>(alloc: Global, tokens: &'a [Token]) -> Result<(Items<Ident>, &'a [Token]), Stop>
+    ensures { (room : ℕ) → Answers (λ _. g.Names) (among never (reads_as (g.kernel g.name))) room tokens.now (λ p. (p.0, p.1.now)) result }
+{
+    let mut list = Items::new(alloc);
+    let (first, rest) = ident(alloc, tokens)?;
+    list.push(first)?;
+    let (second, mut rest) = ident(alloc, rest)?;
+    list.push(second)?;
+    'each: while begins_name(rest) {
+        let (name, after) = ident(alloc, rest)?;
+        list.push(name)?;
+        rest = after;
+    }
+    Ok((list, rest))
+}
+
+// SET "(" name name { name } ")"
+fn set<'a>(alloc: Global, tokens: &'a [Token]) -> Result<(Items<Ident>, &'a [Token]), Stop>
+    ensures { (room : ℕ) → Answers (λ _. g.After m.Set (g.Between m.LeftRound g.Names m.RightRound)) never room tokens.now (λ p. (p.0, p.1.now)) result }
+{
+    let rest = expect(tokens, Mark::Set)?;
+    let rest = expect(rest, Mark::LeftRound)?;
+    let (list, rest) = names(alloc, rest)?;
+    let rest = expect(rest, Mark::RightRound)?;
+    Ok((list, rest))
+}
+
+// name [ "+" ] | SET "(" name name { name } ")"
+fn element<'a>(alloc: Global, tokens: &'a [Token]) -> Result<(QueryElement, &'a [Token]), Stop>
+    ensures { (room : ℕ) → Answers (λ _. g.Element) (reads_as (g.kernel (g.mark m.Plus))) room tokens.now (λ p. (p.0, p.1.now)) result }
+{
+    if begins(tokens, Mark::Set) {
+        let (names, rest) = set(alloc, tokens)?;
+        return Ok((QueryElement::Set(names), rest));
+    }
+    single(alloc, tokens)
+}
+
+// Whether a name or SET is first.
+fn begins_element(tokens: &[Token]) -> bool
+    ensures { result ≡ heads (among (reads_as (g.kernel g.name)) (reads_as (g.kernel (g.mark m.Set)))) tokens.now }
+{
+    begins_name(tokens) || begins(tokens, Mark::Set)
+}
+
+// element { element }
+fn element_row<'a>(
+    alloc: Global,
+    tokens: &'a [Token],
+) -> Result<(Items<QueryElement>, &'a [Token]), Stop>
+    ensures { (room : ℕ) → Answers (λ _. g.MoreOf (g.Alone g.Element) g.Element) (among (reads_as (g.kernel (g.mark m.Plus))) (among (reads_as (g.kernel g.name)) (reads_as (g.kernel (g.mark m.Set))))) room tokens.now (λ p. (p.0, p.1.now)) result }
+{
+    let mut list = Items::new(alloc);
+    let (first, mut rest) = element(alloc, tokens)?;
+    list.push(first)?;
+    'each: while begins_element(rest) {
+        let (element, after) = element(alloc, rest)?;
+        list.push(element)?;
+        rest = after;
+    }
+    Ok((list, rest))
+}
+
+// PATTERN "(" element { element } ")"
+pub(crate) fn elements<'a>(
+    alloc: Global,
+    tokens: &'a [Token],
+) -> Result<(Items<QueryElement>, &'a [Token]), Stop>
+    ensures { (room : ℕ) → Answers (λ _. g.Elements) never room tokens.now (λ p. (p.0, p.1.now)) result }
+{
+    let rest = expect(tokens, Mark::Pattern)?;
+    let rest = expect(rest, Mark::LeftRound)?;
+    let (list, rest) = element_row(alloc, rest)?;
+    let rest = expect(rest, Mark::RightRound)?;
+    Ok((list, rest))
+}

@@ -1,0 +1,98 @@
+// A whole query from tokens.
+ghost use Rattle.std.specs.Prelude.{◌≡◌, ℕ, IfOk, IfErr};
+ghost use Rattle.sp_syntax.specs.declared.mark.Mark.TheVariants as m;
+ghost use Rattle.sp_syntax.specs.declared.query.Query.{Query};
+ghost use Rattle.sp_syntax.specs.Grammar as g;
+ghost use Rattle.sp_syntax.specs.Phrase.{Optional};
+ghost use Rattle.sp_parse.specs.Follow.{after_definitions};
+ghost use Rattle.sp_parse.specs.Parses.{Halts, IsFrom};
+ghost use Rattle.sp_parse.specs.Reads.{Answers, among, never, reads_as};
+
+use crate::clauses::{consume, policy, within};
+use crate::columns::{columns, timed};
+use crate::definitions::{definitions, opening};
+use crate::pattern::elements;
+use crate::stop::Stop;
+use crate::tokens::begins;
+use sp_syntax::{Ident, Mark, Query, Token, Tree};
+use sqlite_items::Items;
+use std::alloc::Global;
+
+// [ TIME name ]
+fn time<'a>(alloc: Global, tokens: &'a [Token]) -> Result<(Option<Ident>, &'a [Token]), Stop>
+    ensures { (room : ℕ) → Answers (λ _. Optional g.Timed) (among (reads_as (g.kernel (g.mark m.Time))) never) room tokens.now (λ p. (p.0, p.1.now)) result }
+{
+    if !begins(tokens, Mark::Time) {
+        return Ok((None, tokens));
+    }
+    let (name, rest) = timed(alloc, tokens)?;
+    Ok((Some(name), rest))
+}
+
+// [ DEFINE define { "," define } ]
+fn defines<'a>(
+    alloc: Global,
+    tokens: &'a [Token],
+    room: usize,
+) -> Result<(Option<Items<(Ident, Tree)>>, &'a [Token]), Stop>
+    ensures { Answers (λ n. Optional (g.Definitions n)) (among (reads_as (g.kernel (g.mark m.Define))) after_definitions) room tokens.now (λ p. (p.0, p.1.now)) result }
+{
+    if !begins(tokens, Mark::Define) {
+        return Ok((None, tokens));
+    }
+    let (list, rest) = definitions(alloc, tokens, room)?;
+    Ok((Some(list), rest))
+}
+
+// The definitions, none where the clause is left out.
+fn listed(alloc: Global, list: Option<Items<(Ident, Tree)>>) -> Items<(Ident, Tree)>
+    ensures { result ≡ g.items list }
+{
+    match list {
+        Some(list) => list,
+        None => Items::new(alloc),
+    }
+}
+
+// The clauses of a query, one after another.
+pub(crate) fn query<'a>(
+    alloc: Global,
+    tokens: &'a [Token],
+    room: usize,
+) -> Result<(Query, &'a [Token]), Stop>
+    ensures { Answers g.Derives never room tokens.now (λ p. (p.0, p.1.now)) result }
+{
+    let (columns, rest) = columns(alloc, tokens)?;
+    let (time, rest) = time(alloc, rest)?;
+    let (elements, rest) = elements(alloc, rest)?;
+    let (defines, rest) = defines(alloc, rest, room)?;
+    let (length, rest) = within(alloc, rest)?;
+    let (opening, rest) = opening(alloc, rest, room)?;
+    let (select, rest) = policy(alloc, rest)?;
+    let (consume, rest) = consume(alloc, rest)?;
+    let query = Query {
+        columns,
+        time,
+        elements,
+        defines: listed(alloc, defines),
+        length,
+        opening,
+        select,
+        consume,
+    };
+    Ok((query, rest))
+}
+
+// The query that the tokens are.
+pub(crate) fn parse_tokens(alloc: Global, tokens: &[Token]) -> Result<Query, Stop>
+    ensures found { IfOk result (λ query. g.Derives 64 tokens.now query) }
+    ensures only { IfOk result (λ answer. (levels : ℕ) (query : Query) → g.Derives levels tokens.now query → query ≡ answer) }
+    ensures all { (query : Query) → g.Derives 64 tokens.now query → IsFrom query result }
+    ensures halts { IfErr result (λ stop. Halts tokens.now stop) }
+{
+    let (found, rest) = query(alloc, tokens, 64)?;
+    if !rest.is_empty() {
+        return Err(Stop::Unexpected(rest.len()));
+    }
+    Ok(found)
+}

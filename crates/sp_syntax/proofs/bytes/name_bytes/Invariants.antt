@@ -1,7 +1,0 @@
-use Rattle.std.proofs.Common.{◌≡◌, true, take}
-use Rattle.std.specs.List.{list_all}
-use Rattle.sp_syntax.specs.Spelling.{is_name_byte}
-use Rattle.sp_syntax.proofs.bytes.name_bytes.Given as goal
-
-abbrev pub invariant-loop-i : goal.invariant-loop-i
-invariant-loop-i l = list_all is_name_byte (take l.i l.text) ≡ true

@@ -1,9 +1,0 @@
-use Rattle.std.proofs.Common.{◌-◌, length}
-use Rattle.sp_syntax.proofs.Lexing.{Underway}
-use Rattle.sp_syntax.proofs.lexer.lex.Given as goal
-
-abbrev pub invariant-each : goal.invariant-each
-invariant-each l = Underway l.text (length l.text - length l.rest) l.rest l.tokens.items
-
-abbrev pub decreases-each : goal.decreases-each
-decreases-each l = length l.rest
