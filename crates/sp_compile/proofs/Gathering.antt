@@ -8,10 +8,12 @@ use Rattle.sp_syntax.specs.declared.tree.Node.TheVariants as n
 use Rattle.sp_compile.specs.Stands.{literal_of, Literals, none, some}
 use Rattle.sp_compile.specs.Gathers.{Gathers}
 
+-- texts of two lists, one after the other
 fold_append : (before some more : List (List ℕ)) → fold with_text before (some ++ more) ≡ fold with_text (fold with_text before some) more
 fold_append before [] more = refl
 fold_append before (text ∷ texts) more = fold_append (with_text before text) texts more
 
+-- the texts of trees, and of trees behind them
 append_literals : (trees more : List Tree) (texts others : List (List ℕ)) → Literals trees texts → Literals more others → Literals (trees ++ more) (texts ++ others)
 append_literals [] more _ others none d = d
 append_literals (_ ∷ _) more _ others (some t rest own these texts d e is) i =

@@ -3,6 +3,7 @@ use Rattle.std.proofs.Common.{◌≡◌, ◌-◌, ◌∙◌, List, [], ◌∷◌
 use Rattle.std.specs.Prelude.{Option}
 use Rattle.std.specs.List.{last_or, slice_get}
 
+-- the last of a list with a first item
 last_of : {X : Type 0} (o : Option X) (x : X) (xs : List X) → last_or o (x ∷ xs) ≡ slice_get (x ∷ xs) (length xs)
 last_of o x [] = refl
 last_of o x (y ∷ ys) = last_of (Some x) y ys

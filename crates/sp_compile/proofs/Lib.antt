@@ -2,12 +2,10 @@ pub mod OneFault
 pub mod OneTruth
 pub mod Gathering
 pub mod Taken
-pub mod Defined
 pub mod WindowLimits
 pub mod LastElement
 pub mod Placed
 pub mod Limits
-mod Places
 mod Powers
 mod Expressions
 mod Predicates

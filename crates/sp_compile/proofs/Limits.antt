@@ -20,12 +20,12 @@ use Rattle.sp_compile.specs.Sorts.{first}
 use Rattle.sp_compile.specs.Checks.{is_among, is_decimal, column_fault, columns_fault, name_fault, names_fault}
 
 -- where neither of two has a fault
-neither : (one other : Option CompileFault) → first one other ≡ None → (one ≡ None) × (other ≡ None)
+pub neither : (one other : Option CompileFault) → first one other ≡ None → (one ≡ None) × (other ≡ None)
 neither None other none = (refl, none)
 neither (Some fault) other none = absurd (cc none)
 
 -- a check that finds nothing is not true
-untrue : (b : Bool) (fault : CompileFault) (others : Option CompileFault) → (if b then Some fault else others) ≡ None → (b ≡ false) × (others ≡ None)
+pub untrue : (b : Bool) (fault : CompileFault) (others : Option CompileFault) → (if b then Some fault else others) ≡ None → (b ≡ false) × (others ≡ None)
 untrue true fault others none = absurd (cc none)
 untrue false fault others none = (refl, none)
 
@@ -82,9 +82,11 @@ module _ {X : Type 0} (name : X → List ℕ) (of_item : List (List ℕ) → X �
 
 -- ---- columns
 
-abbrev name_of : QueryColumn → List ℕ
+-- a column's name
+abbrev pub name_of : QueryColumn → List ℕ
 name_of column = column.name.text
 
+-- columns are checked so
 by_columns : FromLeft name_of column_fault columns_fault
 by_columns = record { some = λ before x xs. refl }
 
@@ -96,6 +98,7 @@ HasDigits column = column.kind ≡ w.Dec → (1 ≤ column.digits) × (column.di
 abbrev sound_digits : ℕ → Bool
 sound_digits digits = nat_le 1 digits && nat_le digits 6
 
+-- the digits behind DEC, where they are sound
 digits_within : (kind : Word) (digits : ℕ) → (is_decimal kind && not (sound_digits digits)) ≡ false → kind ≡ w.Dec → (1 ≤ digits) × (digits ≤ 6)
 digits_within kind digits fine is =
     let sound : not (sound_digits digits) ≡ false = ap (λ (k : Word). is_decimal k && not (sound_digits digits)) (sym is) ∙ fine in
@@ -124,12 +127,15 @@ columns_have_digits columns none = each_fine name_of column_fault columns_fault 
 
 -- ---- names of the pattern
 
-abbrev text_of : Ident × ℕ → List ℕ
+-- the text of a name of the pattern
+abbrev pub text_of : Ident × ℕ → List ℕ
 text_of name = name.0.text
 
+-- the fault of a name of the pattern, behind these
 abbrev name_fault_of : List (List ℕ) → Ident × ℕ → Option CompileFault
 name_fault_of before name = name_fault before name.0
 
+-- names of the pattern are checked so
 by_names : FromLeft text_of name_fault_of names_fault
 by_names = record { some = λ before x xs. refl }
 

@@ -29,6 +29,7 @@ kind n.And = 6
 kind n.Or = 6
 kind n.Not = 7
 
+-- of which kind the root of each sort of tree is
 pub constant_kind : (node : Node) (sort : Sort) → constant_sort node ≡ Some sort → kind node ≡ 0
 constant_kind (n.Whole x) sort e = refl
 constant_kind (n.Decimal units scale) sort e = refl
@@ -48,6 +49,7 @@ junction_kind _ e = absurd cc
 
 -- ---- sorts
 
+-- the kind of root that a derivation of a sort is of
 abbrev typed : {scope : Scope} {t : Tree} {a : Verdict} → Types scope t a → ℕ
 typed (constant _ _ _ _ _) = 0
 typed (own _ _ _ _ _) = 1
@@ -55,6 +57,7 @@ typed (earlier _ _ _ _ _ _) = 2
 typed (minus _ _ _ _ _ _ _ _) = 3
 typed (binary _ _ _ _ _ _ _ _ _ _ _) = 4
 
+-- it is the tree's
 typed_kind : (scope : Scope) (t : Tree) (a : Verdict) (d : Types scope t a) → kind (out-Tree t).node ≡ typed d
 typed_kind scope t a (constant _ sort _ e f) = constant_kind _ sort e
 typed_kind scope t a (own _ text _ e f) = ap kind e
@@ -62,6 +65,7 @@ typed_kind scope t a (earlier _ name text _ e f) = ap kind e
 typed_kind scope t a (minus _ part inner _ e f d g) = ap kind e
 typed_kind scope t a (binary _ left right one other _ e f d d' g) = arithmetic_kind _ e
 
+-- an expression has one sort, or one first fault
 pub one_sort : (scope : Scope) (t : Tree) (a b : Verdict) → Types scope t a → Types scope t b → a ≡ b
 one_sort scope t a b (constant _ sort _ e f) (constant _ sort' _ e' f') = cc
 one_sort scope t a b (own _ text _ e f) (own _ text' _ e' f') = cc
@@ -80,16 +84,19 @@ one_sort scope t a b d e = absurd (omega (arith, typed_kind scope t a d, typed_k
 
 -- ---- predicates
 
+-- the kind of root that a derivation of a predicate's fault is of
 abbrev tested : {scope : Scope} {t : Tree} {a : Option CompileFault} → Tests scope t a → ℕ
 tested (compared _ _ _ _ _ _ _ _ _ _ _ _) = 5
 tested (joined _ _ _ _ _ _ _ _ _ _ _) = 6
 tested (denied _ _ _ _ _ _) = 7
 
+-- it is the tree's
 tested_kind : (scope : Scope) (t : Tree) (a : Option CompileFault) (d : Tests scope t a) → kind (out-Tree t).node ≡ tested d
 tested_kind scope t a (compared _ left right by one other _ e f d d' g) = ap kind e
 tested_kind scope t a (joined _ left right one other _ e f d d' g) = junction_kind _ e
 tested_kind scope t a (denied _ part _ e f d) = ap kind e
 
+-- a predicate has one first fault, or none
 pub one_test : (scope : Scope) (t : Tree) (a b : Option CompileFault) → Tests scope t a → Tests scope t b → a ≡ b
 one_test scope t a b (compared _ left right by one other _ e f d i g) (compared _ left' right' by' one' other' _ e' f' d' i' g') =
     let same : left ≡ left' = cc in
@@ -114,6 +121,7 @@ one_test scope t a b d e = absurd (omega (arith, tested_kind scope t a d, tested
 abbrev pub IsOne : (Option CompileFault → Type 0) → Type 0
 IsOne P = (a b : Option CompileFault) → P a → P b → a ≡ b
 
+-- so have definitions, an opening, a check, and checks in a row
 one_defines : (query : Query) (before : List (List ℕ)) (defines : List (Ident × Tree)) → IsOne (Defines query before defines)
 one_defines query before [] _ _ (none _) (none _) = refl
 one_defines query before (_ ∷ _) _ _ (misnamed _ name pred rest fault e) (misnamed _ _ _ _ fault' e') = cc

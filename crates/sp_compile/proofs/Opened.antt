@@ -21,6 +21,7 @@ step_within step w.Time = tt
 step_within step _ = tt
 
 module _ (query : Query) (texts : List (List ℕ)) (step : ℕ) (unit : Word) (span : Span) (every : query.opening ≡ o.Every step unit span) where
+  -- the opening of a step without a fault
   step_passes : step_is_fine query.length.0 query.length.1 step unit ≡ true → OpeningPasses query texts (plan_step step unit)
   step_passes fine = record {
     checks = subst (λ opening. OpeningFault query opening None) (sym every) (ap (λ (b : Bool). if b then None else Some (f.BadWindow span)) (sym fine));

@@ -1,6 +1,6 @@
 -- The checks of a whole query, one part after the other, and the plan of all parts.
-use Rattle.std.proofs.Common.{◌≡◌, ℕ, suc, inl, inr, ◌≤◌, Bool, true, false, List, [], ◌∷◌, length, map, Option, Some, None, Result, Ok, Err, refl, sym, ◌∙◌, ap, subst}
-use Rattle.std.specs.Prelude.{IfOk, IfErr, if◌then◌else◌}
+use Rattle.std.proofs.Common.{◌≡◌, ℕ, suc, inl, inr, ◌≤◌, List, [], ◌∷◌, length, map, Option, Some, None, Result, Ok, Err, refl, sym, ◌∙◌, ap, subst}
+use Rattle.std.specs.Prelude.{IfOk, IfErr}
 use Rattle.std.specs.List.{last_or, range_with_len}
 use Rattle.std.proofs.lemmas.List.{length-map}
 use Rattle.sp_plan.specs.declared.plan.Name.{Name}
@@ -12,7 +12,7 @@ use Rattle.sp_syntax.specs.declared.query.Query.{Query}
 use Rattle.sp_compile.specs.declared.fault.CompileFault.{CompileFault}
 use Rattle.sp_compile.specs.declared.fault.CompileFault.TheVariants as f
 use Rattle.sp_compile.specs.Answers.{IsNamed}
-use Rattle.sp_compile.specs.Checks.{columns_fault, time_fault, names_fault, last_fault, elements_fault, Defines, length_is_fine, length_fault, OpeningFault, consume_fault, Then, stops, goes, Finds, Checks}
+use Rattle.sp_compile.specs.Checks.{columns_fault, time_fault, names_fault, last_fault, elements_fault, Defines, length_fault, OpeningFault, consume_fault, Then, stops, goes, Finds, Checks}
 use Rattle.sp_compile.specs.Gathers.{Gathers}
 use Rattle.sp_compile.specs.Naming.{AreNames, Misdefines}
 use Rattle.sp_compile.specs.Scopes.{pattern_names}
@@ -20,12 +20,12 @@ use Rattle.sp_compile.specs.Sorts.{first}
 use Rattle.sp_compile.specs.Stages.{NamesPass, OpeningPasses, Misopens}
 use Rattle.sp_compile.specs.Stands.{plan_column, time_place, plan_elements, plan_select, plan_length, all_trees, StandForNames, Stands}
 use Rattle.sp_compile.specs.Told.{IsPlanOf, Refuses, IsFound}
-use Rattle.sp_compile.proofs.Limits.{is_named}
-use Rattle.sp_compile.proofs.Naming.{first_none}
+use Rattle.sp_compile.proofs.Limits.{neither, is_named}
 use Rattle.sp_compile.proofs.OneFault.{one_fault}
 use Rattle.sp_compile.proofs.Placed.{numbers_in_order}
-use Rattle.sp_compile.proofs.WindowLimits.{length_keeps}
+use Rattle.sp_compile.proofs.WindowLimits.{length_keeps, fine_length}
 
+-- a fault that the checks find is told of the query
 refuses : (query : Query) (fault : CompileFault) → Checks query (Some fault) → Refuses query fault
 refuses query f.Memory d = tt
 refuses query _ d = d
@@ -57,11 +57,8 @@ module _ (query : Query) (listed : List (Ident × ℕ)) (named : NamesPass query
   after_names : (fault : Option CompileFault) → Then (Defines query [] query.defines) (Then (Finds (length_fault query)) (Then (OpeningFault query query.opening) (Finds (consume_fault query query.consume)))) fault → Checks query fault
   after_names fault d = goes fault (sym named.columns) (goes fault (sym named.time) (goes fault (sym named.elements) d))
 
-  pub no_name_fault : names_fault [] listed ≡ None
-  no_name_fault = ap (names_fault []) named.names ∙ (first_none (names_fault [] (pattern_names query)) (last_fault (last_or None query.elements)) named.elements).0
-
   pub names_known : IsNamed query
-  names_known = is_named query named.columns (first_none (names_fault [] (pattern_names query)) (last_fault (last_or None query.elements)) named.elements).0
+  names_known = is_named query named.columns (neither (names_fault [] (pattern_names query)) (last_fault (last_or None query.elements)) named.elements).0
 
   pub defines_refuse : (fault : CompileFault) → Misdefines query fault → Refuses query fault
   defines_refuse f.Memory d = tt
@@ -85,10 +82,7 @@ module _ (query : Query) (listed : List (Ident × ℕ)) (named : NamesPass query
 
 -- ---- the plan
 
-fine_length : (fine : Bool) (fault : CompileFault) → (if fine then None else Some fault) ≡ None → fine ≡ true
-fine_length true fault e = refl
-fine_length false fault e = absurd cc
-
+-- as many names of the plan as of the pattern
 as_many : (query : Query) (texts : List (List ℕ)) (names : List (Ident × ℕ)) (planned : List Name) → StandForNames query texts names planned → length planned ≡ length names
 as_many query texts [] [] s = refl
 as_many query texts [] (p ∷ planned) s = absurd s
@@ -109,6 +103,7 @@ module _ (query : Query) (listed : List (Ident × ℕ)) (texts : List (List ℕ)
     texts = texts;
   }
 
+  -- it stands for the query
   plan_stands : Gathers (all_trees query) [] texts → Stands plan_of query
   plan_stands gathers = record {
     columns = refl;
@@ -123,6 +118,7 @@ module _ (query : Query) (listed : List (Ident × ℕ)) (texts : List (List ℕ)
     opening = opens.stands;
   }
 
+  -- and keeps the limits
   plan_compiled : IsCompiled plan_of
   plan_compiled =
       let known = names_known query listed named in
@@ -134,7 +130,7 @@ module _ (query : Query) (listed : List (Ident × ℕ)) (texts : List (List ℕ)
         preds = names.within;
         opening = opens.within;
         windowed = record {
-          length_is = length_keeps query.time query.length.0 query.length.1 (fine_length (length_is_fine query.time query.length.0 query.length.1) (f.BadWindow query.length.2) fits);
+          length_is = length_keeps query.time query.length.0 query.length.1 (fine_length query fits);
           opening_is = opens.opens;
         };
       }

@@ -1,11 +1,12 @@
--- Names among the names of items.
-use Rattle.std.proofs.Common.{◌≡◌, ℕ, ◌<◌, Bool, false, ◌||◌, List, [], ◌∷◌, length, map, refl, ap, sym, ◌∙◌, arith}
-use Rattle.std.specs.Prelude.{nat_le}
-use Rattle.std.specs.List.{list_any}
+-- Names among the names of items, and their places.
+use Rattle.std.proofs.Common.{◌≡◌, ℕ, ◌<◌, ◌+◌, Some, Bool, true, false, cond, ◌||◌, List, [], ◌∷◌, length, map, refl, ap, sym, ◌∙◌, arith}
+use Rattle.std.specs.Prelude.{nat_le, Option, is_some}
+use Rattle.std.specs.List.{list_any, position, position_from}
 use Rattle.std.specs.Str.{bytes_eq}
 use Rattle.std.proofs.lemmas.Bool.Decides.{nat_tests, same_from_decides}
 use Rattle.std.proofs.lemmas.Slice.Eq.{bytes_eq-Decides}
 use Rattle.std.proofs.lemmas.List.{length-map}
+use Rattle.std.proofs.lemmas.Iterator.Adapters.{position_from-zero}
 use Rattle.sp_compile.specs.Checks.{is_among}
 
 -- a test of what items have, by their list
@@ -25,6 +26,20 @@ bytes_eq_turned xs ys =
     let back = bytes_eq-Decides ys xs in
     same_from_decides (bytes_eq xs ys) (bytes_eq ys xs) there (λ e. sym (back.0 e), λ e. back.1 (sym e))
 
+-- a place, or another one
+either_place : (b : Bool) (i : ℕ) (other : Option ℕ) → is_some (cond b (Some i) other) ≡ (b || is_some other)
+either_place true i other = refl
+either_place false i other = refl
+
+-- there is a place from some number on where an item passes the test
+found_from : {X : Type 0} (p : X → Bool) (xs : List X) (i : ℕ) → is_some (position_from p i xs) ≡ list_any p xs
+found_from p [] i = refl
+found_from p (x ∷ xs) i = either_place (p x) i (position_from p (i + 1) xs) ∙ ap (λ (b : Bool). p x || b) (found_from p xs (i + 1))
+
+-- there is a place where an item passes the test
+found : {X : Type 0} (p : X → Bool) (xs : List X) → is_some (position p xs) ≡ list_any p xs
+found p xs = ap is_some (position_from-zero p xs) ∙ found_from p xs 0
+
 module _ {X : Type 0} (name : X → List ℕ) (xs : List X) where
   -- whether a text is among the names of items
   pub among_names : (text : List ℕ) → list_any (λ x. bytes_eq text (name x)) xs ≡ is_among (map name xs) text
@@ -33,6 +48,10 @@ module _ {X : Type 0} (name : X → List ℕ) (xs : List X) where
   -- the same, with the items' names first
   pub among_names_first : (text : List ℕ) → list_any (λ x. bytes_eq (name x) text) xs ≡ is_among (map name xs) text
   among_names_first text = any_alike (λ x. bytes_eq (name x) text) (λ x. bytes_eq text (name x)) (λ x. bytes_eq_turned (name x) text) xs ∙ among_names text
+
+  -- whether there is a place of a text, by the names of items
+  pub place_among : (text : List ℕ) → is_some (position (λ x. bytes_eq (name x) text) xs) ≡ is_among (map name xs) text
+  place_among text = found (λ x. bytes_eq (name x) text) xs ∙ among_names_first text
 
   -- fewer items than a limit have fewer names
   pub few_names : (most : ℕ) → length xs < most → nat_le most (length (map name xs)) ≡ false

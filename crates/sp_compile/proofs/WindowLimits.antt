@@ -1,16 +1,16 @@
 -- The numbers of windows keep their limits.
 use Rattle.std.proofs.Common.{◌≡◌, ℕ, ◌+◌, ◌-◌, ◌/◌, ◌%◌, ◌<◌, ◌≤◌, min, Bool, true, false, Some, None, refl, arith}
-use Rattle.std.specs.Prelude.{Option, nat_le, is_some, ◌&&◌, if◌then◌else◌}
+use Rattle.std.specs.Prelude.{Option, nat_le, is_some, if◌then◌else◌}
 use Rattle.std.proofs.lemmas.Int.{ints}
 use Rattle.std.proofs.lemmas.Nat.{div_below, le-div}
 use Rattle.std.proofs.lemmas.Grind.{div_ceil_times}
 use Rattle.std.proofs.lemmas.Bool.Decides.{nat_tests}
+use Rattle.std.proofs.lemmas.Bool.{and_parts}
 use Rattle.sp_lex.specs.declared.token.Word.{Word}
 use Rattle.sp_lex.specs.declared.token.Word.TheVariants as w
 use Rattle.sp_plan.specs.Windows.{windows_per_event, IsLength, IsOpening}
 use Rattle.sp_syntax.specs.declared.query.Ident.{Ident}
 use Rattle.sp_syntax.specs.declared.query.Query.{Query}
-use Rattle.sp_lex.specs.declared.token.Span.{Span}
 use Rattle.sp_compile.specs.declared.fault.CompileFault.{CompileFault}
 use Rattle.sp_compile.specs.declared.fault.CompileFault.TheVariants as f
 use Rattle.sp_compile.specs.Checks.{is_within, length_is_fine, length_fault, step_is_fine}
@@ -28,16 +28,6 @@ rounded_up size step some =
 within_limits : (number limit : ℕ) → is_within number limit ≡ true → (0 < number) × (number ≤ limit)
 within_limits number limit is = (grind (arith, nat_tests), grind (arith, nat_tests))
 
--- the second of two that are true
-second : (a b : Bool) → (a && b) ≡ true → b ≡ true
-second true b both = both
-second false b both = absurd (cc both)
-
--- the first of two that are true
-first_of : (a b : Bool) → (a && b) ≡ true → a ≡ true
-first_of true b both = refl
-first_of false b both = absurd (cc both)
-
 -- a check that finds nothing
 true_where : (fine : Bool) (fault : CompileFault) → (if fine then None else Some fault) ≡ None → fine ≡ true
 true_where true fault none = refl
@@ -46,7 +36,7 @@ true_where false fault none = absurd (cc none)
 -- a length that has no fault
 pub length_keeps : (time : Option Ident) (number : ℕ) (unit : Word) → length_is_fine time number unit ≡ true → IsLength (plan_length number unit)
 length_keeps time number w.Time fine =
-    let limits = within_limits number 1000000000000000 (second (is_some time) (is_within number 1000000000000000) fine) in
+    let limits = within_limits number 1000000000000000 ((and_parts (is_some time) (is_within number 1000000000000000) fine).1) in
     (omega (arith, ints, limits.0), omega (arith, ints, limits.1))
 length_keeps time number _ fine = within_limits number 65536 fine
 
@@ -61,25 +51,12 @@ few size step is = grind (arith, nat_tests)
 -- a step that has none, with a length
 pub step_keeps : (size : ℕ) (of : Word) (step : ℕ) (unit : Word) → step_is_fine size of step unit ≡ true → IsOpening (plan_length size of) (plan_step step unit)
 step_keeps size w.Time step w.Time fine =
-    let limits = within_limits step 1000000000000000 (first_of (is_within step 1000000000000000) (nat_le (windows_per_event size step) 64) fine) in
-    (omega (arith, ints, limits.0), omega (arith, ints, limits.1), few size step (second (is_within step 1000000000000000) (nat_le (windows_per_event size step) 64) fine))
+    let both = and_parts (is_within step 1000000000000000) (nat_le (windows_per_event size step) 64) fine in
+    let limits = within_limits step 1000000000000000 both.0 in
+    (omega (arith, ints, limits.0), omega (arith, ints, limits.1), few size step both.1)
 step_keeps size _ step w.Time fine = absurd (cc fine)
 step_keeps size w.Time step _ fine = within_limits step 1048576 fine
 step_keeps size _ step _ fine =
-    let limits = within_limits step 1048576 (first_of (is_within step 1048576) (nat_le (windows_per_event size step) 64) fine) in
-    (limits.0, limits.1, few size step (second (is_within step 1048576) (nat_le (windows_per_event size step) 64) fine))
-
--- the step of a query that has no fault there
-pub fine_step : (query : Query) (step : ℕ) (unit : Word) (span : Span) → (if step_is_fine query.length.0 query.length.1 step unit then None else Some (f.BadWindow span)) ≡ None → step_is_fine query.length.0 query.length.1 step unit ≡ true
-fine_step query step unit span none = true_where (step_is_fine query.length.0 query.length.1 step unit) (f.BadWindow span) none
-
--- and its number fits
-pub step_fits : (size : ℕ) (of : Word) (step : ℕ) (unit : Word) → step_is_fine size of step unit ≡ true → (unit ≡ w.Time → step ≤ 1000000000000000) × ((unit ≡ w.Time → ⊥) → step ≤ 1048576)
-step_fits size w.Time step w.Time fine =
-    let limits = within_limits step 1000000000000000 (first_of (is_within step 1000000000000000) (nat_le (windows_per_event size step) 64) fine) in
-    (λ is. limits.1, λ other. absurd (other refl))
-step_fits size _ step w.Time fine = absurd (cc fine)
-step_fits size w.Time step _ fine = (λ is. absurd (cc is), λ other. (within_limits step 1048576 fine).1)
-step_fits size _ step _ fine =
-    let limits = within_limits step 1048576 (first_of (is_within step 1048576) (nat_le (windows_per_event size step) 64) fine) in
-    (λ is. absurd (cc is), λ other. limits.1)
+    let both = and_parts (is_within step 1048576) (nat_le (windows_per_event size step) 64) fine in
+    let limits = within_limits step 1048576 both.0 in
+    (limits.0, limits.1, few size step both.1)

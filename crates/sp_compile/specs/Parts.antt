@@ -7,7 +7,6 @@ use Rattle.sp_plan.specs.declared.plan.Pred.{Pred}
 use Rattle.sp_plan.specs.Bounds.{bound, greatest, StaysWithin, PredWithin}
 use Rattle.sp_plan.specs.Texts.{symbol_of}
 use Rattle.sp_plan.specs.Values.{BoundEvents, value, holds, column_of, earlier_column, last_bound}
-use Rattle.sp_syntax.specs.declared.query.Ident.{Ident}
 use Rattle.sp_syntax.specs.declared.query.QueryColumn.{QueryColumn}
 use Rattle.sp_syntax.specs.declared.tree.Node.{Node}
 use Rattle.sp_syntax.specs.declared.tree.Node.TheVariants as n
@@ -19,11 +18,6 @@ use Rattle.sp_compile.specs.Scopes.{Scope, column_place, name_place}
 use Rattle.sp_compile.specs.Sorts.{Verdict, sum_sort}
 use Rattle.sp_compile.specs.Meaning.{Datum, number, text, datum_of, combined}
 use Rattle.sp_compile.specs.Answers.{datum, IsBounded}
-
--- The name at this place is of this element.
-pub record IsPlaced (names : List (Ident × ℕ)) (place element : ℕ) : Type 0 where
-  pub name : Ident
-  pub at : slice_get names place ≡ Some (name, element)
 
 -- a bound, if no value may be greater
 abbrev pub within_limit : ℕ → Option ℕ

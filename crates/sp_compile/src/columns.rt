@@ -1,14 +1,13 @@
 // The columns of a query, and those of its plan.
 ghost use Rattle.std.specs.Prelude.{◌≡◌, ◌≤◌, ◌&&◌, [], length, map, nat_le, not, IfOk};
-ghost use Rattle.std.specs.List.{All, list_any};
-ghost use Rattle.std.specs.Str.{bytes_eq};
+ghost use Rattle.std.specs.List.{All};
 ghost use Rattle.sp_lex.specs.declared.token.Word.TheVariants as w;
 ghost use Rattle.sp_compile.specs.Answers.{IsNamed};
 ghost use Rattle.sp_compile.specs.Checks as checks;
-ghost use Rattle.sp_compile.specs.Scopes as scopes;
 ghost use Rattle.sp_compile.specs.Stands as stands;
 
 use crate::CompileFault;
+use crate::lookup::column_place;
 use sp_plan::{Column, Kind, Listed, Schema, Text};
 use sp_syntax::{Ident, Query, QueryColumn, Word};
 use std::alloc::{AllocError, Global};
@@ -18,15 +17,6 @@ const MOST_COLUMNS: usize = 64;
 
 /// How many digits may follow DEC.
 const MOST_DIGITS: u64 = 6;
-
-// Whether one of these columns has the name.
-fn is_taken(before: &[QueryColumn], name: &Ident) -> bool
-    ensures { result ≡ list_any (λ column. bytes_eq name.now.text column.name.text) before.now }
-{
-    before
-        .iter()
-        .any(|column| name.text.as_str() == column.name.text.as_str())
-}
 
 // Whether the kind has digits behind it that it may not have.
 fn has_wrong_digits(column: &QueryColumn) -> bool
@@ -41,7 +31,7 @@ fn column_fault(before: &[QueryColumn], column: &QueryColumn) -> Option<CompileF
 {
     if before.len() >= MOST_COLUMNS {
         Some(CompileFault::TooMany(column.name.span))
-    } else if is_taken(before, &column.name) {
+    } else if column_place(before, &column.name.text).is_some() {
         Some(CompileFault::Twice(column.name.span))
     } else if has_wrong_digits(column) {
         Some(CompileFault::WrongKind(column.span))
@@ -60,15 +50,6 @@ pub(crate) fn columns_fault(columns: &[QueryColumn]) -> Option<CompileFault>
         }
     }
     None
-}
-
-/// The place of the first column of this name.
-pub(crate) fn column_place(columns: &[QueryColumn], text: &Text) -> Option<usize>
-    ensures { result ≡ scopes.column_place columns.now text.now }
-{
-    columns
-        .iter()
-        .position(|column| column.name.text.as_str() == text.as_str())
 }
 
 /// What is wrong with the column of the time: there is none of its name, or it is not of whole numbers.

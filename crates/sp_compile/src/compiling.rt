@@ -84,11 +84,11 @@ fn planned(alloc: Global, query: &Query, names: &[Named]) -> Result<Plan, Compil
     ensures refused { IfErr result (λ fault. Refuses query.now fault) }
 {
     let texts = texts(alloc, query)?;
-    let names = definitions(alloc, query, names, &texts)?;
+    let planned = definitions(alloc, query, names, &texts)?;
     pass(length_fault(query))?;
-    let opening = opening(alloc, query, &texts)?;
-    pass(consume_fault(query))?;
-    Ok(joined(alloc, query, names, opening, texts)?)
+    let opening = opening(alloc, query, names, &texts)?;
+    pass(consume_fault(query, names))?;
+    Ok(joined(alloc, query, planned, opening, texts)?)
 }
 
 /// The plan of a query that a text has, or the query's first fault, in the order of the checks. Want of

@@ -14,20 +14,12 @@ ghost use Rattle.sp_compile.specs.Stands as stands;
 use crate::CompileFault;
 use crate::consume::is_consumed;
 use crate::elements::Named;
+use crate::lookup::given_place;
 use crate::predicate::predicate;
 use crate::scope::Scope;
 use sp_plan::{Listed, Memory, Name, Pred, Text};
 use sp_syntax::{Ident, Query, Tree};
 use std::alloc::Global;
-
-// The place of the first name of the pattern with this text.
-fn name_place(names: &[Named], text: &Text) -> Option<usize>
-    ensures { result ≡ scopes.name_place names.now text.now }
-{
-    names
-        .iter()
-        .position(|named| named.name.text.as_str() == text.as_str())
-}
 
 // Whether one of these definitions is of a name with the text.
 fn is_defined(before: &[(Ident, Tree)], text: &Text) -> bool
@@ -46,11 +38,7 @@ fn defined_place(
 ) -> Result<usize, CompileFault>
     ensures { PlaceAnswer names.now (map (λ define. define.0.text) before.now) name.now result }
 {
-    match name_place(names, &name.text) {
-        None => Err(CompileFault::Unknown(name.span)),
-        Some(_) if is_defined(before, &name.text) => Err(CompileFault::Twice(name.span)),
-        Some(place) => Ok(place),
-    }
+    given_place(names, name, is_defined(before, &name.text))
 }
 
 // A name of the plan without a definition.
@@ -80,15 +68,18 @@ fn undefined_names(alloc: Global, query: &Query, names: &[Named]) -> Result<Vec<
 fn defined_pred(
     alloc: Global,
     query: &Query,
+    names: &[Named],
     texts: &[Text],
     named: &Named,
     tree: &Tree,
 ) -> Result<Pred, CompileFault>
-    requires { IsNamed query.now }
+    requires named { IsNamed query.now }
+    requires names { names.now ≡ scopes.pattern_names query.now }
     ensures { PredAnswer (scope_in query.now (Some named.now.1)) texts.now tree.now result }
 {
     let scope = Scope {
         query,
+        names,
         here: Some(named.element),
     };
     predicate(alloc, &scope, texts, tree)
@@ -119,7 +110,7 @@ pub(crate) fn definitions(
     let defines = query.defines.as_slice();
     for (at, define) in defines.iter().enumerate() {
         let place = defined_place(names, &defines[..at], &define.0)?;
-        let pred = defined_pred(alloc, query, texts, &names[place], &define.1)?;
+        let pred = defined_pred(alloc, query, names, texts, &names[place], &define.1)?;
         set_pred(&mut planned, place, pred);
     }
     Ok(Listed::of(planned))

@@ -1,12 +1,12 @@
 // The elements of a pattern and their names.
 ghost use Rattle.std.specs.Prelude.{◌≡◌, ◌≤◌, ◌+◌, [], length, map, None, IfOk};
-ghost use Rattle.std.specs.List.{last_or, list_any};
-ghost use Rattle.std.specs.Str.{bytes_eq};
+ghost use Rattle.std.specs.List.{last_or};
 ghost use Rattle.sp_compile.specs.Checks as checks;
 ghost use Rattle.sp_compile.specs.Scopes as scopes;
 ghost use Rattle.sp_compile.specs.Stands as stands;
 
 use crate::CompileFault;
+use crate::lookup::name_place;
 use sp_plan::Element;
 use sp_syntax::{Ident, QueryElement};
 use std::alloc::{AllocError, Global};
@@ -60,22 +60,13 @@ pub(crate) fn pattern_names<'a>(
     Ok(names)
 }
 
-// Whether one of these names has the text.
-fn is_taken(before: &[Named], name: &Ident) -> bool
-    ensures { result ≡ list_any (λ other. bytes_eq name.now.text other.0.text) before.now }
-{
-    before
-        .iter()
-        .any(|other| name.text.as_str() == other.name.text.as_str())
-}
-
 // What is wrong with a name behind these.
 fn name_fault(before: &[Named], name: &Ident) -> Option<CompileFault>
     ensures { result ≡ checks.name_fault (map (λ name. name.0.text) before.now) name.now }
 {
     if before.len() >= MOST_NAMES {
         Some(CompileFault::TooMany(name.span))
-    } else if is_taken(before, name) {
+    } else if name_place(before, &name.text).is_some() {
         Some(CompileFault::Twice(name.span))
     } else {
         None

@@ -1,5 +1,7 @@
 // From expressions of a query to those of its plan, each with what it is.
+ghost use Rattle.std.specs.Prelude.{◌≡◌};
 ghost use Rattle.sp_compile.specs.Answers.{scope_in, IsNamed, ExprAnswer};
+ghost use Rattle.sp_compile.specs.Scopes.{pattern_names};
 ghost use Rattle.sp_compile.specs.Parts.{BothAnswer};
 
 use crate::arithmetic::{arithmetic, minus};
@@ -34,7 +36,8 @@ pub(crate) fn expression(
     texts: &[Text],
     tree: &Tree,
 ) -> Result<(Expr, Sort), CompileFault>
-    requires { IsNamed scope.now.query.now }
+    requires named { IsNamed scope.now.query.now }
+    requires names { scope.now.names.now ≡ pattern_names scope.now.query.now }
     ensures { ExprAnswer (scope_in scope.now.query.now scope.now.here) texts.now tree.now result }
 {
     match (&tree.node, tree.parts.as_slice()) {

@@ -2,6 +2,7 @@
 ghost use Rattle.std.specs.Prelude.{◌≡◌, ◌≤◌};
 ghost use Rattle.sp_lex.specs.declared.token.Word.TheVariants as w;
 ghost use Rattle.sp_compile.specs.Answers.{scope_in, IsNamed};
+ghost use Rattle.sp_compile.specs.Scopes.{pattern_names};
 ghost use Rattle.sp_compile.specs.Sorts as sorts;
 ghost use Rattle.sp_compile.specs.Parts.{MadeAnswer, NumberAnswer, TextAnswer, own_datum, earlier_datum};
 
@@ -79,7 +80,8 @@ pub(crate) fn earlier(
     name: &Text,
     text: &Text,
 ) -> Result<(Expr, Sort), CompileFault>
-    requires { IsNamed scope.now.query.now }
+    requires named { IsNamed scope.now.query.now }
+    requires names { scope.now.names.now ≡ pattern_names scope.now.query.now }
     ensures { let names = scope_in scope.now.query.now scope.now.here in
         MadeAnswer (sorts.earlier_sort names span name.now text.now)
         (earlier_datum names name.now text.now) result }
@@ -87,14 +89,15 @@ pub(crate) fn earlier(
     let Some(here) = scope.here else {
         return Err(CompileFault::LateReference(span));
     };
-    let Some((number, element)) = name_place(scope.query.elements.as_slice(), name) else {
+    let Some(number) = name_place(scope.names, name) else {
         return Err(CompileFault::Unknown(span));
     };
     let columns = scope.query.columns.as_slice();
     let Some(place) = column_place(columns, text) else {
         return Err(CompileFault::Unknown(span));
     };
-    if element >= here {
+    let named = &scope.names[number];
+    if named.element >= here {
         return Err(CompileFault::LateReference(span));
     }
     let expr = Expr::Earlier {

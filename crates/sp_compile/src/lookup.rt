@@ -1,14 +1,16 @@
-// Where the names of a query stand.
-ghost use Rattle.std.specs.Prelude.{◌≡◌, ◌≤◌, length, IfSome};
-ghost use Rattle.std.specs.Option.{option_map};
+// Where columns, names and texts of a query stand.
+ghost use Rattle.std.specs.Prelude.{◌≡◌, ℕ, List};
 ghost use Rattle.std.specs.List.{position};
 ghost use Rattle.std.specs.Str.{bytes_eq};
 ghost use Rattle.sp_plan.specs.Texts.{symbol_of};
-ghost use Rattle.sp_compile.specs.Scopes as s;
-ghost use Rattle.sp_compile.specs.Parts.{IsPlaced};
+ghost use Rattle.sp_compile.specs.Checks.{is_among};
+ghost use Rattle.sp_compile.specs.Naming.{PlaceAnswer};
+ghost use Rattle.sp_compile.specs.Scopes as scopes;
 
+use crate::CompileFault;
+use crate::elements::Named;
 use sp_plan::Text;
-use sp_syntax::{Ident, QueryColumn, QueryElement};
+use sp_syntax::{Ident, QueryColumn};
 
 // Whether a name has this text.
 fn is_called(name: &Ident, text: &Text) -> bool
@@ -17,9 +19,9 @@ fn is_called(name: &Ident, text: &Text) -> bool
     name.text.as_str() == text.as_str()
 }
 
-// The place of the first column of this name.
+/// The place of the first column of this name.
 pub(crate) fn column_place(columns: &[QueryColumn], text: &Text) -> Option<usize>
-    ensures { result ≡ s.column_place columns.now text.now }
+    ensures { result ≡ scopes.column_place columns.now text.now }
 {
     columns
         .iter()
@@ -35,57 +37,32 @@ fn place_of_text(texts: &[Text], text: &Text) -> Option<usize>
         .position(|known| text.as_str() == known.as_str())
 }
 
-// The number of a text: its place among these, or their number where it is none of them.
+/// The number of a text: its place among these, or their number where it is none of them.
 pub(crate) fn text_number(texts: &[Text], text: &Text) -> usize
     ensures { result ≡ symbol_of texts.now text.now }
 {
     place_of_text(texts, text).unwrap_or(texts.len())
 }
 
-// The place of the first of these names that has this text.
-fn place_among(names: &[Ident], text: &Text) -> Option<usize>
-    ensures { result ≡ position (λ name. bytes_eq name.text text.now) names.now }
+/// The place of the first name of the pattern with this text.
+pub(crate) fn name_place(names: &[Named], text: &Text) -> Option<usize>
+    ensures { result ≡ scopes.name_place names.now text.now }
 {
-    names.iter().position(|name| is_called(name, text))
+    names.iter().position(|named| is_called(named.name, text))
 }
 
-// The place of the first name of an element that has this text.
-fn place_in(element: &QueryElement, text: &Text) -> Option<usize>
-    ensures { result ≡ position (λ name. bytes_eq name.text text.now) (s.names_in element.now) }
+/// The place of a name of the pattern that may be given once, or what is wrong: the pattern has no such
+/// name, or it was given before.
+pub(crate) fn given_place(
+    names: &[Named],
+    name: &Ident,
+    is_given: bool,
+) -> Result<usize, CompileFault>
+    ensures { (before : List (List ℕ)) → is_given ≡ is_among before name.now.text → PlaceAnswer names.now before name.now result }
 {
-    match element {
-        QueryElement::One(name) | QueryElement::Plus(name, _) => {
-            is_called(name, text).then_some(0)
-        }
-        QueryElement::Set(names) => place_among(names.as_slice(), text),
+    match name_place(names, &name.text) {
+        None => Err(CompileFault::Unknown(name.span)),
+        Some(_) if is_given => Err(CompileFault::Twice(name.span)),
+        Some(place) => Ok(place),
     }
-}
-
-// How many names an element has.
-fn width(element: &QueryElement) -> usize
-    ensures { result ≡ length (s.names_in element.now) }
-{
-    match element {
-        QueryElement::Set(names) => names.len(),
-        _ => 1,
-    }
-}
-
-// The place of the first name of the pattern with this text, and the number of its element.
-pub(crate) fn name_place(elements: &[QueryElement], text: &Text) -> Option<(usize, usize)>
-    requires { length (s.placed_names 0 elements.now) ≤ 32 }
-    ensures place { option_map (λ found. found.0) result
-        ≡ s.name_place (s.placed_names 0 elements.now) text.now }
-    ensures element { IfSome result
-        (λ found. IsPlaced (s.placed_names 0 elements.now) found.0 found.1) }
-{
-    let mut before = 0;
-    for at in 0..elements.len() {
-        let element = &elements[at];
-        if let Some(place) = place_in(element, text) {
-            return Some((before + place, at));
-        }
-        before += width(element);
-    }
-    None
 }

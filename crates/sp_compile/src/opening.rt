@@ -3,10 +3,12 @@ ghost use Rattle.std.specs.Prelude.{◌≡◌, true, Some, None, IfOk, IfErr, if
 ghost use Rattle.sp_compile.specs.declared.fault.CompileFault.TheVariants as f;
 ghost use Rattle.sp_compile.specs.Answers.{IsNamed, PredAnswer, scope_in};
 ghost use Rattle.sp_compile.specs.Checks as checks;
+ghost use Rattle.sp_compile.specs.Scopes.{pattern_names};
 ghost use Rattle.sp_compile.specs.Stages.{OpeningPasses, Misopens};
 ghost use Rattle.sp_compile.specs.Stands as stands;
 
 use crate::CompileFault;
+use crate::elements::Named;
 use crate::fault::pass;
 use crate::predicate::predicate;
 use crate::scope::Scope;
@@ -29,26 +31,38 @@ fn stepped(query: &Query, step: u64, unit: Word, span: Span) -> Result<Opening, 
 fn opening_pred(
     alloc: Global,
     query: &Query,
+    names: &[Named],
     texts: &[Text],
     tree: &Tree,
 ) -> Result<Pred, CompileFault>
-    requires { IsNamed query.now }
+    requires named { IsNamed query.now }
+    requires names { names.now ≡ pattern_names query.now }
     ensures { PredAnswer (scope_in query.now None) texts.now tree.now result }
 {
-    let scope = Scope { query, here: None };
+    let scope = Scope {
+        query,
+        names,
+        here: None,
+    };
     predicate(alloc, &scope, texts, tree)
 }
 
 /// Which events open a window of the plan, or the opening's first fault.
-pub(crate) fn opening(alloc: Global, query: &Query, texts: &[Text]) -> Result<Opening, CompileFault>
-    requires { IsNamed query.now }
+pub(crate) fn opening(
+    alloc: Global,
+    query: &Query,
+    names: &[Named],
+    texts: &[Text],
+) -> Result<Opening, CompileFault>
+    requires named { IsNamed query.now }
+    requires names { names.now ≡ pattern_names query.now }
     ensures opening { IfOk result (λ opening. OpeningPasses query.now texts.now opening) }
     ensures refused { IfErr result (λ fault. Misopens query.now fault) }
 {
     match &query.opening {
         QueryOpening::Every(step, unit, span) => stepped(query, *step, *unit, *span),
         QueryOpening::When(tree) => {
-            let pred = opening_pred(alloc, query, texts, tree)?;
+            let pred = opening_pred(alloc, query, names, texts, tree)?;
             Ok(Opening::When(pred))
         }
     }

@@ -6,6 +6,7 @@ ghost use Rattle.std.specs.Prelude.{◌≡◌, ◌∷◌, [], true, not, Some, N
 ghost use Rattle.sp_plan.specs.Bounds.{PredWithin};
 ghost use Rattle.sp_plan.specs.Values.{holds};
 ghost use Rattle.sp_compile.specs.Checks.{is_junction};
+ghost use Rattle.sp_compile.specs.Scopes.{pattern_names};
 ghost use Rattle.sp_compile.specs.Parts.{MadePredAnswer, joined};
 
 use crate::CompileFault;
@@ -28,6 +29,7 @@ fn test(
     right: &Tree,
 ) -> Result<Pred, CompileFault>
     requires named { IsNamed scope.now.query.now }
+    requires names { scope.now.names.now ≡ pattern_names scope.now.query.now }
     requires node { (out-Tree tree.now).node ≡ n.Test by }
     requires parts { (out-Tree tree.now).parts ≡ left.now ∷ right.now ∷ [] }
     ensures { PredAnswer (scope_in scope.now.query.now scope.now.here) texts.now tree.now result }
@@ -75,7 +77,8 @@ pub(crate) fn predicate(
     texts: &[Text],
     tree: &Tree,
 ) -> Result<Pred, CompileFault>
-    requires { IsNamed scope.now.query.now }
+    requires named { IsNamed scope.now.query.now }
+    requires names { scope.now.names.now ≡ pattern_names scope.now.query.now }
     ensures { PredAnswer (scope_in scope.now.query.now scope.now.here) texts.now tree.now result }
 {
     match (&tree.node, tree.parts.as_slice()) {

@@ -1,6 +1,6 @@
-ghost use Rattle.std.specs.Prelude.{◌≡◌, false};
-ghost use Rattle.sp_cut.specs.Scan.{quoted_behind};
-ghost use Rattle.sp_cut.specs.Ends.{IsFound};
+ghost use Rattle.sp_cut.specs.Ends.{IsFound, IsMark};
+
+use memchr::{memchr, memchr2};
 
 /// Where the first row of bytes ends.
 pub(crate) enum Found {
@@ -15,18 +15,25 @@ pub(crate) fn first_end(bytes: &[u8], quoted: bool) -> Found
     ensures { IsFound quoted bytes.now result }
 {
     let mut state = quoted;
-    for (i, b) in bytes.iter().enumerate() {
-        if *b == b'\n' && !state {
-            return Found::End(i);
+    let mut from = 0;
+    'marks: while let Some(size) = next_mark(bytes.split_at(from).1, state) {
+        let at = from + size;
+        if bytes[at] == b'\n' {
+            return Found::End(at);
         }
-        state = behind(state, *b);
+        state = !state;
+        from = at + 1;
     }
     Found::Rest(state)
 }
 
-// Whether a quote is open behind the byte.
-fn behind(quoted: bool, b: u8) -> bool
-    ensures { result ≡ quoted_behind quoted b }
+// The first byte that ends a row, opens a quote or closes one, where a quote is open in front or not.
+fn next_mark(bytes: &[u8], quoted: bool) -> Option<usize>
+    ensures { IsMark quoted bytes.now result }
 {
-    if b == b'"' { !quoted } else { quoted }
+    if quoted {
+        memchr(b'"', bytes)
+    } else {
+        memchr2(b'"', b'\n', bytes)
+    }
 }

@@ -12,5 +12,7 @@ pub mod PlacedColumns
 pub mod FirstPlace
 pub mod RowValues
 pub mod PlainRows
-pub mod CutRows
 pub mod SmallEvents
+pub mod Times
+pub mod Pieces
+pub mod Points

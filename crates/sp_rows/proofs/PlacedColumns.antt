@@ -34,7 +34,7 @@ module _ {X Y Z : Type 0} (f : ℕ × (X × Y) → Z) where
   second_ends n (suc i) (a ∷ xs) (b ∷ ys) past = second_ends (n + 1) i xs ys (omega arith)
 
 -- a column with its place
-abbrev column_by : Plan → ℕ × (Column × ℕ) → ColumnAt
+abbrev pub column_by : Plan → ℕ × (Column × ℕ) → ColumnAt
 column_by q x = record { is_time = is_place q.schema.time x.0; kind = x.1.0.kind; place = x.1.1 }
 
 -- the column of a number

@@ -60,17 +60,17 @@ at_other at_field c none other = let d = differs c none in rw (other, d.0, d.1, 
 at_other within c none other = let d = differs c none in rw (other, d.1, d.2) refl
 
 -- the fields so far and the field so far, which the first of these parts ends
-abbrev with_parts : List (List ℕ) → List ℕ → List (List ℕ) → List (List ℕ)
+abbrev pub with_parts : List (List ℕ) → List ℕ → List (List ℕ) → List (List ℕ)
 with_parts fields field [] = fields ++ field ∷ []
 with_parts fields field (part ∷ parts) = fields ++ (field ++ part) ∷ parts
 
 -- a byte before the first part joins the field so far
-joins : (fields : List (List ℕ)) (field : List ℕ) (c : ℕ) (parts : List (List ℕ)) → with_parts fields (field ++ c ∷ []) parts ≡ with_parts fields field (onto_first c parts)
+pub joins : (fields : List (List ℕ)) (field : List ℕ) (c : ℕ) (parts : List (List ℕ)) → with_parts fields (field ++ c ∷ []) parts ≡ with_parts fields field (onto_first c parts)
 joins fields field c [] = refl
 joins fields field c (part ∷ parts) = ap (λ (l : List ℕ). fields ++ l ∷ parts) (append_assoc field (c ∷ []) part)
 
 -- there is a part at least
-some_part : (bytes : List ℕ) → 0 < length (cut bytes)
+pub some_part : (bytes : List ℕ) → 0 < length (cut bytes)
 some_part bytes = omega (arith, length-slice_split (λ b. eqb b 44) bytes)
 
 -- a comma ends the field so far
@@ -114,7 +114,7 @@ from_field (c ∷ bytes) fields field none =
     (one_byte at_field fields field c bytes first next_field same_field, one_byte within fields field c bytes first next_field same_field)
 
 -- the parts as they are
-whole_parts : (parts : List (List ℕ)) → 0 < length parts → with_parts [] [] parts ≡ parts
+pub whole_parts : (parts : List (List ℕ)) → 0 < length parts → with_parts [] [] parts ≡ parts
 whole_parts [] some = absurd (omega arith)
 whole_parts (part ∷ parts) some = refl
 

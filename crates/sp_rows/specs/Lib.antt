@@ -6,3 +6,4 @@ pub mod Capped
 pub mod Shapes
 pub mod Progress
 pub mod Plain
+pub mod Given

@@ -1,5 +1,5 @@
 -- What clauses see of the values between the steps.
-use Rattle.std.specs.Prelude.{◌≡◌, ℕ, List, find, is_none, Some, None, map}
+use Rattle.std.specs.Prelude.{◌≡◌, ℕ, List, find, is_none, Some, None}
 use Rattle.std.specs.List.{filter_map}
 use Rattle.std.specs.Option.{option_map}
 use Rattle.csv.specs.Records.{fields_of}
@@ -14,17 +14,18 @@ use Rattle.sp_rows.specs.declared.columns.Placed.{Placed}
 use Rattle.sp_rows.specs.declared.content.Content.{Content}
 use Rattle.sp_rows.specs.declared.content.Content.TheVariants as content
 use Rattle.sp_rows.specs.Cells.{RowCells, blank, one, several}
+use Rattle.sp_rows.specs.Plain.{pieces}
 use Rattle.sp_rows.specs.Rows.{ColumnAt, Cell, number, text, fault, place_of}
 
 -- the cells of a row
 abbrev pub fields_in : Fields → List (List ℕ)
-fields_in (given.Cut cells) = map (λ cell. cell.now) cells.items
+fields_in (given.Cut row nexts) = pieces row.now 0 nexts.now
 fields_in (given.Read record_read) = fields_of record_read
 
 -- what a row reads as
 abbrev pub shape_of : Cells → RowCells
 shape_of read.Blank = blank
-shape_of (read.One cells) = one (fields_in cells)
+shape_of (read.One record_read) = one (fields_of record_read)
 shape_of read.Several = several
 
 -- what the header gives: the place of each column, or the name of the first column that it lacks

@@ -1,10 +1,11 @@
 // The cells of a row, as the crate csv reads them.
-ghost use Rattle.std.specs.Prelude.{◌≡◌, ◌<◌, ◌≤◌, true, false, take, drop, length, IfOk, IfErr};
+ghost use Rattle.std.specs.Prelude.{◌≡◌, ◌<◌, ◌≤◌, true, false, take, drop, length, IfOk, IfErr, IfSome};
 ghost use Rattle.csv.specs.Reading.{stops_reader, error_kind};
 ghost use Rattle.sp_rows.specs.Cells as rows;
+ghost use Rattle.sp_rows.specs.Plain.{pieces};
 ghost use Rattle.sp_rows.specs.Shapes.{shape_of};
 
-use crate::split::{Fields, cut_row, is_plain};
+use crate::split::find_cells;
 use csv::{ByteRecord, ReaderBuilder};
 use sp_plan::Memory;
 use std::alloc::{AllocError, Global};
@@ -12,11 +13,11 @@ use std::alloc::{AllocError, Global};
 // The bytes of a byte order mark.
 const MARK: &[u8] = b"\xef\xbb\xbf";
 
-/// What a row of bytes reads as.
+/// What a row of bytes reads as by the crate csv.
 #[derive(Drop)]
-pub(crate) enum Cells<'a> {
+pub(crate) enum Cells {
     Blank,
-    One(Fields<'a>),
+    One(ByteRecord),
     Several,
 }
 
@@ -51,7 +52,7 @@ fn without_marks(row: &[u8]) -> &[u8]
 
 // The cells of a row, by the crate csv. Of the errors of the reader only want of memory and a fault of the source come,
 /// and a row in memory has no faults.
-fn read_cells<'a>(alloc: Global, row: &[u8]) -> Result<Cells<'a>, csv::Error>
+fn read_cells(alloc: Global, row: &[u8]) -> Result<Cells, csv::Error>
     ensures cells { IfOk result (λ cells. shape_of cells ≡ rows.row_cells row.now) }
     ensures refused { IfErr result (λ e. stops_reader (error_kind e) ≡ true) }
 {
@@ -70,20 +71,28 @@ fn read_cells<'a>(alloc: Global, row: &[u8]) -> Result<Cells<'a>, csv::Error>
     if reader.read_byte_record(&mut second)? {
         Ok(Cells::Several)
     } else {
-        Ok(Cells::One(Fields::Read(first)))
+        Ok(Cells::One(first))
     }
 }
 
-/// The cells of a row: cut at its commas where that gives what the crate csv reads.
-pub(crate) fn read_row(alloc: Global, row: &[u8]) -> Result<Cells<'_>, Memory>
+/// The cells of any row, by the crate csv.
+pub(crate) fn read_row(alloc: Global, row: &[u8]) -> Result<Cells, Memory>
     ensures { IfOk result (λ cells. shape_of cells ≡ rows.row_cells row.now) }
 {
-    let rest = without_marks(row);
-    if is_plain(rest) {
-        return Ok(Cells::One(Fields::Cut(cut_row(alloc, rest)?)));
-    }
     match read_cells(alloc, row) {
         Ok(cells) => Ok(cells),
         Err(_) => Err(AllocError),
     }
+}
+
+/// The bytes of a row that are cut at its commas, where that gives what the crate csv reads, and the
+/// places of its cells. If not, or where memory is wanted, any places may come.
+pub(crate) fn cut_row<'a>(row: &'a [u8], nexts: &mut Vec<usize>) -> Result<Option<&'a [u8]>, Memory>
+    ensures { IfOk result (λ cut. IfSome cut (λ rest. rows.one (pieces rest.now 0 nexts.new.items) ≡ rows.row_cells row.now)) }
+{
+    let rest = without_marks(row);
+    if find_cells(rest, nexts)? {
+        return Ok(Some(rest));
+    }
+    Ok(None)
 }

@@ -41,15 +41,8 @@ pub(crate) fn column_at(plan: &Plan, places: &[usize], number: usize) -> Option<
 pub(crate) fn time_column(plan: &Plan, places: &[usize]) -> Option<Placed>
     ensures { option_map column_of result ≡ find (λ column. column.is_time) (columns_at plan.now places.now) }
 {
-    for number in 0..places.len() {
-        match column_at(plan, places, number) {
-            None => return None,
-            Some(column) => {
-                if column.is_time {
-                    return Some(column);
-                }
-            }
-        }
+    match plan.schema.time {
+        None => None,
+        Some(own) => column_at(plan, places, usize::from(own)),
     }
-    None
 }

@@ -1,5 +1,5 @@
 // What a cell gives by the kind of its column.
-ghost use Rattle.std.specs.Prelude.{◌≡◌, option_map};
+ghost use Rattle.std.specs.Prelude.{◌≡◌};
 ghost use Rattle.std.specs.Str.{is_utf8};
 ghost use Rattle.sp_rows.specs.Rows as spec;
 ghost use Rattle.sp_rows.specs.Shapes.{column_of, cell_shape, fields_in};
@@ -70,18 +70,5 @@ pub(crate) fn content_in<'a>(cells: &'a Fields<'_>, column: &Placed) -> Content<
     match cell_at(cells, column.place) {
         Some(cell) => content_of(column.is_time, column.kind, cell),
         None => Content::Fault(RowKind::MissingCell),
-    }
-}
-
-/// The time in this column; 0 where there is none.
-pub(crate) fn time_in(cells: &Fields<'_>, column: &Option<Placed>) -> i64
-    ensures { result ≡ spec.time_in (fields_in cells.now) (option_map column_of column.now) }
-{
-    match column {
-        Some(column) => match content_in(cells, column) {
-            Content::Number(time) => time,
-            _ => 0,
-        },
-        None => 0,
     }
 }

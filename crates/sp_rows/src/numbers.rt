@@ -1,5 +1,5 @@
 // Numbers as cells write them.
-ghost use Rattle.std.specs.Prelude.{◌≡◌, ◌<◌, ◌≤◌, ◌^◌, ◌≢◌, ◌∷◌, ◌++◌, ◌==◌, ◌-◌, IfSome, IfNone, length, take, drop, pos, neg_ℤ, [], slice_index_or};
+ghost use Rattle.std.specs.Prelude.{◌≡◌, ◌<◌, ◌≤◌, ◌^◌, ◌≢◌, ◌∷◌, true, false, ◌++◌, ◌==◌, ◌-◌, IfSome, IfNone, length, take, drop, pos, neg_ℤ, [], slice_index_or};
 ghost use Rattle.std.specs.List.{list_all, suffix_len, All};
 ghost use Rattle.std.specs.Option.{option_map, ForSome};
 ghost use Rattle.sp_rows.specs.Numbers;
@@ -91,15 +91,20 @@ fn with_digit(value: u64, digit: u8) -> u64
     (value * 10 + u64::from(digit.saturating_sub(b'0'))).min(BOUND + 1)
 }
 
-// The number that digits write, or the first past the bound.
-fn with_whole(digits: &[u8]) -> u64
-    ensures { result ≡ with_more 0 digits.now }
+// The number that digits write, or the first past the bound; none where there is no digit, or another byte.
+fn whole_number(digits: &[u8]) -> Option<u64>
+    ensures value { IfSome result (λ value. value ≡ with_more 0 digits.now) }
+    ensures some { IfSome result (λ value. Numbers.are_digits digits.now ≡ true) }
+    ensures none { IfNone result (Numbers.are_digits digits.now ≡ false) }
 {
     let mut value = 0u64;
     for digit in digits {
+        if !digit.is_ascii_digit() {
+            return None;
+        }
         value = with_digit(value, *digit);
     }
-    value
+    if digits.is_empty() { None } else { Some(value) }
 }
 
 // The decimal at this place, a zero where none is written.
@@ -140,26 +145,18 @@ fn within_bound(value: u64) -> Option<u64>
     if value <= BOUND { Some(value) } else { None }
 }
 
-// The units of a number without decimals.
-fn whole_units(scale: u8, whole: &[u8]) -> Option<u64>
-    ensures units { result ≡ Numbers.units_of scale (whole.now ∷ []) }
-    ensures below { ForSome result (λ n. n ≤ 1000000000000000) }
-{
-    if !are_digits(whole) {
-        return None;
-    }
-    within_bound(with_decimals(with_whole(whole), scale, &[]))
-}
-
 // The units of a number with decimals.
 fn decimal_units(scale: u8, whole: &[u8], decimals: &[u8]) -> Option<u64>
     ensures units { result ≡ Numbers.units_of scale (whole.now ∷ decimals.now ∷ []) }
     ensures below { ForSome result (λ n. n ≤ 1000000000000000) }
 {
-    if !are_digits(whole) || !are_digits(decimals) || !are_zeros(past_scale(scale, decimals)) {
+    if !are_digits(decimals) || !are_zeros(past_scale(scale, decimals)) {
         return None;
     }
-    within_bound(with_decimals(with_whole(whole), scale, decimals))
+    match whole_number(whole) {
+        None => None,
+        Some(value) => within_bound(with_decimals(value, scale, decimals)),
+    }
 }
 
 // The units without a sign before them.
@@ -167,12 +164,12 @@ fn unsigned(scale: u8, digits: &[u8]) -> Option<u64>
     ensures units { result ≡ Numbers.unsigned scale digits.now }
     ensures below { ForSome result (λ n. n ≤ 1000000000000000) }
 {
+    if let Some(value) = whole_number(digits) {
+        return within_bound(with_decimals(value, scale, &[]));
+    }
     match cut_at(digits, b'.') {
-        None => whole_units(scale, digits),
-        Some((whole, decimals)) => match cut_at(decimals, b'.') {
-            None => decimal_units(scale, whole, decimals),
-            Some(_) => None,
-        },
+        None => None,
+        Some((whole, decimals)) => decimal_units(scale, whole, decimals),
     }
 }
 

@@ -1,15 +1,14 @@
 // What is kept from row to row, but for the places of the columns.
-ghost use Rattle.std.specs.Prelude.{◌≡◌, ◌+◌, ◌<◌, ◌^◌, Some, None, IfOk, IfErr, IfSome, OnOk, OnErr, option_map};
+ghost use Rattle.std.specs.Prelude.{◌≡◌, ◌+◌, ◌<◌, ◌^◌, Some, None, IfOk, IfErr, IfSome, OnOk, OnErr, option_map, length, take};
 ghost use Rattle.sp_rows.specs.Rows as spec;
 ghost use Rattle.sp_rows.specs.Shapes.{column_of, fields_in};
 ghost use Rattle.sp_rows.specs.Progress.{reading, ErrorIs};
 
 use crate::columns::{Placed, time_column};
-use crate::content::time_in;
 use crate::fault::{RowError, RowFault, RowKind};
 use crate::split::Fields;
 use crate::texts::Texts;
-use crate::values::{first_fault, number_values};
+use crate::values::{Given, read_values, time_in};
 use sp_plan::{Event, Listed, Memory, Plan};
 use std::alloc::Global;
 
@@ -95,17 +94,38 @@ impl Progress {
         ensures error { IfErr result (λ e. ErrorIs (spec.event_row plan.now (reading (Some places.now) self.old) (fields_in cells.now) places.now) e) }
         ensures err { OnErr result (self.new ≡ self.old) }
     {
-        if let Some((kind, place)) = first_fault(cells, plan, places) {
-            return Err(self.refusal_at(kind, place));
+        let known = self.texts.len();
+        let event = self.read_event(alloc, cells, plan, places);
+        if event.is_err() {
+            self.texts.truncate(known);
         }
-        let column = time_column(plan, places);
-        let time = time_in(cells, &column);
-        if time < self.last {
-            return Err(self.back_in_time(time, &column));
-        }
-        match number_values(alloc, cells, plan, places, &mut self.texts) {
+        event
+    }
+
+    // The same, but that after an error new texts may be known behind those before.
+    fn read_event(
+        &mut self,
+        alloc: Global,
+        cells: &Fields<'_>,
+        plan: &Plan,
+        places: &[usize],
+    ) -> Result<Event, RowError>
+        requires { self.old.read + 1 < 2 ^ 32 }
+        ensures event { IfOk result (λ e. spec.event_row plan.now (reading (Some places.now) self.old) (fields_in cells.now) places.now ≡ spec.event e (reading (Some places.now) self.new)) }
+        ensures read { OnOk result (self.new.read ≡ self.old.read + 1) }
+        ensures error { IfErr result (λ e. ErrorIs (spec.event_row plan.now (reading (Some places.now) self.old) (fields_in cells.now) places.now) e) }
+        ensures same { OnErr result (self.new.read ≡ self.old.read) }
+        ensures last { OnErr result (self.new.last ≡ self.old.last) }
+        ensures kept { take (length self.old.texts) self.new.texts ≡ self.old.texts }
+    {
+        match read_values(alloc, cells, plan, places, &mut self.texts) {
             Err(_) => Err(RowError::Memory),
-            Ok(values) => {
+            Ok(Given::Fault(kind, place)) => Err(self.refusal_at(kind, place)),
+            Ok(Given::Values(values)) => {
+                let time = time_in(&values, plan.schema.time);
+                if time < self.last {
+                    return Err(self.back_in_time(time, &time_column(plan, places)));
+                }
                 self.read += 1;
                 self.last = time;
                 Ok(Event {

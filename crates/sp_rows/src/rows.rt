@@ -3,13 +3,14 @@ ghost use Rattle.std.specs.Arc.{arc_value};
 ghost use Rattle.sp_rows.specs.Rows as spec;
 ghost use Rattle.sp_rows.specs.Shapes.{fields_in};
 
-use crate::cells::{Cells, read_row};
+use crate::cells::{Cells, cut_row, read_row};
 use crate::fault::{RowError, RowFault, RowKind};
 use crate::header::{Header, read_header};
 use crate::progress::Progress;
 use crate::split::Fields;
 use sp_plan::{Event, Memory, Plan};
 use std::alloc::Global;
+use std::mem;
 use std::sync::Arc;
 
 /// Reads rows of CSV: the first one that is not blank is the header, and each later one that is not
@@ -19,6 +20,8 @@ pub struct Rows {
     plan: Arc<Plan>,
     places: Option<Vec<usize>>,
     progress: Progress,
+    // Room for the places of a row's cells.
+    nexts: Vec<usize>,
 }
 
 impl Rows {
@@ -34,6 +37,7 @@ impl Rows {
             plan,
             places: None,
             progress,
+            nexts: Vec::new(alloc),
         })
     }
 
@@ -46,15 +50,10 @@ impl Rows {
         ensures read { (read_of self.new).read ≡ (read_of self.old).read + (if is_ok result then 1 else 0) }
         ensures answers { Answers (spec.row_result (plan_of self.old) (read_of self.old) row.now) (read_of self.old) (read_of self.new) result }
     {
-        match read_row(alloc, row) {
-            Err(_) => Err(RowError::Memory),
-            Ok(Cells::Blank) => {
-                self.progress.read += 1;
-                Ok(None)
-            }
-            Ok(Cells::Several) => Err(RowError::Fault(self.progress.refusal(RowKind::TwoRows, 0))),
-            Ok(Cells::One(cells)) => self.row_of(alloc, &cells),
-        }
+        let mut nexts = mem::replace(&mut self.nexts, Vec::new(alloc));
+        let answer = self.row_in(alloc, row, &mut nexts);
+        self.nexts = nexts;
+        answer
     }
 
     /// The end of the input. It is at fault where no header came.
@@ -71,6 +70,43 @@ impl Rows {
             row: 0,
             column: 0,
         })
+    }
+
+    // The event of the next row, with room for the places of its cells.
+    fn row_in(
+        &mut self,
+        alloc: Global,
+        row: &[u8],
+        nexts: &mut Vec<usize>,
+    ) -> Result<Option<Event>, RowError>
+        requires { (read_of self.old).read < 2097153 }
+        ensures plan { plan_of self.new ≡ plan_of self.old }
+        ensures read { (read_of self.new).read ≡ (read_of self.old).read + (if is_ok result then 1 else 0) }
+        ensures answers { Answers (spec.row_result (plan_of self.old) (read_of self.old) row.now) (read_of self.old) (read_of self.new) result }
+    {
+        match cut_row(row, nexts) {
+            Err(_) => Err(RowError::Memory),
+            Ok(Some(rest)) => self.row_of(alloc, &Fields::Cut(rest, nexts.as_slice())),
+            Ok(None) => self.quoted_row(alloc, row),
+        }
+    }
+
+    // The event of the next row, which the crate csv reads.
+    fn quoted_row(&mut self, alloc: Global, row: &[u8]) -> Result<Option<Event>, RowError>
+        requires { (read_of self.old).read < 2097153 }
+        ensures plan { plan_of self.new ≡ plan_of self.old }
+        ensures read { (read_of self.new).read ≡ (read_of self.old).read + (if is_ok result then 1 else 0) }
+        ensures answers { Answers (spec.row_result (plan_of self.old) (read_of self.old) row.now) (read_of self.old) (read_of self.new) result }
+    {
+        match read_row(alloc, row) {
+            Err(_) => Err(RowError::Memory),
+            Ok(Cells::Blank) => {
+                self.progress.read += 1;
+                Ok(None)
+            }
+            Ok(Cells::Several) => Err(RowError::Fault(self.progress.refusal(RowKind::TwoRows, 0))),
+            Ok(Cells::One(record)) => self.row_of(alloc, &Fields::Read(record)),
+        }
     }
 
     // The event of a row with these cells, or nothing where it is the header.

@@ -1,24 +1,19 @@
 // The cells of a row, cut at its commas or read by the crate csv.
-ghost use Rattle.std.specs.Prelude.{◌≡◌, ◌≢◌, true, false, length, map, [], IfOk};
+ghost use Rattle.std.specs.Prelude.{◌≡◌, ◌≢◌, ◌<◌, ◌+◌, ◌++◌, ◌∷◌, ◌==◌, ◌^◌, true, false, length, [], if◌then◌else◌, slice_index_or, OnOk, IfOk};
 ghost use Rattle.std.specs.List.{slice_get};
 ghost use Rattle.std.specs.Option.{option_map};
 ghost use Rattle.csv.specs.Records.{fields_of};
 ghost use Rattle.sp_rows.specs.Plain as plain;
 ghost use Rattle.sp_rows.specs.Shapes.{fields_in};
 
-use crate::numbers::cut_at;
 use csv::ByteRecord;
 use sp_plan::Memory;
-use std::alloc::Global;
-
-// For so many cells there is room from the start.
-const ROOM: usize = 16;
 
 /// The cells of a row.
 #[derive(Drop)]
 pub(crate) enum Fields<'a> {
-    /// Cut out of the row.
-    Cut(Vec<&'a [u8]>),
+    /// Cut out of a row, with the place behind each cell's comma, as if one stood behind the last too.
+    Cut(&'a [u8], &'a [usize]),
     /// As the crate csv read them.
     Read(ByteRecord),
 }
@@ -30,37 +25,72 @@ fn is_break(byte: u8) -> bool
     byte == b'"' || byte == b'\r' || byte == b'\n'
 }
 
-// Whether no byte is a quote or one of a line's end.
-fn has_no_break(row: &[u8]) -> bool
-    ensures { result ≡ true → plain.HasNoBreak row.now }
+// Notes the place behind a comma. No quote and no byte of a line's end may come.
+fn take_byte(byte: u8, place: usize, nexts: &mut Vec<usize>) -> Result<bool, Memory>
+    requires { place + 1 < 2 ^ 64 }
+    ensures commas { OnOk result (nexts.new.items ≡ (if byte == 44 then nexts.old.items ++ (place + 1) ∷ [] else nexts.old.items)) }
+    ensures other { IfOk result (λ may. may ≡ true → plain.is_break byte ≡ false) }
 {
-    let mut found = false;
-    for byte in row {
-        found |= is_break(*byte);
+    if byte > b',' {
+        return Ok(true);
     }
-    !found
+    if byte == b',' {
+        nexts.push(place + 1)?;
+        return Ok(true);
+    }
+    Ok(!is_break(byte))
 }
 
-/// Whether a row may be cut at its commas: it has bytes, and none is a quote or one of a line's end.
-pub(crate) fn is_plain(row: &[u8]) -> bool
-    ensures some { result ≡ true → row.now ≢ [] }
-    ensures none { result ≡ true → plain.HasNoBreak row.now }
+/// Finds the cells of a row, if it may be cut at its commas: it has bytes, and none is a quote or one of
+/// a line's end. If not, or where memory is wanted, any places may come.
+pub(crate) fn find_cells(row: &[u8], nexts: &mut Vec<usize>) -> Result<bool, Memory>
+    ensures places { IfOk result (λ found. found ≡ true → nexts.new.items ≡ plain.nexts_from 0 row.now) }
+    ensures some { IfOk result (λ found. found ≡ true → row.now ≢ []) }
+    ensures none { IfOk result (λ found. found ≡ true → plain.HasNoBreak row.now) }
 {
-    !row.is_empty() && has_no_break(row)
+    nexts.clear();
+    if row.is_empty() {
+        return Ok(false);
+    }
+    for (place, byte) in row.iter().enumerate() {
+        if !take_byte(*byte, place, nexts)? {
+            return Ok(false);
+        }
+    }
+    nexts.push(row.len() + 1)?;
+    Ok(true)
 }
 
-/// The cells between the commas.
-pub(crate) fn cut_row<'a>(alloc: Global, row: &'a [u8]) -> Result<Vec<&'a [u8]>, Memory>
-    ensures { IfOk result (λ cells. map (λ cell. cell.now) cells.items ≡ plain.cut row.now) }
+// The bytes of a row from a place up to the comma before the next cell's.
+fn piece(row: &[u8], start: usize, next: usize) -> &[u8]
+    ensures { result.now ≡ plain.piece row.now start next }
 {
-    let mut cells = Vec::with_capacity(alloc, ROOM)?;
-    let mut rest = row;
-    while let Some((cell, behind)) = cut_at(rest, b',') {
-        cells.push(cell)?;
-        rest = behind;
+    let rest = &row[start.min(row.len())..];
+    let count = next.saturating_sub(1).saturating_sub(start);
+    &rest[..count.min(rest.len())]
+}
+
+// Where the cell at this place begins.
+fn start_at(nexts: &[usize], place: usize) -> usize
+    ensures { result ≡ slice_index_or (0 ∷ nexts.now) place 0 }
+{
+    match place.checked_sub(1) {
+        None => 0,
+        Some(before) => match nexts.get(before) {
+            None => 0,
+            Some(start) => *start,
+        },
     }
-    cells.push(rest)?;
-    Ok(cells)
+}
+
+// The cell of a row that was cut at this place from 0.
+fn piece_at<'a>(row: &'a [u8], nexts: &[usize], place: usize) -> Option<&'a [u8]>
+    ensures { option_map (λ cell. cell.now) result ≡ slice_get (plain.pieces row.now 0 nexts.now) place }
+{
+    match nexts.get(place) {
+        None => None,
+        Some(next) => Some(piece(row, start_at(nexts, place), *next)),
+    }
 }
 
 impl Fields<'_> {
@@ -69,19 +99,9 @@ impl Fields<'_> {
         ensures { result ≡ length (fields_in self.now) }
     {
         match self {
-            Fields::Cut(cells) => cells.len(),
+            Fields::Cut(_, nexts) => nexts.len(),
             Fields::Read(record) => record.len(),
         }
-    }
-}
-
-// The part at this place from 0.
-fn part_at<'a>(parts: &[&'a [u8]], place: usize) -> Option<&'a [u8]>
-    ensures { option_map (λ cell. cell.now) result ≡ slice_get (map (λ cell. cell.now) parts.now) place }
-{
-    match parts.get(place) {
-        Some(part) => Some(*part),
-        None => None,
     }
 }
 
@@ -97,7 +117,7 @@ pub(crate) fn cell_at<'a>(cells: &'a Fields<'_>, place: usize) -> Option<&'a [u8
     ensures { option_map (λ cell. cell.now) result ≡ slice_get (fields_in cells.now) place }
 {
     match cells {
-        Fields::Cut(parts) => part_at(parts, place),
+        Fields::Cut(row, nexts) => piece_at(row, nexts, place),
         Fields::Read(record) => record_cell(record, place),
     }
 }

@@ -1,9 +1,10 @@
-// The values of a row, and its first fault.
-ghost use Rattle.std.specs.Prelude.{◌≡◌, ◌+◌, length, take, option_map, IfOk, OnOk, OnErr};
+// The values of a row, or its first fault.
+ghost use Rattle.std.specs.Prelude.{◌≡◌, length, take, IfOk, OnOk};
 ghost use Rattle.sp_rows.specs.Rows as spec;
-ghost use Rattle.sp_rows.specs.Shapes.{column_of, cell_shape, fields_in};
+ghost use Rattle.sp_rows.specs.Shapes.{cell_shape, fields_in};
+ghost use Rattle.sp_rows.specs.Given.{GivenIs, TimeIs, fault_of, time_among};
 
-use crate::columns::{Placed, column_at};
+use crate::columns::column_at;
 use crate::content::{Content, content_in};
 use crate::fault::RowKind;
 use crate::split::Fields;
@@ -11,45 +12,23 @@ use crate::texts::Texts;
 use sp_plan::{Memory, Plan, Value};
 use std::alloc::Global;
 
-// The kind of a row's fault in a column, if it has one there.
-fn fault_in(cells: &Fields<'_>, column: &Placed) -> Option<RowKind>
-    ensures { option_map (λ kind. (kind, column.now.place + 1)) result ≡ spec.fault_at (fields_in cells.now) (column_of column.now) }
-{
-    match content_in(cells, column) {
-        Content::Fault(kind) => Some(kind),
-        _ => None,
-    }
+/// What the cells of a row give.
+#[derive(Drop)]
+pub(crate) enum Given {
+    Values(Vec<Value>),
+    /// The first fault, column by column in the order of the plan, with the place of its cell from 0.
+    Fault(RowKind, usize),
 }
 
-/// The first fault of a row, column by column in the order of the plan, with the place of its cell from 0.
-pub(crate) fn first_fault(
-    cells: &Fields<'_>,
-    plan: &Plan,
-    places: &[usize],
-) -> Option<(RowKind, usize)>
-    ensures { option_map (λ found. (found.0, found.1 + 1)) result ≡ spec.first_fault (fields_in cells.now) (spec.columns_at plan.now places.now) }
-{
-    for number in 0..places.len() {
-        match column_at(plan, places, number) {
-            None => return None,
-            Some(column) => {
-                if let Some(kind) = fault_in(cells, &column) {
-                    return Some((kind, column.place));
-                }
-            }
-        }
-    }
-    None
-}
-
-// One value more, where a cell gives one. Where memory is wanted, new texts may be known.
+// One value more, or the kind of the fault that the cell gives. Where memory is wanted, new texts may be known.
 fn push_content(
     alloc: Global,
     values: &mut Vec<Value>,
     texts: &mut Texts,
     content: Content<'_>,
-) -> Result<(), Memory>
+) -> Result<Option<RowKind>, Memory>
     ensures value { OnOk result ((values.new.items, texts.new) ≡ spec.with_cell (values.old.items, texts.old) (cell_shape content.entry)) }
+    ensures fault { IfOk result (λ fault. fault ≡ fault_of (cell_shape content.entry)) }
     ensures kept { take (length texts.old) texts.new ≡ texts.old }
 {
     match content {
@@ -58,48 +37,48 @@ fn push_content(
             let symbol = texts.number(alloc, text)?;
             values.push(Value::Symbol(symbol))?;
         }
-        Content::Fault(_) => {}
+        Content::Fault(kind) => return Ok(Some(kind)),
     }
-    Ok(())
+    Ok(None)
 }
 
-// The values of a row. Where memory is wanted, new texts may be known.
-fn read_values(
+/// The values of a row, or its first fault. At a fault, and where memory is wanted, new texts may be
+/// known behind those before.
+pub(crate) fn read_values(
     alloc: Global,
     cells: &Fields<'_>,
     plan: &Plan,
     places: &[usize],
     texts: &mut Texts,
-) -> Result<Vec<Value>, Memory>
-    ensures values { IfOk result (λ values. (values.items, texts.new) ≡ spec.values_of texts.old (fields_in cells.now) (spec.columns_at plan.now places.now)) }
+) -> Result<Given, Memory>
+    ensures given { IfOk result (λ given. GivenIs (spec.values_of texts.old (fields_in cells.now) (spec.columns_at plan.now places.now)) (spec.first_fault (fields_in cells.now) (spec.columns_at plan.now places.now)) texts.new given) }
+    ensures time { IfOk result (λ given. TimeIs plan.now.schema.time (spec.time_of (fields_in cells.now) (spec.columns_at plan.now places.now)) given) }
     ensures kept { take (length texts.old) texts.new ≡ texts.old }
 {
     let mut values = Vec::with_capacity(alloc, places.len())?;
     for number in 0..places.len() {
         match column_at(plan, places, number) {
-            None => return Ok(values),
-            Some(column) => push_content(alloc, &mut values, texts, content_in(cells, &column))?,
+            None => return Ok(Given::Values(values)),
+            Some(column) => {
+                let content = content_in(cells, &column);
+                if let Some(kind) = push_content(alloc, &mut values, texts, content)? {
+                    return Ok(Given::Fault(kind, column.place));
+                }
+            }
         }
     }
-    Ok(values)
+    Ok(Given::Values(values))
 }
 
-/// The values of a row without a fault; its texts are known from now on. Where memory is wanted, the
-/// texts are as before.
-pub(crate) fn number_values(
-    alloc: Global,
-    cells: &Fields<'_>,
-    plan: &Plan,
-    places: &[usize],
-    texts: &mut Texts,
-) -> Result<Vec<Value>, Memory>
-    ensures values { IfOk result (λ values. (values.items, texts.new) ≡ spec.values_of texts.old (fields_in cells.now) (spec.columns_at plan.now places.now)) }
-    ensures err { OnErr result (texts.new ≡ texts.old) }
+/// The time among the values of a row; 0 where there is none.
+pub(crate) fn time_in(values: &[Value], time: Option<u16>) -> i64
+    ensures { result ≡ time_among values.now time }
 {
-    let known = texts.len();
-    let values = read_values(alloc, cells, plan, places, texts);
-    if values.is_err() {
-        texts.truncate(known);
+    match time {
+        None => 0,
+        Some(own) => match values.get(usize::from(own)) {
+            Some(Value::Number(time)) => *time,
+            _ => 0,
+        },
     }
-    values
 }

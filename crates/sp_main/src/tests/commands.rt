@@ -51,7 +51,7 @@ fn expect_fault(
 ) -> Result<(), AllocError> {
     let line = format!(in alloc; "query code {} at {}\n", fault.0, fault.1)?;
     let command = ["run", "-q", text];
-    expect(rt, alloc, shows, &command, b"", "", (3, "", line.as_str()))
+    expect(rt, alloc, shows, &command, &[], "", (3, "", line.as_str()))
 }
 
 const SMALL: &str =
@@ -87,61 +87,64 @@ fn worked_words(rt: HostRuntime) -> Result<(), Fail> {
     Ok(())
 }
 
+// A query's file with a front, so many blanks and a byte behind it.
+fn content(
+    alloc: Global,
+    front: &str,
+    blanks: usize,
+    last: Option<u8>,
+) -> Result<Vec<u8>, AllocError> {
+    let mut content = front.as_bytes().to_vec(alloc)?;
+    content.extend_from_slice(SMALL.as_bytes())?;
+    content.extend_from_slice(" ".repeat(alloc, blanks)?.as_bytes())?;
+    if let Some(byte) = last {
+        content.push(byte)?;
+    }
+    Ok(content)
+}
+
+const MATCH: (u8, &str, &str) = (0, "w=1 m=1 A=1 used=1\n", "");
+
 // Files of queries: their length with a byte order mark, and places behind it.
+const FILES: [(&str, &str, usize, Option<u8>, (u8, &str, &str)); 7] = [
+    ("a file", "", 0, None, MATCH),
+    ("a byte order mark", "\u{feff}", 0, Some(b'\n'), MATCH),
+    (
+        "two byte order marks",
+        "\u{feff}\u{feff}",
+        0,
+        None,
+        (3, "", "query code 1 at 0\n"),
+    ),
+    ("the greatest length", "\u{feff}", 16_295, None, MATCH),
+    (
+        "a byte more",
+        "\u{feff}",
+        16_295,
+        Some(b' '),
+        (7, "", "limit 16384\n"),
+    ),
+    (
+        "a place behind the mark",
+        "\u{feff};",
+        0,
+        None,
+        (3, "", "query code 1 at 0\n"),
+    ),
+    (
+        "bytes that are no UTF-8",
+        "\u{feff};",
+        2,
+        Some(0xff),
+        (3, "", "query code 1 at 89\n"),
+    ),
+];
+
 #[test]
 fn worked_files(rt: HostRuntime) -> Result<(), Fail> {
     let alloc = rt.alloc();
-    let found = (0, "w=1 m=1 A=1 used=1\n", "");
-    for (shows, front, blanks, back, want) in [
-        ("a file", b"".as_slice(), 0, b"".as_slice(), found),
-        ("a byte order mark", b"\xef\xbb\xbf", 0, b"\n", found),
-        (
-            "two byte order marks",
-            b"\xef\xbb\xbf\xef\xbb\xbf",
-            0,
-            b"",
-            (3, "", "query code 1 at 0\n"),
-        ),
-        (
-            "the greatest length",
-            b"\xef\xbb\xbf",
-            16_384 - 3 - SMALL.len(),
-            b"",
-            found,
-        ),
-        (
-            "a byte more",
-            b"\xef\xbb\xbf",
-            16_385 - 3 - SMALL.len(),
-            b"",
-            (7, "", "limit 16384\n"),
-        ),
-        (
-            "a place behind the mark",
-            b"\xef\xbb\xbf;",
-            0,
-            b"",
-            (3, "", "query code 1 at 0\n"),
-        ),
-        (
-            "bytes that are no UTF-8",
-            b"\xef\xbb\xbf;",
-            2,
-            b"\xff",
-            (3, "", "query code 1 at 89\n"),
-        ),
-        (
-            "a mark that is cut off",
-            b"\xef\xbb",
-            0,
-            b"",
-            (3, "", "query code 1 at 0\n"),
-        ),
-    ] {
-        let mut content = front.to_vec(alloc)?;
-        content.extend_from_slice(SMALL.as_bytes())?;
-        content.extend_from_slice(" ".repeat(alloc, blanks)?.as_bytes())?;
-        content.extend_from_slice(back)?;
+    for (shows, front, blanks, last, want) in FILES {
+        let content = content(alloc, front, blanks, last)?;
         expect(
             &rt,
             alloc,
@@ -152,21 +155,24 @@ fn worked_files(rt: HostRuntime) -> Result<(), Fail> {
             want,
         )?;
     }
-    for (shows, blanks, want) in [
-        (
-            "the longest text",
-            16_384,
-            (3, "", "query code 11 at 16384\n"),
-        ),
-        ("a longer text", 16_385, (7, "", "limit 16384\n")),
+    Ok(())
+}
+
+// Texts as long as a query may be, and longer.
+#[test]
+fn long_words(rt: HostRuntime) -> Result<(), Fail> {
+    let alloc = rt.alloc();
+    for (blanks, want) in [
+        (16_384, (3, "", "query code 11 at 16384\n")),
+        (16_385, (7, "", "limit 16384\n")),
     ] {
         let text = " ".repeat(alloc, blanks)?;
         expect(
             &rt,
             alloc,
-            shows,
+            "blanks",
             &["run", "-q", text.as_str()],
-            b"",
+            &[],
             "",
             want,
         )?;
@@ -474,7 +480,7 @@ fn what_queries_find(rt: HostRuntime) -> Result<(), Fail> {
     let alloc = rt.alloc();
     for (shows, text, input, lines) in FOUND {
         let command = ["plain", "-q", text];
-        expect(&rt, alloc, shows, &command, b"", input, (0, lines, ""))?;
+        expect(&rt, alloc, shows, &command, &[], input, (0, lines, ""))?;
     }
     Ok(())
 }

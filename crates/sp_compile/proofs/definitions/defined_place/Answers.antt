@@ -1,9 +1,14 @@
-use Rattle.std.proofs.Common.{sym, ◌∙◌}
-use Rattle.sp_compile.proofs.Naming.{defined_twice, defined_once}
+use Rattle.std.proofs.Common.{List, ℕ, map, ◌∙◌}
+use Rattle.sp_syntax.specs.declared.query.Ident.{Ident}
+use Rattle.sp_syntax.specs.declared.tree.Tree.{Tree}
+use Rattle.sp_compile.proofs.Taken.{among_names}
 use Rattle.sp_compile.proofs.definitions.defined_place.Goals as goal
 
-pub returns-in-Some : goal.returns-in-Some
-returns-in-Some c = defined_twice c.args.names.now c.args.before.now c.args.name.now c.in-Some.field-0 (sym c.name_place.ensures ∙ c.in-Some.is) (sym c.is_defined.ensures ∙ c.if-is_defined.true)
+-- the text of a definition's name
+abbrev text_of : Ident × Tree → List ℕ
+text_of define = define.0.text
 
-pub returns-in-Some-2 : goal.returns-in-Some-2
-returns-in-Some-2 c = defined_once c.args.names.now c.args.before.now c.args.name.now c.in-Some.field-0 (sym c.name_place.ensures ∙ c.in-Some.is) (sym c.is_defined.ensures ∙ c.if-is_defined.false)
+pub returns : goal.returns
+returns c =
+    let before = c.args.before.now in
+    c.given_place.ensures (map text_of before) (c.is_defined.ensures ∙ among_names text_of before c.args.name.now.text)

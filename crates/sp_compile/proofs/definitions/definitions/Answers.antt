@@ -1,9 +1,10 @@
 use Rattle.std.proofs.Common.{◌≡◌, ◌<◌, ◌≤◌, ◌+◌, [], map, take, length, get_or, Ok, Err, true, sym, ap, subst, ◌∙◌, arith, rules}
+use Rattle.std.proofs.lemmas.Slice.Zip.{AllZip-long}
 use Rattle.sp_plan.specs.declared.plan.Name.{Name}
 use Rattle.sp_syntax.specs.declared.query.Ident.{Ident}
 use Rattle.sp_syntax.specs.declared.tree.Tree.{Tree}
 use Rattle.sp_compile.specs.Naming.{AreNames, Misdefines, PlaceAnswer}
-use Rattle.sp_compile.proofs.Naming.{GoneThrough, misnamed_here, faulty_here, defined_here, all_through, as_many}
+use Rattle.sp_compile.proofs.Naming.{GoneThrough, misnamed_here, faulty_here, defined_here, all_through}
 use Rattle.sp_compile.proofs.definitions.definitions.Goals as goal
 
 pub returns-in_err-place-clause-refused : goal.returns-in_err-place-clause-refused
@@ -33,7 +34,7 @@ returns-in_err-pred-clause-refused c =
 
 pub set_pred-requires : goal.set_pred-requires
 set_pred-requires c =
-    let many = as_many c.args.query.now c.args.texts.now (take c.loop-at.at c.args.query.now.defines) c.args.names.now c.loop-at.planned.items c.loop-at.invariant.stand in
+    let many = AllZip-long _ c.args.names.now c.loop-at.planned.items c.loop-at.invariant.stand in
     omega (arith, many, c.in_ok-place.ensures.0)
 
 pub loop-at-preserved : goal.loop-at-preserved

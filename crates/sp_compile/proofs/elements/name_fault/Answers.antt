@@ -1,24 +1,20 @@
-use Rattle.std.proofs.Common.{◌≡◌, ℕ, true, false, List, length, map, refl, sym, ◌∙◌, arith}
-use Rattle.std.specs.Prelude.{nat_le}
-use Rattle.sp_syntax.specs.declared.query.Ident.{Ident}
+use Rattle.std.proofs.Common.{◌≡◌, true, false, length, map, refl, ap, sym, ◌∙◌, arith}
+use Rattle.std.specs.Prelude.{nat_le, is_some}
 use Rattle.sp_compile.specs.Checks.{is_among}
-use Rattle.sp_compile.proofs.Taken.{among_names, few_names}
+use Rattle.sp_compile.proofs.Limits.{text_of}
+use Rattle.sp_compile.proofs.Taken.{place_among, few_names}
 use Rattle.sp_compile.proofs.elements.name_fault.Goals as goal
 
--- a name's text
-abbrev text_of : Ident × ℕ → List ℕ
-text_of name = name.0.text
-
-pub returns-then-is_taken : goal.returns-then-is_taken
-returns-then-is_taken c =
+pub returns-then-is_some : goal.returns-then-is_some
+returns-then-is_some c =
     let before = c.args.before.now in
     let few : nat_le 32 (length (map text_of before)) ≡ false = few_names text_of before 32 (omega arith) in
-    let taken : is_among (map text_of before) c.args.name.now.text ≡ true = sym (among_names text_of before c.args.name.now.text) ∙ sym c.is_taken.ensures ∙ c.if-is_taken.true in
+    let taken : is_among (map text_of before) c.args.name.now.text ≡ true = sym (place_among text_of before c.args.name.now.text) ∙ sym (ap is_some c.name_place.ensures) ∙ sym c.is_some.ensures ∙ c.if-is_some.true in
     rw (few, taken) refl
 
-pub returns-else-is_taken : goal.returns-else-is_taken
-returns-else-is_taken c =
+pub returns-else-is_some : goal.returns-else-is_some
+returns-else-is_some c =
     let before = c.args.before.now in
     let few : nat_le 32 (length (map text_of before)) ≡ false = few_names text_of before 32 (omega arith) in
-    let free : is_among (map text_of before) c.args.name.now.text ≡ false = sym (among_names text_of before c.args.name.now.text) ∙ sym c.is_taken.ensures ∙ c.if-is_taken.false in
+    let free : is_among (map text_of before) c.args.name.now.text ≡ false = sym (place_among text_of before c.args.name.now.text) ∙ sym (ap is_some c.name_place.ensures) ∙ sym c.is_some.ensures ∙ c.if-is_some.false in
     rw (few, free) refl

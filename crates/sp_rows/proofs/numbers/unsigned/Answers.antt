@@ -1,16 +1,15 @@
-use Rattle.std.proofs.Common.{◌∙◌, sym}
-use Rattle.sp_rows.proofs.Parts.{no_point, one_point, two_points}
+use Rattle.std.proofs.Common.{◌∙◌, ap, sym}
+use Rattle.sp_rows.specs.Numbers.{within_bound}
+use Rattle.sp_rows.proofs.Points.{whole_number, no_number, at_point}
 use Rattle.sp_rows.proofs.numbers.unsigned.Goals as goal
 
-pub returns-in-None-clause-units : goal.returns-in-None-clause-units
-returns-in-None-clause-units c = c.whole_units.ensures.units ∙ sym (no_point c.args.scale c.args.digits.now c.in-None.ensures.none)
+pub returns-in-Some-clause-units : goal.returns-in-Some-clause-units
+returns-in-Some-clause-units c =
+    c.within_bound.ensures.value ∙ ap within_bound c.with_decimals.ensures ∙ whole_number c.args.scale c.args.digits.now c.in-Some.value c.in-Some.ensures.some c.in-Some.ensures.value
 
-pub returns-in-None-cut_at-clause-units : goal.returns-in-None-cut_at-clause-units
-returns-in-None-cut_at-clause-units c =
-    c.decimal_units.ensures.units
-    ∙ sym (one_point c.args.scale c.args.digits.now c.in-Some.whole.now c.in-Some.decimals.now c.in-Some.ensures.some c.in-Some.ensures.first c.in-None-cut_at.ensures.none)
+pub returns-in-None-clause-units : goal.returns-in-None-clause-units
+returns-in-None-clause-units c = sym (no_number c.args.scale c.args.digits.now c.in_default.ensures.none c.in-None.ensures.none)
 
 pub returns-in-Some-cut_at-clause-units : goal.returns-in-Some-cut_at-clause-units
 returns-in-Some-cut_at-clause-units c =
-    let next = c.in-Some-cut_at in
-    sym (two_points c.args.scale c.args.digits.now c.in-Some.whole.now c.in-Some.decimals.now next.field-0.0.now next.field-0.1.now c.in-Some.ensures.some c.in-Some.ensures.first next.ensures.some next.ensures.first)
+    c.decimal_units.ensures.units ∙ at_point c.args.scale c.args.digits.now c.in-Some-cut_at.whole.now c.in-Some-cut_at.decimals.now c.in-Some-cut_at.ensures.some c.in-Some-cut_at.ensures.first
