@@ -1,5 +1,5 @@
 -- What is known of an expression, by what is known of its parts.
-use Rattle.std.proofs.Common.{◌≡◌, ◌≢◌, ℕ, ◌≤◌, ◌<◌, true, List, [], ◌∷◌, length, get_or, Option, Some, None, Result, Ok, Err, slice_get, refl, sym, ◌∙◌, ap, subst, arith}
+use Rattle.std.proofs.Common.{◌≡◌, ◌≢◌, ℕ, ◌≤◌, ◌<◌, true, List, [], ◌∷◌, length, get_or, Option, Some, None, Result, Ok, Err, IfOk, slice_get, refl, sym, ◌∙◌, ap, subst, arith}
 use Rattle.sp_plan.specs.declared.event.Event.{Event}
 use Rattle.sp_plan.specs.declared.plan.Expr.{Expr}
 use Rattle.sp_plan.specs.Values.{BoundEvents, column_of, earlier_column, last_bound}
@@ -16,7 +16,7 @@ use Rattle.sp_compile.specs.Checks.{Types, span_of}
 use Rattle.sp_compile.specs.Meaning as m
 use Rattle.sp_compile.specs.Meaning.{Datum, Means, constant_datum, datum_of, combined, negative}
 use Rattle.sp_compile.specs.Answers.{Untyped, ExprAnswer}
-use Rattle.sp_compile.specs.Parts.{comes_to, Refused, MadeAnswer, NumberAnswer, TextAnswer, column_datum, placed_datum, own_datum, bound_datum, earlier_datum, FirstFault}
+use Rattle.sp_compile.specs.Parts.{comes_to, Refused, MadeAnswer, NumberAnswer, TextAnswer, column_datum, placed_datum, own_datum, bound_datum, earlier_datum, FirstFault, IsSound, NegativeAnswer, OperationAnswer}
 
 -- ---- the parts of a tree
 
@@ -165,3 +165,25 @@ module _ (scope : Scope) (texts : List (List ℕ)) (t : Tree) where
   pub binary_fault : (left right : Tree) (l r : Result (Expr × Sort) CompileFault) (fault : CompileFault) → is_arithmetic (out-Tree t).node ≡ true → (out-Tree t).parts ≡ left ∷ right ∷ []
       → ExprAnswer scope texts left l → ExprAnswer scope texts right r → (fault ≢ f.Memory → FirstFault l r fault) → Untyped scope t fault
   binary_fault left right l r fault is parts p q h = untyped scope t fault (λ some. binary_first left right l r fault is parts p q some (h some))
+
+  -- what an operator makes of any two sides
+  pub operation_is : (left right : Tree) (l r made : Result (Expr × Sort) CompileFault) → is_arithmetic (out-Tree t).node ≡ true → (out-Tree t).parts ≡ left ∷ right ∷ []
+      → ExprAnswer scope texts left l → ExprAnswer scope texts right r → OperationAnswer t l r made → ExprAnswer scope texts t made
+  operation_is left right (Ok one) (Ok other) made is parts p q h = binary_is left right one other made is parts p q h
+  operation_is left right (Ok one) (Err found) (Ok made) is parts p q h = absurd h
+  operation_is left right (Ok one) (Err found) (Err fault) is parts p q h = binary_fault left right (Ok one) (Err found) fault is parts p q h
+  operation_is left right (Err found) (Ok other) (Ok made) is parts p q h = absurd h
+  operation_is left right (Err found) (Ok other) (Err fault) is parts p q h = binary_fault left right (Err found) (Ok other) fault is parts p q h
+  operation_is left right (Err found) (Err later) (Ok made) is parts p q h = absurd h
+  operation_is left right (Err found) (Err later) (Err fault) is parts p q h = binary_fault left right (Err found) (Err later) fault is parts p q h
+
+  -- what minus makes of any operand
+  pub negative_is : (part : Tree) (inner made : Result (Expr × Sort) CompileFault) → (out-Tree t).node ≡ n.Minus → (out-Tree t).parts ≡ part ∷ [] → ExprAnswer scope texts part inner
+      → NegativeAnswer (span_of t) inner made → ExprAnswer scope texts t made
+  negative_is part (Ok inner) made is parts p h = minus_is part inner made is parts p h
+  negative_is part (Err fault) made is parts p h = subst (ExprAnswer scope texts t) (sym h) (minus_fault part fault is parts p)
+
+  -- an expression that is there is sound
+  pub is_sound : (r : Result (Expr × Sort) CompileFault) → ExprAnswer scope texts t r → IfOk r IsSound
+  is_sound (Ok p) h = record { bounded = h.bounded; within = h.within }
+  is_sound (Err fault) h = tt

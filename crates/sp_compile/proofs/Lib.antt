@@ -7,6 +7,7 @@ pub mod LastElement
 pub mod Placed
 pub mod Limits
 mod Powers
+mod Spined
 mod Expressions
 mod Predicates
 pub mod Naming

@@ -1,9 +1,10 @@
 -- What is known of a predicate, by what is known of its parts.
-use Rattle.std.proofs.Common.{◌≡◌, ◌≢◌, ℕ, Bool, true, ◌&&◌, ◌||◌, not, List, [], ◌∷◌, Option, Some, None, Result, Ok, Err, refl, sym, ◌∙◌, subst}
+use Rattle.std.proofs.Common.{◌≡◌, ◌≢◌, ℕ, Bool, true, ◌&&◌, ◌||◌, not, List, [], ◌∷◌, Option, Some, None, Result, Ok, Err, IfOk, refl, sym, ◌∙◌, subst}
 use Rattle.sp_plan.specs.declared.event.Event.{Event}
 use Rattle.sp_plan.specs.declared.plan.Compare.{Compare}
 use Rattle.sp_plan.specs.declared.plan.Expr.{Expr}
 use Rattle.sp_plan.specs.declared.plan.Pred.{Pred}
+use Rattle.sp_plan.specs.Bounds.{PredWithin}
 use Rattle.sp_plan.specs.Values.{BoundEvents, holds}
 use Rattle.sp_syntax.specs.declared.tree.Tree.{Tree, out-Tree}
 use Rattle.sp_syntax.specs.declared.tree.Node.{Node}
@@ -18,7 +19,7 @@ use Rattle.sp_compile.specs.Checks.{Types, Tests, span_of, is_junction}
 use Rattle.sp_compile.specs.Meaning as m
 use Rattle.sp_compile.specs.Meaning.{Truth, compared}
 use Rattle.sp_compile.specs.Answers.{ExprAnswer, Faulty, PredAnswer}
-use Rattle.sp_compile.specs.Parts.{comes_to, Found, MadePredAnswer, joined, FirstFault}
+use Rattle.sp_compile.specs.Parts.{comes_to, Found, MadePredAnswer, joined, FirstFault, JointAnswer, NegationAnswer}
 use Rattle.sp_compile.proofs.Expressions.{typed}
 
 -- ---- faults that are not want of memory
@@ -141,3 +142,25 @@ module _ (scope : Scope) (texts : List (List ℕ)) (t : Tree) where
 
   pub denied_faulty : (part : Tree) (fault : CompileFault) → (out-Tree t).node ≡ n.Not → (out-Tree t).parts ≡ part ∷ [] → Faulty scope part fault → Faulty scope t fault
   denied_faulty part fault is parts p = faulty scope t fault (λ some. ch.denied t part (Some fault) is parts (tested scope part fault some p))
+
+  -- what AND or OR makes of any two sides
+  pub joint_is : (left right : Tree) (l r made : Result Pred CompileFault) → is_junction (out-Tree t).node ≡ true → (out-Tree t).parts ≡ left ∷ right ∷ []
+      → PredAnswer scope texts left l → PredAnswer scope texts right r → JointAnswer (out-Tree t).node l r made → PredAnswer scope texts t made
+  joint_is left right (Ok one) (Ok other) made is parts p q h = joined_is left right one other made is parts p q h
+  joint_is left right (Ok one) (Err found) (Ok made) is parts p q h = absurd h
+  joint_is left right (Ok one) (Err found) (Err fault) is parts p q h = joined_faulty left right (Ok one) (Err found) fault is parts p q h
+  joint_is left right (Err found) (Ok other) (Ok made) is parts p q h = absurd h
+  joint_is left right (Err found) (Ok other) (Err fault) is parts p q h = joined_faulty left right (Err found) (Ok other) fault is parts p q h
+  joint_is left right (Err found) (Err later) (Ok made) is parts p q h = absurd h
+  joint_is left right (Err found) (Err later) (Err fault) is parts p q h = joined_faulty left right (Err found) (Err later) fault is parts p q h
+
+  -- what NOT makes of any predicate
+  pub negation_is : (part : Tree) (inner made : Result Pred CompileFault) → (out-Tree t).node ≡ n.Not → (out-Tree t).parts ≡ part ∷ [] → PredAnswer scope texts part inner
+      → NegationAnswer inner made → PredAnswer scope texts t made
+  negation_is part (Ok inner) made is parts p h = denied_is part inner made is parts p h
+  negation_is part (Err fault) made is parts p h = subst (PredAnswer scope texts t) (sym h) (denied_faulty part fault is parts p)
+
+  -- a predicate that is there stays within bounds
+  pub is_within : (r : Result Pred CompileFault) → PredAnswer scope texts t r → IfOk r PredWithin
+  is_within (Ok p) h = h.within
+  is_within (Err fault) h = tt

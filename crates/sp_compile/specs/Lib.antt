@@ -10,3 +10,4 @@ pub mod Gathers
 pub mod Parts
 pub mod Naming
 pub mod Stages
+pub mod Spines

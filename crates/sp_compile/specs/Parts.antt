@@ -1,5 +1,5 @@
 -- What the compiler's functions answer of the parts of an expression or a predicate.
-use Rattle.std.specs.Prelude.{◌≡◌, ◌≢◌, ℕ, ℤ, ◌+◌, ◌*◌, ◌^◌, ◌<◌, ◌≤◌, ◌+ℤ◌, ◌-ℤ◌, ◌*ℤ◌, pos, Bool, ◌&&◌, ◌||◌, List, Option, Some, None, Result, Ok, Err, slice_get, nat_le, if◌then◌else◌}
+use Rattle.std.specs.Prelude.{◌≡◌, ◌≢◌, ℕ, ℤ, ◌+◌, ◌*◌, ◌^◌, ◌<◌, ◌≤◌, ◌+ℤ◌, ◌-ℤ◌, ◌*ℤ◌, pos, Bool, ◌&&◌, ◌||◌, not, List, Option, Some, None, Result, Ok, Err, slice_get, nat_le, if◌then◌else◌}
 use Rattle.sp_lex.specs.declared.token.Span.{Span}
 use Rattle.sp_plan.specs.declared.event.Event.{Event}
 use Rattle.sp_plan.specs.declared.plan.Expr.{Expr}
@@ -8,6 +8,7 @@ use Rattle.sp_plan.specs.Bounds.{bound, greatest, StaysWithin, PredWithin}
 use Rattle.sp_plan.specs.Texts.{symbol_of}
 use Rattle.sp_plan.specs.Values.{BoundEvents, value, holds, column_of, earlier_column, last_bound}
 use Rattle.sp_syntax.specs.declared.query.QueryColumn.{QueryColumn}
+use Rattle.sp_syntax.specs.declared.tree.Tree.{Tree, out-Tree}
 use Rattle.sp_syntax.specs.declared.tree.Node.{Node}
 use Rattle.sp_syntax.specs.declared.tree.Node.TheVariants as n
 use Rattle.sp_compile.specs.declared.fault.CompileFault.{CompileFault}
@@ -15,8 +16,8 @@ use Rattle.sp_compile.specs.declared.fault.CompileFault.TheVariants as f
 use Rattle.sp_compile.specs.declared.sort.Sort.{Sort}
 use Rattle.sp_compile.specs.declared.sort.Sort.TheVariants as s
 use Rattle.sp_compile.specs.Scopes.{Scope, column_place, name_place}
-use Rattle.sp_compile.specs.Sorts.{Verdict, sum_sort}
-use Rattle.sp_compile.specs.Meaning.{Datum, number, text, datum_of, combined}
+use Rattle.sp_compile.specs.Sorts.{Verdict, sum_sort, negative_sort, operator_sort}
+use Rattle.sp_compile.specs.Meaning.{Datum, number, text, datum_of, combined, negative}
 use Rattle.sp_compile.specs.Answers.{datum, IsBounded}
 
 -- a bound, if no value may be greater
@@ -152,3 +153,25 @@ FirstFault (Err fault) (Err other) found = (found ≡ fault) × (other ≢ f.Mem
 abbrev pub BothAnswer : {A : Type 0} → Result A CompileFault → Result A CompileFault → Result (A × A) CompileFault → Type 0
 BothAnswer left right (Ok p) = (left ≡ Ok p.0) × (right ≡ Ok p.1)
 BothAnswer left right (Err fault) = fault ≢ f.Memory → FirstFault left right fault
+
+-- minus an operand, or the operand's fault
+abbrev pub NegativeAnswer : Span → Result (Expr × Sort) CompileFault → Result (Expr × Sort) CompileFault → Type 0
+NegativeAnswer span (Ok inner) result = MadeAnswer (negative_sort span inner.1) (λ event bound. negative (comes_to inner event bound)) result
+NegativeAnswer span (Err fault) result = result ≡ Err fault
+
+-- what the operator of this tree makes of both sides, or the first fault
+abbrev pub OperationAnswer : Tree → Result (Expr × Sort) CompileFault → Result (Expr × Sort) CompileFault → Result (Expr × Sort) CompileFault → Type 0
+OperationAnswer t (Ok one) (Ok other) result = MadeAnswer (operator_sort (out-Tree t).node (out-Tree t).span one.1 other.1) (λ event bound. combined (out-Tree t).node (comes_to one event bound) (comes_to other event bound)) result
+OperationAnswer t left right (Ok p) = ⊥
+OperationAnswer t left right (Err fault) = fault ≢ f.Memory → FirstFault left right fault
+
+-- what an AND or OR makes of two predicates, or the first fault
+abbrev pub JointAnswer : Node → Result Pred CompileFault → Result Pred CompileFault → Result Pred CompileFault → Type 0
+JointAnswer node (Ok one) (Ok other) result = MadePredAnswer None (λ event bound. Some (joined node (holds one event bound) (holds other event bound))) result
+JointAnswer node left right (Ok pred) = ⊥
+JointAnswer node left right (Err fault) = fault ≢ f.Memory → FirstFault left right fault
+
+-- not a predicate, or its fault
+abbrev pub NegationAnswer : Result Pred CompileFault → Result Pred CompileFault → Type 0
+NegationAnswer (Ok inner) result = MadePredAnswer None (λ event bound. Some (not (holds inner event bound))) result
+NegationAnswer (Err fault) result = result ≡ Err fault

@@ -19,6 +19,7 @@ mod opening;
 mod predicate;
 mod scope;
 mod sort;
+mod spine;
 mod texts;
 mod window;
 

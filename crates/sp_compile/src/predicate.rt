@@ -2,18 +2,19 @@
 ghost use Rattle.sp_compile.specs.Answers.{scope_in, IsNamed, PredAnswer};
 ghost use Rattle.sp_syntax.specs.declared.tree.Tree.{out-Tree};
 ghost use Rattle.sp_syntax.specs.declared.tree.Node.TheVariants as n;
-ghost use Rattle.std.specs.Prelude.{◌≡◌, ◌∷◌, [], true, not, Some, None};
+ghost use Rattle.std.specs.Prelude.{◌≡◌, ◌∷◌, [], true, Some, None, IfOk};
 ghost use Rattle.sp_plan.specs.Bounds.{PredWithin};
 ghost use Rattle.sp_plan.specs.Values.{holds};
 ghost use Rattle.sp_compile.specs.Checks.{is_junction};
 ghost use Rattle.sp_compile.specs.Scopes.{pattern_names};
-ghost use Rattle.sp_compile.specs.Parts.{MadePredAnswer, joined};
+ghost use Rattle.sp_compile.specs.Parts.{MadePredAnswer, JointAnswer, NegationAnswer, joined};
 
 use crate::CompileFault;
 use crate::boxed::boxed;
 use crate::comparison::{Spans, comparison};
 use crate::expression::{both, expression};
 use crate::scope::Scope;
+use crate::spine::spine;
 use sp_plan::{Compare, Pred, Text};
 use sp_syntax::{Node, Tree};
 use std::alloc::Global;
@@ -62,15 +63,32 @@ fn junction(alloc: Global, node: &Node, left: Pred, right: Pred) -> Result<Pred,
     }
 }
 
-// Not a predicate.
-fn negation(alloc: Global, inner: Pred) -> Result<Pred, CompileFault>
-    requires { PredWithin inner }
-    ensures { MadePredAnswer None (λ event bound. Some (not (holds inner event bound))) result }
+// Both of two predicates, or either, or the fault of the first side that has one.
+fn joint(
+    alloc: Global,
+    node: &Node,
+    left: Result<Pred, CompileFault>,
+    right: Result<Pred, CompileFault>,
+) -> Result<Pred, CompileFault>
+    requires node { is_junction node.now ≡ true }
+    requires left { IfOk left PredWithin }
+    requires right { IfOk right PredWithin }
+    ensures { JointAnswer node.now left right result }
 {
-    Ok(Pred::Not(boxed(alloc, inner)?))
+    let (left, right) = both(left, right)?;
+    junction(alloc, node, left, right)
 }
 
-// The predicate of a tree, or its first fault. The texts of the tree are among these.
+// Not a predicate, or the predicate's fault.
+fn negation(alloc: Global, inner: Result<Pred, CompileFault>) -> Result<Pred, CompileFault>
+    requires { IfOk inner PredWithin }
+    ensures { NegationAnswer inner result }
+{
+    Ok(Pred::Not(boxed(alloc, inner?)?))
+}
+
+// The predicate of a tree, or its first fault. The texts of the tree are among these. The left
+// operands are gone through in a loop, since there may be thousands of them, one below the other.
 pub(crate) fn predicate(
     alloc: Global,
     scope: &Scope,
@@ -81,16 +99,20 @@ pub(crate) fn predicate(
     requires names { scope.now.names.now ≡ pattern_names scope.now.query.now }
     ensures { PredAnswer (scope_in scope.now.query.now scope.now.here) texts.now tree.now result }
 {
-    match (&tree.node, tree.parts.as_slice()) {
-        (Node::Test(by), [left, right]) => test(alloc, scope, texts, tree, *by, left, right),
-        (Node::And | Node::Or, [left, right]) => {
-            let left = predicate(alloc, scope, texts, left);
-            let right = predicate(alloc, scope, texts, right);
-            let (left, right) = both(left, right)?;
-            junction(alloc, &tree.node, left, right)
-        }
-        (Node::Not, [part]) => negation(alloc, predicate(alloc, scope, texts, part)?),
+    let (mut nodes, first) = spine(alloc, tree)?;
+    let mut made = match (&first.node, first.parts.as_slice()) {
+        (Node::Test(by), [left, right]) => test(alloc, scope, texts, first, *by, left, right),
+        (Node::Not, [part]) => negation(alloc, predicate(alloc, scope, texts, part)),
         // No text has such a tree.
         _ => Err(CompileFault::Memory),
+    };
+    while let Some(node) = nodes.pop() {
+        let (Node::And | Node::Or, [_, right]) = (&node.node, node.parts.as_slice()) else {
+            // No text has such a tree.
+            return Err(CompileFault::Memory);
+        };
+        let right = predicate(alloc, scope, texts, right);
+        made = joint(alloc, &node.node, made, right);
     }
+    made
 }

@@ -1,51 +1,64 @@
-use Rattle.std.proofs.Common.{◌≡◌, [], ◌∷◌, true, Err, sym, ◌∙◌, subst, rules}
+use Rattle.std.proofs.Common.{◌≡◌, ◌<◌, List, [], ◌∷◌, get_or, true, length, vec_len, sym, ◌∙◌, subst, rules, arith}
+use Rattle.std.proofs.lemmas.Grind.{common_steps}
+use Rattle.sp_syntax.specs.declared.tree.Tree.{Tree, out-Tree, size-Tree}
 use Rattle.sp_compile.specs.Sorts.{is_arithmetic}
-use Rattle.sp_syntax.specs.declared.tree.Tree.{out-Tree}
 use Rattle.sp_compile.specs.Answers.{scope_in, ExprAnswer}
-use Rattle.sp_compile.proofs.Expressions.{one_part, two_parts, whole_is, decimal_is, literal_is, own_is, earlier_is, minus_is, minus_fault, binary_is, binary_fault}
+use Rattle.sp_compile.proofs.Spined.{two_with, under, topped, first_falls, second_falls, no_larger}
+use Rattle.sp_compile.proofs.Expressions.{one_part, operation_is, negative_is, is_sound}
+use Rattle.sp_compile.proofs.expression.+expression.Goals.{in-Minus-len1, in_default}
 use Rattle.sp_compile.proofs.expression.+expression.Goals as goal
 
-pub returns-in-Whole-default : goal.returns-in-Whole-default
-returns-in-Whole-default t c = whole_is _ _ c.args.tree.now c.in-Whole-default.units c.number.result c.in-Whole-default.is-0 c.number.ensures
+pub expression-requires : goal.expression-requires
+expression-requires t c =
+    let d : size-Tree c.args.tree.now ≡ t = c.decreases in
+    let parts : (out-Tree c.in_ok-nodes.first.now).parts ≡ c.part-item.result ∷ [] = sym c.as_slice.ensures ∙ one_part c.as_slice.result.now c.part-item.result c.in-Minus-len1.len_at_least c.in-Minus-len1.len_below c.part-item.is in
+    let falls = first_falls c.in_ok-nodes.first.now c.part-item.result [] parts in
+    let above = no_larger c.args.tree.now c.in_ok-nodes.nodes.items c.in_ok-nodes.first.now c.in_ok-nodes.ensures in
+    let k : size-Tree c.part-item.result < t = omega arith in
+    (k, (c.requires.named, c.requires.names))
 
-pub returns-in-Decimal-default : goal.returns-in-Decimal-default
-returns-in-Decimal-default t c = decimal_is _ _ c.args.tree.now c.in-Decimal-default.units c.in-Decimal-default.scale c.number-in-Decimal-default.result c.in-Decimal-default.is-0 c.number-in-Decimal-default.ensures
-
-pub returns-in-Literal-default : goal.returns-in-Literal-default
-returns-in-Literal-default t c = literal_is _ _ c.args.tree.now c.in-Literal-default.text c.literal.result c.in-Literal-default.is-0 c.literal.ensures
-
-pub returns-in-Own-default : goal.returns-in-Own-default
-returns-in-Own-default t c = own_is _ _ c.args.tree.now c.in-Own-default.text c.own.result c.in-Own-default.is-0 c.own.ensures
-
-pub returns-in-Earlier-default : goal.returns-in-Earlier-default
-returns-in-Earlier-default t c = earlier_is _ _ c.args.tree.now c.in-Earlier-default.name c.in-Earlier-default.text c.earlier.result c.in-Earlier-default.is-0 c.earlier.ensures
-
-pub returns-in_err-expression-in-Minus-len1 : goal.returns-in_err-expression-in-Minus-len1
-returns-in_err-expression-in-Minus-len1 t c =
-    let parts : (out-Tree c.args.tree.now).parts ≡ c.part-item.result ∷ [] = sym c.as_slice.ensures ∙ one_part c.as_slice.result.now c.part-item.result c.in-Minus-len1.len_at_least c.in-Minus-len1.len_below c.part-item.is in
-    let h = minus_fault _ c.args.texts.now c.args.tree.now c.part-item.result c.in_err-expression-in-Minus-len1.field-0.0 c.in-Minus-len1.is-0 parts (c.in_err-expression-in-Minus-len1.ensures) in
-    let e : c.from_residual.result ≡ Err c.in_err-expression-in-Minus-len1.field-0.0 = search rules in
-    subst (ExprAnswer (scope_in c.args.scope.now.query.now c.args.scope.now.here) c.args.texts.now c.args.tree.now) (sym e) h
-
-pub returns-in_ok-expression-in-Minus-len1 : goal.returns-in_ok-expression-in-Minus-len1
-returns-in_ok-expression-in-Minus-len1 t c =
-    let parts : (out-Tree c.args.tree.now).parts ≡ c.part-item.result ∷ [] = sym c.as_slice.ensures ∙ one_part c.as_slice.result.now c.part-item.result c.in-Minus-len1.len_at_least c.in-Minus-len1.len_below c.part-item.is in
-    minus_is _ c.args.texts.now c.args.tree.now c.part-item.result c.in_ok-expression-in-Minus-len1.field-0 c.minus.result c.in-Minus-len1.is-0 parts (c.in_ok-expression-in-Minus-len1.ensures) c.minus.ensures
-
-pub returns-in_err-left-in-Add-len2 : goal.returns-in_err-left-in-Add-len2
-returns-in_err-left-in-Add-len2 t c =
-    let parts : (out-Tree c.args.tree.now).parts ≡ c.left-item.result ∷ c.right-item.result ∷ [] = sym c.as_slice.ensures ∙ two_parts c.as_slice.result.now c.left-item.result c.right-item.result c.in-Add-len2.len_at_least c.in-Add-len2.len_below c.left-item.is c.right-item.is in
-    let a : is_arithmetic (out-Tree c.args.tree.now).node ≡ true = search rules in
-    let h = binary_fault _ c.args.texts.now c.args.tree.now c.left-item.result c.right-item.result c.expression-left.result c.expression-right.result c.in_err-left-in-Add-len2.field-0.0 a parts c.expression-left.ensures c.expression-right.ensures (c.in_err-left-in-Add-len2.ensures) in
-    let e : c.from_residual-in_err-left-in-Add-len2.result ≡ Err c.in_err-left-in-Add-len2.field-0.0 = search rules in
-    subst (ExprAnswer (scope_in c.args.scope.now.query.now c.args.scope.now.here) c.args.texts.now c.args.tree.now) (sym e) h
-
-pub returns-in_ok-left-in-Add-len2 : goal.returns-in_ok-left-in-Add-len2
-returns-in_ok-left-in-Add-len2 t c =
-    let parts : (out-Tree c.args.tree.now).parts ≡ c.left-item.result ∷ c.right-item.result ∷ [] = sym c.as_slice.ensures ∙ two_parts c.as_slice.result.now c.left-item.result c.right-item.result c.in-Add-len2.len_at_least c.in-Add-len2.len_below c.left-item.is c.right-item.is in
-    let a : is_arithmetic (out-Tree c.args.tree.now).node ≡ true = search rules in
-    let b = c.in_ok-left-in-Add-len2.ensures in
+pub loop-node-init : goal.loop-node-init
+loop-node-init t c =
     let S = scope_in c.args.scope.now.query.now c.args.scope.now.here in
-    let p = subst (ExprAnswer S c.args.texts.now c.left-item.result) b.0 c.expression-left.ensures in
-    let q = subst (ExprAnswer S c.args.texts.now c.right-item.result) b.1 c.expression-right.ensures in
-    binary_is S c.args.texts.now c.args.tree.now c.left-item.result c.right-item.result c.in_ok-left-in-Add-len2.left c.in_ok-left-in-Add-len2.right c.arithmetic.result a parts p q c.arithmetic.ensures
+    let first = c.in_ok-nodes.first.now in
+    let answer : ExprAnswer S c.args.texts.now first c.match-first.made = elim c.match-first.branch [
+      | in-Minus-len1 w ↦
+          let parts : (out-Tree first).parts ≡ w.part-item.result ∷ [] = sym c.as_slice.ensures ∙ one_part c.as_slice.result.now w.part-item.result w.in-Minus-len1.len_at_least w.in-Minus-len1.len_below w.part-item.is in
+          subst (ExprAnswer S c.args.texts.now first) (sym w.made-is) (negative_is S c.args.texts.now first w.part-item.result w.expression.result w.negative-made.result w.in-Minus-len1.is-0 parts w.expression.ensures w.negative-made.ensures)
+      | in_default w ↦ subst (ExprAnswer S c.args.texts.now first) (sym w.made-is) w.operand-made.ensures
+    ] in
+    record { here = first; spine = c.in_ok-nodes.ensures; answer = answer }
+
+pub expression-right-requires : goal.expression-right-requires
+expression-right-requires t c =
+    let d : size-Tree c.args.tree.now ≡ t = c.decreases in
+    let i = c.loop-node.invariant in
+    let u = under c.args.tree.now c.pop.new.self.items c.loop-node.nodes.items c.in-Some.node i.here i.spine c.in-Some.ensures.items in
+    let parts = two_with (out-Tree c.in-Some.node.now).parts i.here u.0 c.right-item.result u.1.1 (subst (λ (xs : List Tree). c.right-item.result ≡ get_or xs 1 c.right-item.result) c.as_slice-in-Some.ensures c.right-item.is) in
+    let falls = second_falls c.in-Some.node.now i.here c.right-item.result [] parts in
+    let above = no_larger c.args.tree.now c.pop.new.self.items c.in-Some.node.now u.1.0 in
+    let k : size-Tree c.right-item.result < t = omega arith in
+    (k, (c.requires.named, c.requires.names))
+
+pub operation-made-requires-clause-left : goal.operation-made-requires-clause-left
+operation-made-requires-clause-left t c =
+    let i = c.loop-node.invariant in
+    is_sound (scope_in c.args.scope.now.query.now c.args.scope.now.here) c.args.texts.now i.here c.loop-node.made i.answer
+
+pub loop-node-preserved : goal.loop-node-preserved
+loop-node-preserved t c =
+    let S = scope_in c.args.scope.now.query.now c.args.scope.now.here in
+    let node = c.in-Some.node.now in
+    let i = c.loop-node.invariant in
+    let u = under c.args.tree.now c.pop.new.self.items c.loop-node.nodes.items c.in-Some.node i.here i.spine c.in-Some.ensures.items in
+    let parts = two_with (out-Tree node).parts i.here u.0 c.right-item.result u.1.1 (subst (λ (xs : List Tree). c.right-item.result ≡ get_or xs 1 c.right-item.result) c.as_slice-in-Some.ensures c.right-item.is) in
+    let a : is_arithmetic (out-Tree node).node ≡ true = search rules in
+    record { here = node; spine = u.1.0; answer = operation_is S c.args.texts.now node i.here c.right-item.result c.loop-node.made c.expression-right.result c.operation-made.result a parts i.answer c.expression-right.ensures c.operation-made.ensures }
+
+pub returns : goal.returns
+returns t c =
+    let S = scope_in c.args.scope.now.query.now c.args.scope.now.here in
+    let i = c.loop-node.invariant in
+    let whole : vec_len c.loop-node.nodes ≡ length c.loop-node.nodes.items = c.loop-node.nodes.ok.0 in
+    let none : length c.loop-node.nodes.items ≡ 0 = grind (arith, common_steps, c.in_default-pop.ensures.variant) in
+    subst (λ (k : Tree). ExprAnswer S c.args.texts.now k c.loop-node.made) (topped c.args.tree.now c.loop-node.nodes.items i.here i.spine none) i.answer

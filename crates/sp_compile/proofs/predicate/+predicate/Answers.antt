@@ -1,44 +1,66 @@
-use Rattle.std.proofs.Common.{◌≡◌, [], ◌∷◌, true, Err, sym, ◌∙◌, subst, rules}
-use Rattle.sp_syntax.specs.declared.tree.Tree.{out-Tree}
-use Rattle.sp_compile.specs.Answers.{scope_in, PredAnswer}
+use Rattle.std.proofs.Common.{◌≡◌, ◌<◌, List, [], ◌∷◌, get_or, true, length, vec_len, sym, ◌∙◌, subst, rules, arith}
+use Rattle.std.proofs.lemmas.Grind.{common_steps}
+use Rattle.sp_syntax.specs.declared.tree.Tree.{Tree, out-Tree, size-Tree}
 use Rattle.sp_compile.specs.Checks.{is_junction}
-use Rattle.sp_compile.proofs.Expressions.{one_part, two_parts}
-use Rattle.sp_compile.proofs.Predicates.{joined_is, joined_faulty, denied_is, denied_faulty}
+use Rattle.sp_compile.specs.Answers.{scope_in, PredAnswer}
+use Rattle.sp_compile.proofs.Spined.{two_with, under, topped, first_falls, second_falls, no_larger}
+use Rattle.sp_compile.proofs.Expressions.{one_part}
+use Rattle.sp_compile.proofs.Predicates.{joint_is, negation_is, is_within}
+use Rattle.sp_compile.proofs.predicate.+predicate.Goals.{in-Test-len2, in-Not-len1, in_default}
 use Rattle.sp_compile.proofs.predicate.+predicate.Goals as goal
 
-pub returns-in_err-predicate-in-Not-len1 : goal.returns-in_err-predicate-in-Not-len1
-returns-in_err-predicate-in-Not-len1 t c =
-    let S = scope_in c.args.scope.now.query.now c.args.scope.now.here in
-    let parts : (out-Tree c.args.tree.now).parts ≡ c.part-item.result ∷ [] = sym c.as_slice.ensures ∙ one_part c.as_slice.result.now c.part-item.result c.in-Not-len1.len_at_least c.in-Not-len1.len_below c.part-item.is in
-    let h = denied_faulty S c.args.texts.now c.args.tree.now c.part-item.result c.in_err-predicate-in-Not-len1.field-0.0 c.in-Not-len1.is-0 parts c.in_err-predicate-in-Not-len1.ensures in
-    let e : c.from_residual.result ≡ Err c.in_err-predicate-in-Not-len1.field-0.0 = search rules in
-    subst (PredAnswer S c.args.texts.now c.args.tree.now) (sym e) h
+pub predicate-requires : goal.predicate-requires
+predicate-requires t c =
+    let d : size-Tree c.args.tree.now ≡ t = c.decreases in
+    let parts : (out-Tree c.in_ok-nodes.first.now).parts ≡ c.part-item.result ∷ [] = sym c.as_slice.ensures ∙ one_part c.as_slice.result.now c.part-item.result c.in-Not-len1.len_at_least c.in-Not-len1.len_below c.part-item.is in
+    let falls = first_falls c.in_ok-nodes.first.now c.part-item.result [] parts in
+    let above = no_larger c.args.tree.now c.in_ok-nodes.nodes.items c.in_ok-nodes.first.now c.in_ok-nodes.ensures in
+    let k : size-Tree c.part-item.result < t = omega arith in
+    (k, (c.requires.named, c.requires.names))
 
-pub returns-in_ok-predicate-in-Not-len1 : goal.returns-in_ok-predicate-in-Not-len1
-returns-in_ok-predicate-in-Not-len1 t c =
+pub loop-node-init : goal.loop-node-init
+loop-node-init t c =
     let S = scope_in c.args.scope.now.query.now c.args.scope.now.here in
-    let parts : (out-Tree c.args.tree.now).parts ≡ c.part-item.result ∷ [] = sym c.as_slice.ensures ∙ one_part c.as_slice.result.now c.part-item.result c.in-Not-len1.len_at_least c.in-Not-len1.len_below c.part-item.is in
-    denied_is S c.args.texts.now c.args.tree.now c.part-item.result c.in_ok-predicate-in-Not-len1.field-0 c.negation.result c.in-Not-len1.is-0 parts c.in_ok-predicate-in-Not-len1.ensures c.negation.ensures
+    let first = c.in_ok-nodes.first.now in
+    let answer : PredAnswer S c.args.texts.now first c.match-first.made = elim c.match-first.branch [
+      | in-Not-len1 w ↦
+          let parts : (out-Tree first).parts ≡ w.part-item.result ∷ [] = sym c.as_slice.ensures ∙ one_part c.as_slice.result.now w.part-item.result w.in-Not-len1.len_at_least w.in-Not-len1.len_below w.part-item.is in
+          subst (PredAnswer S c.args.texts.now first) (sym w.made-is) (negation_is S c.args.texts.now first w.part-item.result w.predicate.result w.negation-made.result w.in-Not-len1.is-0 parts w.predicate.ensures w.negation-made.ensures)
+      | in-Test-len2 w ↦ subst (PredAnswer S c.args.texts.now first) (sym w.made-is) w.test-made.ensures
+      | in_default w ↦ subst (PredAnswer S c.args.texts.now first) (sym w.made-is) tt
+    ] in
+    record { here = first; spine = c.in_ok-nodes.ensures; answer = answer }
 
-pub returns-in_err-left-in-And-len2 : goal.returns-in_err-left-in-And-len2
-returns-in_err-left-in-And-len2 t c =
-    let S = scope_in c.args.scope.now.query.now c.args.scope.now.here in
-    let left = c.left-item-then-this-lt3-2.result in
-    let right = c.right-item-then-this-lt3-2.result in
-    let parts : (out-Tree c.args.tree.now).parts ≡ left ∷ right ∷ [] = sym c.as_slice.ensures ∙ two_parts c.as_slice.result.now left right c.in-And-len2.len_at_least c.in-And-len2.len_below c.left-item-then-this-lt3-2.is c.right-item-then-this-lt3-2.is in
-    let a : is_junction (out-Tree c.args.tree.now).node ≡ true = search rules in
-    let h = joined_faulty S c.args.texts.now c.args.tree.now left right c.predicate-left.result c.predicate-right.result c.in_err-left-in-And-len2.field-0.0 a parts c.predicate-left.ensures c.predicate-right.ensures c.in_err-left-in-And-len2.ensures in
-    let e : c.from_residual-in_err-left-in-And-len2.result ≡ Err c.in_err-left-in-And-len2.field-0.0 = search rules in
-    subst (PredAnswer S c.args.texts.now c.args.tree.now) (sym e) h
+pub predicate-right-requires : goal.predicate-right-requires
+predicate-right-requires t c =
+    let d : size-Tree c.args.tree.now ≡ t = c.decreases in
+    let i = c.loop-node.invariant in
+    let u = under c.args.tree.now c.pop.new.self.items c.loop-node.nodes.items c.in-Some.node i.here i.spine c.in-Some.ensures.items in
+    let parts = two_with (out-Tree c.in-Some.node.now).parts i.here u.0 c.right-item-then-this-lt3-2.result u.1.1 (subst (λ (xs : List Tree). c.right-item-then-this-lt3-2.result ≡ get_or xs 1 c.right-item-then-this-lt3-2.result) c.as_slice-in-Some.ensures c.right-item-then-this-lt3-2.is) in
+    let falls = second_falls c.in-Some.node.now i.here c.right-item-then-this-lt3-2.result [] parts in
+    let above = no_larger c.args.tree.now c.pop.new.self.items c.in-Some.node.now u.1.0 in
+    let k : size-Tree c.right-item-then-this-lt3-2.result < t = omega arith in
+    (k, (c.requires.named, c.requires.names))
 
-pub returns-in_ok-left-in-And-len2 : goal.returns-in_ok-left-in-And-len2
-returns-in_ok-left-in-And-len2 t c =
+pub joint-made-requires-clause-left : goal.joint-made-requires-clause-left
+joint-made-requires-clause-left t c =
+    let i = c.loop-node.invariant in
+    is_within (scope_in c.args.scope.now.query.now c.args.scope.now.here) c.args.texts.now i.here c.loop-node.made i.answer
+
+pub loop-node-preserved : goal.loop-node-preserved
+loop-node-preserved t c =
     let S = scope_in c.args.scope.now.query.now c.args.scope.now.here in
-    let left = c.left-item-then-this-lt3-2.result in
-    let right = c.right-item-then-this-lt3-2.result in
-    let parts : (out-Tree c.args.tree.now).parts ≡ left ∷ right ∷ [] = sym c.as_slice.ensures ∙ two_parts c.as_slice.result.now left right c.in-And-len2.len_at_least c.in-And-len2.len_below c.left-item-then-this-lt3-2.is c.right-item-then-this-lt3-2.is in
-    let a : is_junction (out-Tree c.args.tree.now).node ≡ true = search rules in
-    let b = c.in_ok-left-in-And-len2.ensures in
-    let p = subst (PredAnswer S c.args.texts.now left) b.0 c.predicate-left.ensures in
-    let q = subst (PredAnswer S c.args.texts.now right) b.1 c.predicate-right.ensures in
-    joined_is S c.args.texts.now c.args.tree.now left right c.in_ok-left-in-And-len2.left c.in_ok-left-in-And-len2.right c.junction.result a parts p q c.junction.ensures
+    let node = c.in-Some.node.now in
+    let i = c.loop-node.invariant in
+    let u = under c.args.tree.now c.pop.new.self.items c.loop-node.nodes.items c.in-Some.node i.here i.spine c.in-Some.ensures.items in
+    let parts = two_with (out-Tree node).parts i.here u.0 c.right-item-then-this-lt3-2.result u.1.1 (subst (λ (xs : List Tree). c.right-item-then-this-lt3-2.result ≡ get_or xs 1 c.right-item-then-this-lt3-2.result) c.as_slice-in-Some.ensures c.right-item-then-this-lt3-2.is) in
+    let a : is_junction (out-Tree node).node ≡ true = search rules in
+    record { here = node; spine = u.1.0; answer = joint_is S c.args.texts.now node i.here c.right-item-then-this-lt3-2.result c.loop-node.made c.predicate-right.result c.joint-made.result a parts i.answer c.predicate-right.ensures c.joint-made.ensures }
+
+pub returns : goal.returns
+returns t c =
+    let S = scope_in c.args.scope.now.query.now c.args.scope.now.here in
+    let i = c.loop-node.invariant in
+    let whole : vec_len c.loop-node.nodes ≡ length c.loop-node.nodes.items = c.loop-node.nodes.ok.0 in
+    let none : length c.loop-node.nodes.items ≡ 0 = grind (arith, common_steps, c.in_default-pop.ensures.variant) in
+    subst (λ (k : Tree). PredAnswer S c.args.texts.now k c.loop-node.made) (topped c.args.tree.now c.loop-node.nodes.items i.here i.spine none) i.answer
