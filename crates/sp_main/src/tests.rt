@@ -7,3 +7,4 @@ mod program;
 mod queries;
 mod rows;
 mod tokens;
+mod yardstick;

@@ -1,6 +1,6 @@
 // Worked rows, with ample memory.
 use sp_plan::{Column, Event, Kind, Length, Listed, Opening, Plan, Schema, Select, Text, Value};
-use sp_rows::{RowError, Rows};
+use sp_rows::{RowError, RowFault, RowKind, Rows};
 use std::alloc::{AllocError, Global};
 use std::sync::Arc;
 use std::test::Fail;
@@ -11,27 +11,35 @@ fn text(alloc: Global, text: &str) -> Result<Text, AllocError> {
 }
 
 // A column of the plan.
-fn column(alloc: Global, name: &str, kind: Kind) -> Result<Column, AllocError> {
+pub(crate) fn column(alloc: Global, name: &str, kind: Kind) -> Result<Column, AllocError> {
     Ok(Column {
         name: text(alloc, name)?,
         kind,
     })
 }
 
-// A time, a price of two decimals and a name; the query has one text.
-fn plan(alloc: Global) -> Result<Plan, AllocError> {
-    let columns = vec![in alloc;
+// A time, a price of two decimals and a name.
+pub(crate) fn three_columns(alloc: Global) -> Result<Vec<Column>, AllocError> {
+    Ok(vec![in alloc;
         column(alloc, "at", Kind::Int)?,
         column(alloc, "price", Kind::Dec(2))?,
         column(alloc, "name", Kind::Text)?,
-    ]?;
+    ]?)
+}
+
+// A plan over these columns; the query has one text.
+pub(crate) fn plan(
+    alloc: Global,
+    columns: Vec<Column>,
+    time: Option<u16>,
+) -> Result<Plan, AllocError> {
     Ok(Plan {
         schema: Schema {
             columns: Listed::of(columns),
-            time: Some(0),
+            time,
         },
-        names: Listed::of(vec![in alloc]?),
-        elements: Listed::of(vec![in alloc]?),
+        names: Listed::of(Vec::new(alloc)),
+        elements: Listed::of(Vec::new(alloc)),
         select: Select::First,
         length: Length::Events(2),
         opening: Opening::EveryEvents(2),
@@ -52,23 +60,27 @@ fn event_text(alloc: Global, event: &Event) -> Result<String, AllocError> {
     Ok(line)
 }
 
-// An answer as a text: an event, nothing, or a fault's code, row and column.
-fn answer_text(
+// A fault as a text: its code, row and column, and what else its kind tells.
+fn fault_text(alloc: Global, fault: &RowFault) -> Result<String, AllocError> {
+    let code = fault.kind.code();
+    let line = format!(in alloc; "fault {code} row {} column {}", fault.row, fault.column)?;
+    match &fault.kind {
+        RowKind::NoColumn(name) => format!(in alloc; "{line} without {}", name.as_str()),
+        RowKind::BackInTime { was, now } => format!(in alloc; "{line} from {was} to {now}"),
+        _ => Ok(line),
+    }
+}
+
+// An answer as a text: an event, nothing, or a fault.
+pub(crate) fn answer_text(
     alloc: Global,
     answer: Result<Option<Event>, RowError>,
 ) -> Result<String, AllocError> {
     match answer {
         Ok(None) => String::from_str(alloc, "nothing"),
         Ok(Some(event)) => event_text(alloc, &event),
-        Err(RowError::Memory) => String::from_str(alloc, "memory"),
-        Err(RowError::Fault(fault)) => {
-            format!(in alloc;
-                "fault {} row {} column {}",
-                fault.kind.code(),
-                fault.row,
-                fault.column
-            )
-        }
+        Err(RowError::Memory) => Err(AllocError),
+        Err(RowError::Fault(fault)) => fault_text(alloc, &fault),
     }
 }
 
@@ -78,7 +90,7 @@ const WORKED: [(&str, &[u8], &str); 22] = [
     (
         "a header that lacks a column",
         b"at,name",
-        "fault 2 row 2 column 0",
+        "fault 2 row 2 column 0 without price",
     ),
     (
         "a header with further columns, in another order",
@@ -124,7 +136,7 @@ const WORKED: [(&str, &[u8], &str); 22] = [
     (
         "a time below the last one",
         b"new,x,1,9",
-        "fault 6 row 6 column 4",
+        "fault 6 row 6 column 4 from 11 to 9",
     ),
     (
         "a fault in a cell comes before the time order",
@@ -169,9 +181,9 @@ const WORKED: [(&str, &[u8], &str); 22] = [
 #[test]
 fn worked_rows(rt: HostRuntime) -> Result<(), Fail> {
     let alloc = rt.alloc();
-    let plan = match Arc::new(alloc, plan(alloc)?) {
-        Ok(plan) => plan,
-        Err(_) => return Err(AllocError.into()),
+    let plan = plan(alloc, three_columns(alloc)?, Some(0))?;
+    let Ok(plan) = Arc::new(alloc, plan) else {
+        return Err(AllocError.into());
     };
     let mut rows = Rows::new(alloc, plan)?;
     assert!(rt; rows.end().is_err());
