@@ -3,6 +3,7 @@
 mod commands;
 mod cut;
 mod files;
+mod numbers;
 mod program;
 mod queries;
 mod rows;

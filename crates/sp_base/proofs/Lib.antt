@@ -1,0 +1,4 @@
+pub mod Rising
+pub mod Placed
+pub mod Cut
+pub mod Merging

@@ -1,0 +1,39 @@
+use Rattle.std.proofs.Common.{◌≡◌, ◌<◌, ◌++◌, ◌∷◌, [], ◌||◌, ◌==◌, false, sym, ap, subst, ◌∙◌}
+use Rattle.std.specs.List.{All}
+use Rattle.std.specs.List.Sorted.{IsStrictlyIncreasing}
+use Rattle.sp_base.specs.Numbers.{NumberList, has}
+use Rattle.sp_base.specs.Place.{IsPlace}
+use Rattle.sp_base.proofs.Placed.{not_past, rising_inserted, has_inserted, inserted_last}
+use Rattle.sp_base.proofs.numbers.Numbers.insert.Goals as goal
+
+pub returns-then-is_at-clause-last : goal.returns-then-is_at-clause-last
+returns-then-is_at-clause-last c = λ past.
+    let same = c.deref-2.ensures.value ∙ ap (λ (v : NumberList). v.list) c.self.view_is in
+    absurd (not_past c.args.self.now.list c.args.n (sym (c.if-is_at.ensures ∙ ap (λ l. has l c.args.n) same)) past)
+
+with_it : (c : goal.In_ok-insert) → IsStrictlyIncreasing c.insert.new.self.items
+with_it c =
+    let place = subst (λ l. IsPlace c.args.n l c.place-at.result) c.deref.ensures.value c.place-at.ensures in
+    let none : has c.self.inside.list.items c.args.n ≡ false = sym (c.if-is_at.ensures ∙ ap (λ l. has l c.args.n) c.deref-2.ensures.value) in
+    subst IsStrictlyIncreasing (sym c.in_ok-insert.ensures.items)
+    (rising_inserted c.self.inside.list.items c.args.n c.place-at.result c.self.invariant place none)
+
+pub invariant_of-self-2 : goal.invariant_of-self-2
+invariant_of-self-2 c = with_it c
+
+pub returns-clause-rising : goal.returns-clause-rising
+returns-clause-rising c = with_it c
+
+pub returns-clause-members : goal.returns-clause-members
+returns-clause-members c = λ m.
+    ap (λ l. has l m) c.in_ok-insert.ensures.items
+    ∙ has_inserted c.self.inside.list.items c.args.n c.place-at.result m
+    ∙ ap (λ (v : NumberList). m == c.args.n || has v.list m) c.self.view_is
+
+pub returns-clause-last : goal.returns-clause-last
+returns-clause-last c = λ past.
+    let place = subst (λ l. IsPlace c.args.n l c.place-at.result) c.deref.ensures.value c.place-at.ensures in
+    let view = ap (λ (v : NumberList). v.list) c.self.view_is in
+    c.in_ok-insert.ensures.items
+    ∙ inserted_last c.self.inside.list.items c.args.n c.place-at.result place (subst (All (λ m. m < c.args.n)) (sym view) past)
+    ∙ ap (λ l. l ++ c.args.n ∷ []) view

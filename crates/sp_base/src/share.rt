@@ -1,0 +1,60 @@
+ghost use Rattle.std.specs.Prelude.{◌≡◌, ℕ, ◌-◌, ◌*◌, ◌/◌, ◌≤◌, min};
+
+use std::marker::Model;
+
+/// The whole, in parts: a share counts 65,536ths.
+const WHOLE: u32 = 65_536;
+
+/// A share of a whole: a number of 65,536ths, from 0 to 65,536. Contracts see the number.
+#[derive(Clone, Copy, Drop)]
+pub struct Share {
+    parts: u32,
+}
+
+impl Model for Share {
+    ghost Value = { ℕ };
+
+    ghost view = { λ s. s.parts };
+
+    ghost invariant = { λ s. s.parts ≤ 65536 };
+
+    ghost inverse = { λ n. record { parts = n } };
+}
+
+impl Share {
+    /// The share of so many 65,536ths; what is more counts as the whole.
+    pub fn new(n: u32) -> Share
+        ensures { result ≡ min n 65536 }
+    {
+        Share {
+            parts: n.min(WHOLE),
+        }
+    }
+
+    /// How many 65,536ths it is, from 0 to 65,536.
+    pub fn get(self) -> u32
+        ensures parts { result ≡ self }
+        ensures most { result ≤ 65536 }
+    {
+        self.parts
+    }
+
+    /// The share of a share, rounded down.
+    pub fn times(self, other: Share) -> Share
+        ensures { result ≡ self * other / 65536 }
+    {
+        let product = u64::from(self.parts) * u64::from(other.parts);
+        Share {
+            parts: (product / u64::from(WHOLE)) as u32,
+        }
+    }
+
+    /// What is missing to the whole.
+    pub fn rest(self) -> Share
+        ensures { result ≡ 65536 - self }
+    {
+        Share {
+            parts: WHOLE - self.parts,
+        }
+    }
+}
