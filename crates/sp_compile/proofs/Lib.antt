@@ -8,6 +8,7 @@ pub mod Placed
 pub mod Limits
 mod Powers
 mod Spined
+mod Timed
 mod Expressions
 mod Predicates
 pub mod Naming

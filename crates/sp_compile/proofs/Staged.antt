@@ -23,6 +23,7 @@ use Rattle.sp_compile.specs.Told.{IsPlanOf, Refuses, IsFound}
 use Rattle.sp_compile.proofs.Limits.{neither, is_named}
 use Rattle.sp_compile.proofs.OneFault.{one_fault}
 use Rattle.sp_compile.proofs.Placed.{numbers_in_order}
+use Rattle.sp_compile.proofs.Timed.{time_is_whole}
 use Rattle.sp_compile.proofs.WindowLimits.{length_keeps, fine_length}
 
 -- a fault that the checks find is told of the query
@@ -125,6 +126,7 @@ module _ (query : Query) (listed : List (Ident × ℕ)) (texts : List (List ℕ)
       let many : length planned ≡ length (pattern_names query) = as_many query texts (pattern_names query) planned names.stand in
       record {
         columns = subst (λ (n : ℕ). n ≤ 64) (sym (length-map query.columns plan_column)) known.columns;
+        time = time_is_whole query.columns query.time named.time;
         names = subst (λ (n : ℕ). n ≤ 32) (sym many) known.names;
         elements = numbers_in_order query.elements 0 ∙ ap (λ (n : ℕ). range_with_len 0 n) (sym many);
         preds = names.within;

@@ -1,3 +1,9 @@
 mod LastBound
-mod Worked
+mod Blocks
+pub mod Worked
+mod WorkedMoves
 mod Products
+mod Fitting
+mod Zips
+mod Decided
+mod SamePlans

@@ -25,18 +25,18 @@ use Rattle.sp_plan.specs.Sequential.{whole}
 use Rattle.sp_plan.specs.Lines.{text}
 
 -- two columns, the time and a text
-abbrev schema : Schema
+abbrev pub schema : Schema
 schema = record { columns = (record { name = codes "at"; kind = Int }) ∷ (record { name = codes "k"; kind = Text }) ∷ []; time = Some 0 }
 
 -- a name for events whose text is the symbol
-abbrev is : List ℕ → ℕ → Bool → Name
+abbrev pub is : List ℕ → ℕ → Bool → Name
 is name symbol consumed = record { text = name; pred = Test Equal (Column 1) (Word symbol); consumed = consumed }
 
 -- a name for events whose text is another
-abbrev other_than : List ℕ → ℕ → Bool → Name
+abbrev pub other_than : List ℕ → ℕ → Bool → Name
 other_than name symbol consumed = record { text = name; pred = Test Unequal (Column 1) (Word symbol); consumed = consumed }
 
-abbrev plan : List Name → List Element → Select → Length → Opening → Plan
+abbrev pub plan : List Name → List Element → Select → Length → Opening → Plan
 plan names elements select length opening = record {
   schema = schema;
   names = names;
@@ -47,28 +47,28 @@ plan names elements select length opening = record {
   texts = codes "a" ∷ codes "b" ∷ codes "c" ∷ [];
 }
 
-abbrev event : ℕ → ℕ → Event
+abbrev pub event : ℕ → ℕ → Event
 event at symbol = record { time = pos at; values = Number (pos at) ∷ Symbol symbol ∷ [] }
 
 -- events at the times 1, 2, 3 and so on
-abbrev events : List ℕ → List Event
+abbrev pub events : List ℕ → List Event
 events symbols = map (λ pair. event pair.0 pair.1) (enumerate_from 1 symbols)
 
 -- what a plan writes of a whole input
-abbrev written : Plan → List Event → List ℕ
+abbrev pub written : Plan → List Event → List ℕ
 written q es = text q (whole q es true).matches
 
 -- what it writes while the input has not ended
 abbrev written_so_far : Plan → List Event → List ℕ
 written_so_far q es = text q (whole q es false).matches
 
-abbrev names_ab : Bool → Bool → List Name
+abbrev pub names_ab : Bool → Bool → List Name
 names_ab first second = is (codes "A") 0 first ∷ is (codes "B") 1 second ∷ []
 
-abbrev names_abc : List Name
+abbrev pub names_abc : List Name
 names_abc = is (codes "A") 0 true ∷ is (codes "B") 1 true ∷ is (codes "C") 2 true ∷ []
 
-abbrev a_then_b : List Element
+abbrev pub a_then_b : List Element
 a_then_b = One 0 ∷ One 1 ∷ []
 
 -- two windows hold events 3 and 4, and the first has consumed them

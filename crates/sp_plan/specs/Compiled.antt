@@ -1,7 +1,9 @@
 -- What every compiled plan keeps.
-use Rattle.std.specs.Prelude.{◌≡◌, ◌≤◌, ℕ, List, [], ◌∷◌, ◌++◌, length}
+use Rattle.std.specs.Prelude.{◌≡◌, ◌≤◌, ℕ, List, [], ◌∷◌, ◌++◌, length, Option, Some, None, slice_get}
 use Rattle.std.specs.List.{All, range_with_len}
 use Rattle.sp_plan.specs.declared.plan.Plan.{Plan}
+use Rattle.sp_plan.specs.declared.plan.Column.{Column}
+use Rattle.sp_plan.specs.declared.plan.Kind.TheVariants.{Int}
 use Rattle.sp_plan.specs.declared.plan.Element.{Element}
 use Rattle.sp_plan.specs.declared.plan.Element.TheVariants.{One, Plus, Set}
 use Rattle.sp_plan.specs.declared.plan.Opening.{Opening}
@@ -26,10 +28,16 @@ OpeningWithin (EveryEvents step) = Unit {0}
 OpeningWithin (EveryTime step) = Unit {0}
 OpeningWithin (When pred) = PredWithin pred
 
--- A plan keeps the limits of queries: so many columns and names, each name in one element, predicates whose values stay
--- within 10^36, and windows within their limits.
+-- the time's column is there, and holds whole numbers
+abbrev pub IsTimeOf : List Column → Option ℕ → Type 0
+IsTimeOf columns None = Unit {0}
+IsTimeOf columns (Some place) = (column : Column) × (slice_get columns place ≡ Some column) × (column.kind ≡ Int)
+
+-- A plan keeps the limits of queries: so many columns and names, a time of whole numbers, each name in one element,
+-- predicates whose values stay within 10^36, and windows within their limits.
 pub record IsCompiled (q : Plan) : Type 0 where
   pub columns : length q.schema.columns ≤ 64
+  pub time : IsTimeOf q.schema.columns q.schema.time
   pub names : length q.names ≤ 32
   pub elements : numbers_of q.elements ≡ range_with_len 0 (length q.names)
   pub preds : All (λ name. PredWithin name.pred) q.names

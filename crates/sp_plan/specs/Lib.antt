@@ -1,10 +1,14 @@
 pub mod Events
 pub mod Values
+pub mod Blocks
 pub mod Windows
+pub mod WindowNumbers
 pub mod Runs
+pub mod Moves
 pub mod Sequential
 pub mod Lines
-pub mod Simple
 pub mod Bounds
 pub mod Texts
 pub mod Compiled
+pub mod Laws
+pub mod Same

@@ -92,6 +92,14 @@ is_among ns n = list_any (λ m. m == n) ns
 abbrev pub holds_one : List ℕ → Run → Bool
 holds_one ns r = list_any (λ pair. is_among ns pair.number) r
 
+-- the numbers of the events that a run binds to a name
+abbrev pub numbers_under : Run → ℕ → List ℕ
+numbers_under r name = map (λ pair. pair.number) (filter (λ pair. pair.name == name) r)
+
+-- each name of the plan with the numbers of the events that a run binds to it
+abbrev pub bindings : Plan → Run → List (ℕ × List ℕ)
+bindings q r = map (λ name. (name, numbers_under r name)) (range_with_len 0 (length q.names))
+
 -- a run with its number: runs are numbered from 1 in the order of their start
 abbrev pub Started : Type 0
 Started = ℕ × Run

@@ -1,28 +1,24 @@
 -- The windows processed one after another: what is matched, and what is consumed.
-use Rattle.std.specs.Prelude.{ℕ, zero, suc, ◌+◌, Bool, false, not, List, [], ◌++◌, length, Option, Some, None, slice_get, ◌==◌, ◌≡◌, filter, map}
-use Rattle.std.specs.List.{enumerate_from, range_with_len, flat_map}
+use Rattle.std.specs.Prelude.{ℕ, zero, suc, ◌+◌, Bool, false, not, List, [], ◌++◌, length, Option, Some, None, slice_get, ◌≡◌, filter, map}
+use Rattle.std.specs.List.{enumerate_from, flat_map}
 use Rattle.sp_plan.specs.declared.event.Event.{Event}
 use Rattle.sp_plan.specs.declared.plan.Plan.{Plan}
 use Rattle.sp_plan.specs.declared.found.Match.{Match}
 use Rattle.sp_plan.specs.Windows.{Numbered, Window, IsWindowed, windows, closed, events_of}
-use Rattle.sp_plan.specs.Events.{NeverGoesBack}
-use Rattle.sp_plan.specs.Runs.{Run, used, is_among, state, matched_runs}
+use Rattle.sp_plan.specs.Events.{AllFit, NeverGoesBack}
+use Rattle.sp_plan.specs.Runs.{Run, used, bindings, is_among, state, matched_runs}
 
 -- the matches so far, and the numbers consumed
 pub record Progress : Type 0 where
   pub matches : List Match
   pub consumed : List ℕ
 
--- the numbers of the events that a run binds to a name
-abbrev pub numbers_under : Run → ℕ → List ℕ
-numbers_under r name = map (λ pair. pair.number) (filter (λ pair. pair.name == name) r)
-
 -- a run that matched, as a match of a window; the run comes with the match's number
 abbrev pub match_of : Plan → ℕ → ℕ × Run → Match
 match_of q window run = record {
   window = window;
   number = run.0;
-  bound = map (λ name. (name, numbers_under run.1 name)) (range_with_len 0 (length q.names));
+  bound = bindings q run.1;
   used = used q run.1;
 }
 
@@ -50,8 +46,7 @@ abbrev pub whole : Plan → List Event → Bool → Progress
 whole q events ended = seq q events (closed q events ended)
 
 -- The law of growth: while the input has not ended, the matches so far begin the matches of any longer input.
--- It is stated here and not proved yet (docs/statement.md).
 abbrev pub Grows : Type 0
 Grows =
-    (q : Plan) (events more : List Event) (ended : Bool) → IsWindowed q → NeverGoesBack (events ++ more)
+    (q : Plan) (events more : List Event) (ended : Bool) → IsWindowed q → AllFit q (events ++ more) → NeverGoesBack (events ++ more)
     → (later : List Match) × ((whole q (events ++ more) ended).matches ≡ (whole q events false).matches ++ later)

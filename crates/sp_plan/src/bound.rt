@@ -1,24 +1,76 @@
-ghost use Rattle.std.specs.Prelude.{◌≡◌, ◌++◌, ◌∷◌, [], IfOk, OnOk, OnErr};
+ghost use Rattle.std.specs.Prelude.{◌≡◌, ◌++◌, ◌∷◌, [], ◌<◌, ◌-◌, length, take, map, ◌↔◌, IsTrue, IfOk, OnOk, OnErr};
 ghost use Rattle.std.specs.Option.{option_map, option_copied};
 ghost use Rattle.sp_plan.specs.Values.{last_bound};
+ghost use Rattle.sp_plan.specs.Blocks.{seen, IsBlock, Blocked};
 
 use crate::{Event, Memory};
 use std::alloc::Global;
 use std::marker::Model;
 
+// An event that is bound to a name. Its block is the run of pairs of the same name that stand
+// together and end with it; `block` is the place of the first of them.
+#[derive(Drop)]
+struct Pair {
+    name: u8,
+    block: usize,
+    event: Event,
+}
+
 /// The events that a partial match has bound so far, each with the number of its name.
 #[derive(Drop)]
 pub struct Bound {
-    pairs: Vec<(u8, Event)>,
+    pairs: Vec<Pair>,
 }
 
 impl Model for Bound {
-    ghost use Rattle.std.specs.Prelude.{ℕ, List};
+    ghost use Rattle.std.specs.Prelude.{ℕ, List, [], map};
     ghost use Rattle.sp_plan.specs.declared.event.Event.{Event};
+    ghost use Rattle.sp_plan.specs.Blocks.{seen, Blocked};
 
     ghost Value = { List (ℕ × Event) };
 
-    ghost view = { λ b. b.pairs.items };
+    ghost view = { λ b. map seen b.pairs.items };
+
+    ghost invariant = { λ b. Blocked [] b.pairs.items };
+}
+
+// Where the block of a pair of this name begins that is put behind these.
+fn block_behind(pairs: &[Pair], name: u8) -> usize
+    requires { Blocked [] pairs.now }
+    ensures { IsBlock pairs.now name result }
+{
+    match pairs.last() {
+        None => 0,
+        Some(last) => {
+            if last.name == name {
+                last.block
+            } else {
+                pairs.len()
+            }
+        }
+    }
+}
+
+// Whether two pairs have the same name and event.
+fn same_pair(x: &Pair, y: &Pair) -> bool
+    ensures { IsTrue result ↔ (seen x.now ≡ seen y.now) }
+{
+    x.name == y.name && x.event.same(&y.event)
+}
+
+// Whether two lists of pairs have the same names and events.
+fn same_pairs(xs: &[Pair], ys: &[Pair]) -> bool
+    ensures { IsTrue result ↔ (map seen xs.now ≡ map seen ys.now) }
+{
+    if xs.len() != ys.len() {
+        return false;
+    }
+    for i in 0..xs.len() {
+        if !same_pair(&xs[i], &ys[i]) {
+            return false;
+        }
+    }
+    true
 }
 
 impl Bound {
@@ -37,8 +89,24 @@ impl Bound {
         ensures kept { OnErr result (self.new ≡ self.old) }
     {
         let event = event.copy(alloc)?;
-        self.pairs.push((name, event))?;
+        let block = block_behind(&self.pairs, name);
+        self.pairs.push(Pair { name, block, event })?;
         Ok(())
+    }
+
+    /// Takes the event that was bound last away. Takes no memory.
+    pub fn unbind(&mut self)
+        requires { 0 < length self.old }
+        ensures { self.new ≡ take (length self.old - 1) self.old }
+    {
+        self.pairs.pop();
+    }
+
+    /// Takes all events away and keeps the room for them. Takes no memory.
+    pub fn clear(&mut self)
+        ensures { self.new ≡ [] }
+    {
+        self.pairs.clear();
     }
 
     /// The same events once more.
@@ -46,23 +114,35 @@ impl Bound {
         ensures { IfOk result (λ bound. bound ≡ self.now) }
     {
         let mut pairs = Vec::with_capacity(alloc, self.pairs.len())?;
-        for (name, event) in &self.pairs {
-            pairs.push((*name, event.copy(alloc)?))?;
+        for pair in &self.pairs {
+            pairs.push(Pair {
+                name: pair.name,
+                block: pair.block,
+                event: pair.event.copy(alloc)?,
+            })?;
         }
         Ok(Bound { pairs })
     }
 
-    /// The last event bound to the name, None exactly where there is none.
+    /// Whether the same events are bound to the same names in the same order. Takes no memory.
+    pub fn same(&self, other: &Bound) -> bool
+        ensures { IsTrue result ↔ (self.now ≡ other.now) }
+    {
+        same_pairs(&self.pairs, &other.pairs)
+    }
+
+    /// The last event bound to the name, None exactly where there is none. Takes one step for each
+    /// block of equal names from there to the end.
     pub fn get(&self, name: u8) -> Option<&Event>
         ensures { option_copied result ≡ option_map (λ pair. pair.1) (last_bound name self.now) }
     {
         let mut left = self.pairs.len();
         while left > 0 {
-            left -= 1;
-            let pair = &self.pairs[left];
-            if pair.0 == name {
-                return Some(&pair.1);
+            let pair = &self.pairs[left - 1];
+            if pair.name == name {
+                return Some(&pair.event);
             }
+            left = pair.block;
         }
         None
     }

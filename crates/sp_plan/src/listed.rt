@@ -1,6 +1,9 @@
 // Vectors and texts as contracts see them: as lists, with neither capacity nor pointer, so that plain
 // data can be compared with the values of definitions.
 ghost use Rattle.std.specs.Prelude.{◌≡◌, List, ℕ, string_bytes, IfOk};
+ghost use Rattle.std.specs.Str.{bytes_eq};
+ghost use Rattle.std.specs.Cmp.{partial_equiv_from_equiv};
+ghost use Rattle.std.specs.Cmp.Lexicographic.{nat_list_eq_equiv};
 
 use crate::Memory;
 use std::alloc::Global;
@@ -32,6 +35,13 @@ impl<T> Listed<T> {
     {
         &self.items
     }
+
+    /// The vector of its items. Takes no memory.
+    pub fn into_vec(self) -> Vec<T>
+        ensures { result.items ≡ self }
+    {
+        self.items
+    }
 }
 
 /// A text that contracts see as the list of its bytes.
@@ -44,6 +54,16 @@ impl Model for Text {
     ghost Value = { List ℕ };
 
     ghost view = { λ s. string_bytes s.text };
+}
+
+impl PartialEq for Text {
+    ghost eq = { bytes_eq };
+
+    ghost laws = { partial_equiv_from_equiv nat_list_eq_equiv };
+
+    fn eq(&self, other: &Text) -> bool {
+        self.text == other.text
+    }
 }
 
 impl Text {

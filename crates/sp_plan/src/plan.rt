@@ -11,7 +11,7 @@ pub enum Kind {
 }
 
 /// A column that a query names.
-#[derive(Drop)]
+#[derive(Drop, PartialEq)]
 pub struct Column {
     pub name: Text,
     pub kind: Kind,

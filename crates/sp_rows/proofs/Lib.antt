@@ -12,7 +12,8 @@ pub mod PlacedColumns
 pub mod FirstPlace
 pub mod RowValues
 pub mod PlainRows
-pub mod SmallEvents
+pub mod SmallNumbers
+pub mod FitEvents
 pub mod Times
 pub mod Pieces
 pub mod Points

@@ -1,7 +1,6 @@
-mod Bound
-mod Handle
-mod Marks
-mod Going
-mod Walk
-mod Windows
-mod Sweep
+pub mod Marks
+pub mod Gathering
+pub mod Sweeping
+pub mod Spanning
+pub mod Feeding
+pub mod Adding

@@ -4,7 +4,10 @@ use Rattle.std.specs.Prelude.{◌≢◌}
 use Rattle.std.proofs.Common.{inl, inr}
 use Rattle.std.proofs.lemmas.Bool.{cases_eq}
 use Rattle.std.proofs.lemmas.Bool.Decides.{nat_tests}
-use Rattle.std.proofs.lemmas.List.{take_more}
+use Rattle.std.proofs.lemmas.List.{take_more, append-nil}
+use Rattle.std.proofs.lemmas.List.Concat.{flat_map-append}
+use Rattle.std.specs.List.{flat_map}
+use Rattle.sp_plan.specs.declared.found.Match.{Match}
 use Rattle.sp_plan.specs.Runs.{is_among}
 use Rattle.sp_seq.specs.Marked.{IsMarked}
 
@@ -47,3 +50,11 @@ module _ (before numbers : List ℕ) (flags : List Bool) (i : ℕ) (within : i <
   -- the next number has no flag
   pub marks_skip : (0 < get_or numbers i 0 → length flags < get_or numbers i 0) → IsMarked (before ++ take (i + 1) numbers) flags
   marks_skip past = subst (λ (l : List ℕ). IsMarked l flags) (sym more) (marked_skip _ flags _ marked past)
+
+-- the numbers that one match more uses
+pub used_more : (before : List ℕ) (ms : List Match) (i : ℕ) (d one : Match) → i < length ms → one ≡ get_or ms i d → before ++ flat_map (λ (m : Match). m.used) (take (i + 1) ms) ≡ (before ++ flat_map (λ (m : Match). m.used) (take i ms)) ++ one.used
+used_more before ms i d one within is =
+    let f : Match → List ℕ = λ m. m.used in
+    ap (λ (l : List Match). before ++ flat_map f l) (take_more ms i d within)
+    ∙ ap (λ (l : List ℕ). before ++ l) (flat_map-append f (take i ms) (get_or ms i d ∷ []) ∙ ap (λ (l : List ℕ). flat_map f (take i ms) ++ l) (append-nil (get_or ms i d).used ∙ ap (λ (m : Match). m.used) (sym is)))
+    ∙ sym (append_assoc before (flat_map f (take i ms)) one.used)

@@ -1,5 +1,4 @@
-pub mod Closed
 pub mod Marked
-pub mod Kept
 pub mod Unconsumed
-pub mod Sequence
+pub mod Completed
+pub mod Spans

@@ -1,98 +1,129 @@
-// The windows of a simple plan, one after another.
-ghost use Rattle.std.specs.Prelude.{◌≡◌, ◌+◌, ◌<◌, ◌≤◌, length, min, IfOk, IfSome, IsSome, IsNone};
+// The windows one after another.
+ghost use Rattle.std.specs.Prelude.{◌≡◌, ◌≤◌, ◌<◌, length, drop, IfOk};
 ghost use Rattle.std.specs.Arc.{arc_value};
-ghost use Rattle.std.specs.List.{All};
-ghost use Rattle.sp_plan.specs.Bounds.{PredWithin, IsSmall};
-ghost use Rattle.sp_plan.specs.Simple.{IsSimple};
+ghost use Rattle.sp_plan.specs.Compiled.{IsCompiled};
+ghost use Rattle.sp_plan.specs.Events.{AllFit, NeverGoesBack};
 ghost use Rattle.sp_plan.specs.Sequential.{whole};
-ghost use Rattle.sp_seq.specs.Closed.{IsClosed};
+ghost use Rattle.sp_plan.specs.Windows.{closed};
+ghost use Rattle.sp_window.specs.Standing.{Stands};
+ghost use Rattle.sp_seq.specs.Spans.{IsSpan};
 
-use crate::window::{Window, match_window};
-use sp_plan::{Event, Length, Match, Memory, Opening, Plan};
+use crate::window::{Window, consume, match_window};
+use sp_match::{Matcher, Moves};
+use sp_plan::{Event, Match, Memory, Plan};
+use sp_window::{Windows, closed_come_first, windows_hold};
 use std::alloc::Global;
 use std::sync::Arc;
 
-// The place behind the last event of the window that begins at place `first`, where `count` events
-// are there; None where an event to come may join the window.
-fn closed_end(first: usize, length: usize, count: usize, ended: bool) -> Option<usize>
-    requires inside { first < count }
-    requires few { count ≤ 1048576 }
-    requires short { length ≤ 65536 }
-    ensures end { IfSome result (λ end. end ≡ min (first + length) count) }
-    ensures closed { IsSome result → IsClosed first length count ended }
-    ensures open { IsNone result → ¬ IsClosed first length count ended }
+// The windows of the events.
+fn windows_of(
+    alloc: Global,
+    plan: Arc<Plan>,
+    events: &[Event],
+    ended: bool,
+) -> Result<Windows, Memory>
+    requires compiled { IsCompiled (arc_value plan) }
+    requires few { length events.now ≤ 1048576 }
+    requires fit { AllFit (arc_value plan) events.now }
+    requires ordered { NeverGoesBack events.now }
+    ensures plan { IfOk result (λ windows. windows.plan ≡ arc_value plan) }
+    ensures stands { IfOk result (λ windows. Stands windows events.now ended) }
+    ensures ended { IfOk result (λ windows. windows.ended ≡ ended) }
 {
-    let end = first + length;
-    if end <= count {
-        Some(end)
-    } else if ended {
-        Some(count)
-    } else {
-        None
+    let mut windows = Windows::new(alloc, plan)?;
+    for event in events {
+        windows.feed(alloc, event)?;
+    }
+    if ended {
+        windows.end();
+    }
+    Ok(windows)
+}
+
+// The closed window of this number.
+fn closed_window(windows: &Windows, events: &[Event], number: u32) -> Window
+    requires compiled { IsCompiled windows.now.plan }
+    requires stands { Stands windows.now events.now windows.now.ended }
+    requires some { 0 < number }
+    requires closed { number ≤ closed windows.now.plan events.now windows.now.ended }
+    ensures number { result.number ≡ number }
+    ensures span { IsSpan windows.now.plan events.now number result.first result.end }
+{
+    closed_come_first();
+    windows_hold();
+    let Some(window) = windows.get(number) else {
+        unreachable!()
+    };
+    let Some(end) = window.end else {
+        unreachable!()
+    };
+    Window {
+        number,
+        first: window.first as usize - 1,
+        end: end as usize,
     }
 }
 
-// The matches of all closed windows. The flags of the consumed events, and the list of the numbers
-// bound so far, are made once for all windows.
+// The matches behind so many.
+fn behind(matches: &[Match], count: usize) -> &[Match]
+    requires { count ≤ length matches.now }
+    ensures { result.now ≡ drop count matches.now }
+{
+    &matches[count..]
+}
+
+// The matches of the closed windows. The flags of the consumed events, and the matcher, are made once
+// for all windows.
 fn match_windows(
     alloc: Global,
-    plan: &Plan,
+    plan: Arc<Plan>,
+    windows: &Windows,
     events: &[Event],
-    ended: bool,
 ) -> Result<Vec<Match>, Memory>
-    requires simple { IsSimple plan.now }
+    requires compiled { IsCompiled (arc_value plan) }
+    requires plan { windows.now.plan ≡ arc_value plan }
+    requires stands { Stands windows.now events.now windows.now.ended }
     requires few { length events.now ≤ 1048576 }
-    requires within { All (λ name. PredWithin name.pred) plan.now.names }
-    requires small { All IsSmall events.now }
-    ensures { IfOk result (λ matches. matches.items ≡ (whole plan.now events.now ended).matches) }
+    requires fit { AllFit (arc_value plan) events.now }
+    ensures { IfOk result (λ matches. matches.items ≡ (whole (arc_value plan) events.now windows.now.ended).matches) }
 {
-    let Length::Events(length) = plan.length else {
-        unreachable!()
-    };
-    let Opening::EveryEvents(step) = plan.opening else {
-        unreachable!()
-    };
+    let mut matcher = Matcher::new(alloc, plan)?;
+    let mut moves = Moves::new(alloc);
     let mut consumed = vec![in alloc; false; events.len()]?;
-    let mut numbers = Vec::new(alloc);
     let mut matches = Vec::new(alloc);
-    let mut first = 0usize;
-    let mut number = 0u32;
-    while first < events.len() {
-        let Some(end) = closed_end(first, length as usize, events.len(), ended) else {
-            break;
-        };
-        number += 1;
+    for count in 0..windows.closed() {
+        let earlier = matches.len();
+        let window = closed_window(windows, events, count + 1);
         match_window(
             alloc,
-            plan,
+            &mut matcher,
+            &mut moves,
             events,
-            Window { number, first, end },
-            &mut numbers,
+            window,
+            &consumed,
             &mut matches,
-            &mut consumed,
         )?;
-        first += step as usize;
+        consume(&mut consumed, behind(&matches, earlier));
     }
     Ok(matches)
 }
 
-/// The matches of all windows that are closed, one window after another, each with its number from
-/// 1 on. Windows that no later event can join are closed, and all of them where the input has
-/// `ended`. The plan is simple, and there are at most 1,048,576 events, whose numbers are at most
-/// 10^15 in magnitude. A predicate may look at its event and at the events that the run has bound
-/// before it; no value that it computes can then pass 10^36. Want of memory leaves nothing behind:
-/// the plan and the events are only read.
+/// The matches of all windows that are closed, one window after another, each with its number from 1
+/// on. A window is closed that no later event can join, and each one where the input has `ended`. The
+/// plan is compiled, there are at most 1,048,576 events, they fit the plan, and their times never go
+/// back. Want of memory leaves nothing behind: the plan and the events are only read.
 pub fn plain(
     alloc: Global,
     plan: Arc<Plan>,
     events: &[Event],
     ended: bool,
 ) -> Result<Vec<Match>, Memory>
-    requires simple { IsSimple (arc_value plan) }
+    requires compiled { IsCompiled (arc_value plan) }
     requires few { length events.now ≤ 1048576 }
-    requires within { All (λ name. PredWithin name.pred) (arc_value plan).names }
-    requires small { All IsSmall events.now }
+    requires fit { AllFit (arc_value plan) events.now }
+    requires ordered { NeverGoesBack events.now }
     ensures { IfOk result (λ matches. matches.items ≡ (whole (arc_value plan) events.now ended).matches) }
 {
-    match_windows(alloc, &*plan, events, ended)
+    let windows = windows_of(alloc, plan.clone()?, events, ended)?;
+    match_windows(alloc, plan, &windows, events)
 }

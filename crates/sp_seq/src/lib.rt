@@ -1,10 +1,10 @@
-//! The engine of simple plans, which goes through the windows one after another.
-//! Within a window a run binds events name by name, and a match consumes them where the query says so.
+//! The engine that goes through the windows one after another: the windows of the events, the matcher
+//! over the events of each window that no earlier match has consumed, and the matches.
 //! What the matches are is said by `whole` in `sp_plan/specs/Sequential.antt`.
 #![tactic(auto)]
 
 mod engine;
-mod run;
+mod found;
 mod window;
 
 pub use engine::plain;

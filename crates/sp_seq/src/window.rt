@@ -1,16 +1,15 @@
-// The runs of one window.
+// One window: its matches, and what they consume.
 ghost use Rattle.std.specs.Prelude.{◌≡◌, ℕ, ◌≤◌, List, ◌++◌, length, OnOk};
-ghost use Rattle.std.specs.List.{All};
-ghost use Rattle.sp_plan.specs.Simple.{IsSimple};
-ghost use Rattle.sp_plan.specs.Bounds.{PredWithin, IsSmall};
-ghost use Rattle.sp_plan.specs.Runs.{state, matched_runs};
-ghost use Rattle.sp_plan.specs.Sequential.{Progress, after_window};
+ghost use Rattle.std.specs.List.{flat_map};
+ghost use Rattle.sp_plan.specs.Events.{AllFit};
+ghost use Rattle.sp_plan.specs.Runs.{state};
 ghost use Rattle.sp_seq.specs.Marked.{IsMarked};
-ghost use Rattle.sp_seq.specs.Kept.{IsKept};
 ghost use Rattle.sp_seq.specs.Unconsumed.{unconsumed};
+ghost use Rattle.sp_seq.specs.Completed.{with_matches};
 
-use crate::run::{found, takes};
-use sp_plan::{Bound, Event, Match, Memory, Plan};
+use crate::found::add_matches;
+use sp_match::{Matcher, Moves, completions_are_matches, runs_are_sound};
+use sp_plan::{Event, Match, Memory};
 use std::alloc::Global;
 
 // A closed window: its number from 1, the place of its first event from 0, and the place behind its
@@ -34,47 +33,43 @@ fn mark(consumed: &mut [bool], numbers: &[u32])
     }
 }
 
-// Adds the matches of one window, and marks what they use. The run at hand stands in `numbers`,
-// which each window begins anew: only its room is used again. `bound` has its events for the
-// predicates of later names, so the event of the last name is not copied. What is marked on the way
-// lies behind, and the flags ahead still say what was consumed before the window.
+// Marks what these matches use.
+pub(crate) fn consume(consumed: &mut [bool], matches: &[Match])
+    ensures { (before : List ℕ) → IsMarked before consumed.old → IsMarked (before ++ flat_map (λ one. one.used) matches.now) consumed.new }
+{
+    for one in matches {
+        mark(consumed, one.used.list());
+    }
+}
+
+// Adds the matches of one window over the events that are not consumed. The matcher and the moves are
+// begun anew: only their room is used again.
 pub(crate) fn match_window(
     alloc: Global,
-    plan: &Plan,
+    matcher: &mut Matcher,
+    moves: &mut Moves,
     events: &[Event],
     window: Window,
-    numbers: &mut Vec<u32>,
+    consumed: &[bool],
     matches: &mut Vec<Match>,
-    consumed: &mut [bool],
 ) -> Result<(), Memory>
-    requires simple { IsSimple plan.now }
+    requires fit { AllFit matcher.old.plan events.now }
     requires few { length events.now ≤ 1048576 }
-    requires predicates { All (λ name. PredWithin name.pred) plan.now.names }
-    requires small { All IsSmall events.now }
     requires ordered { window.first ≤ window.end }
     requires within { window.end ≤ length events.now }
-    requires same { length consumed.old ≡ length events.now }
-    ensures { OnOk result ((before : Progress) → IsKept before matches.old.items consumed.old
-        → IsKept (after_window plan.now window.number before
-        (matched_runs (state plan.now (unconsumed before.consumed events.now window.first window.end)))) matches.new.items consumed.new) }
+    requires same { length consumed.now ≡ length events.now }
+    ensures plan { matcher.new.plan ≡ matcher.old.plan }
+    ensures more { OnOk result (length matches.old.items ≤ length matches.new.items) }
+    ensures matches { OnOk result ((before : List ℕ) → IsMarked before consumed.now
+        → matches.new.items ≡ with_matches matcher.old.plan window.number matches.old.items (state matcher.old.plan (unconsumed before events.now window.first window.end))) }
 {
-    numbers.clear();
-    let mut bound = Bound::new(alloc);
+    completions_are_matches();
+    runs_are_sound();
+    matcher.clear();
     for i in window.first..window.end {
-        let event = &events[i];
-        let name = numbers.len();
-        if !consumed[i] && takes(plan, name, event, &bound) {
-            numbers.push((i + 1) as u32)?;
-            if numbers.len() == plan.names.as_slice().len() {
-                let next = matches.len() as u64 + 1;
-                let one = found(alloc, plan, window.number, next, numbers)?;
-                mark(consumed, one.used.list());
-                matches.push(one)?;
-                numbers.clear();
-                bound = Bound::new(alloc);
-            } else {
-                bound.bind(alloc, name as u8, event)?;
-            }
+        if !consumed[i] {
+            matcher.offer_into(alloc, (i + 1) as u32, &events[i], moves)?;
+            add_matches(alloc, window.number, &moves.list, matches)?;
         }
     }
     Ok(())

@@ -6,7 +6,6 @@ mod Leading
 mod LinesOf
 mod ReadSoFar
 mod Refusals
-mod SimplePlans
-mod SmallReading
+mod FitReading
 mod Told
 mod Words

@@ -5,7 +5,6 @@ use Rattle.std.specs.Str.{IsUtf8}
 use Rattle.sp_cut.specs.CutRows.{without_mark}
 use Rattle.sp_io.specs.Outside.{HoldsFile}
 use Rattle.sp_plan.specs.declared.plan.Plan.{Plan}
-use Rattle.sp_plan.specs.Simple.{IsSimple}
 use Rattle.sp_syntax.specs.declared.query.Query.{Query as QueryTree}
 use Rattle.sp_syntax.specs.Queries.{IsQuery}
 use Rattle.sp_parse.specs.declared.fault.ParseFault.{ParseFault}
@@ -48,8 +47,8 @@ module _ (text : List ℕ) (utf8 : IsUtf8 text) where
     compile_refused (f.BadWindow span) s refuses memory other = fault_refused (f.BadWindow span) s refuses (λ e. cc) other
     compile_refused (f.TooMany span) s refuses memory other = fault_refused (f.TooMany span) s refuses (λ e. cc) other
 
-    pub plan_for : (r : Result Plan Status) → IfOk r (λ q. IsPlanOf q query × IsSimple q) → IfOk r (IsPlanFor text)
-    plan_for (Ok q) plan = record { utf8 = utf8; query = query; is_query = is; is_plan = plan.0; simple = plan.1 }
+    pub plan_for : (r : Result Plan Status) → IfOk r (λ q. IsPlanOf q query) → IfOk r (IsPlanFor text)
+    plan_for (Ok q) plan = record { utf8 = utf8; query = query; is_query = is; is_plan = plan }
     plan_for (Err s) plan = tt
 
     pub refused_for : (r : Result Plan Status) → IfErr r (RefusesQuery query) → IfErr r (RefusesText text)
@@ -60,7 +59,7 @@ module _ (text : List ℕ) (utf8 : IsUtf8 text) where
 
 module _ (text : List ℕ) (q : Plan) (plan : IsPlanFor text q) (bytes : List ℕ) (ended : Bool) where
   runs_text : TextOutcome text bytes ended (run_outcome q bytes ended)
-  runs_text = run plan.query q plan.utf8 plan.is_query plan.is_plan plan.simple
+  runs_text = run plan.query q plan.utf8 plan.is_query plan.is_plan
 
 module _ (text : List ℕ) (short : length text ≤ longest_query) where
   refused_word : (before after : Filed) (s : Status) → RefusesText text s → RefusesPlace before after (word text) s
@@ -74,7 +73,7 @@ module _ (text : List ℕ) (short : length text ≤ longest_query) where
   refused_word before after (Limited limit) refuses = absurd refuses
 
   pub plan_word : (r : Result Plan Status) → IfOk r (IsPlanFor text) → IfOk r (λ q. (before : Filed) → IsPlanAt before (word text) q)
-  plan_word (Ok q) plan = λ before. record { simple = plan.simple; compiled = plan.is_plan.compiled; runs = λ bytes ended. of_text text (run_outcome q bytes ended) short (runs_text text q plan bytes ended) }
+  plan_word (Ok q) plan = λ before. record { compiled = plan.is_plan.compiled; runs = λ bytes ended. of_text text (run_outcome q bytes ended) short (runs_text text q plan bytes ended) }
   plan_word (Err s) plan = tt
 
   pub word_refused : (r : Result Plan Status) → IfErr r (RefusesText text) → IfErr r (λ s. (before after : Filed) → RefusesPlace before after (word text) s)
@@ -103,7 +102,7 @@ module _ (before : Filed) (name content : List ℕ) (holds : HoldsFile before.he
   refused_file after (Limited limit) refuses = absurd refuses
 
   pub plan_file : (r : Result Plan Status) → IfOk r (IsPlanFor (without_mark content)) → IfOk r (IsPlanAt before (file name))
-  plan_file (Ok q) plan = record { simple = plan.simple; compiled = plan.is_plan.compiled; runs = λ bytes ended. of_file name content (run_outcome q bytes ended) holds short (runs_text (without_mark content) q plan bytes ended) }
+  plan_file (Ok q) plan = record { compiled = plan.is_plan.compiled; runs = λ bytes ended. of_file name content (run_outcome q bytes ended) holds short (runs_text (without_mark content) q plan bytes ended) }
   plan_file (Err s) plan = tt
 
   pub file_refused : (after : Filed) (r : Result Plan Status) → IfErr r (RefusesText (without_mark content)) → IfErr r (RefusesPlace before after (file name))

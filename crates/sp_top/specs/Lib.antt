@@ -1,5 +1,4 @@
 pub mod Commands
-pub mod SimplePlans
 pub mod Reading
 pub mod Kept
 pub mod Coming

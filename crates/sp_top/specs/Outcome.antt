@@ -8,7 +8,6 @@ use Rattle.sp_io.specs.Outside.{ToldFiles, HoldsFile, HoldsLonger}
 use Rattle.sp_plan.specs.declared.event.Event.{Event}
 use Rattle.sp_plan.specs.declared.plan.Plan.{Plan}
 use Rattle.sp_plan.specs.Sequential.{whole}
-use Rattle.sp_plan.specs.Simple.{IsSimple}
 use Rattle.sp_plan.specs.Lines.{text}
 use Rattle.sp_syntax.specs.declared.query.Query.{Query as QueryTree}
 use Rattle.sp_syntax.specs.Queries.{IsQuery}
@@ -71,9 +70,7 @@ pub data TextOutcome (query_text bytes : List ℕ) (ended : Bool) : Outcome → 
   no_query : (fault : ParseFault) → IsUtf8 query_text → parses.Refuses query_text fault → fault ≢ parse_fault.Memory → TextOutcome query_text bytes ended (nothing_for (Query (parse_codes.code_of fault) (parse_codes.place_of fault)))
   no_plan : (query : QueryTree) (fault : CompileFault) → IsUtf8 query_text → IsQuery query_text query → told.Refuses query fault → fault ≢ compile_fault.Memory
       → TextOutcome query_text bytes ended (nothing_for (Query (compile_codes.code_of fault) (compile_codes.place_of fault)))
-  -- a plan that isn't run yet
-  no_run : (query : QueryTree) (q : Plan) → IsUtf8 query_text → IsQuery query_text query → IsPlanOf q query → (IsSimple q → ⊥) → TextOutcome query_text bytes ended (nothing_for (Query 0 0))
-  run : (query : QueryTree) (q : Plan) → IsUtf8 query_text → IsQuery query_text query → IsPlanOf q query → IsSimple q → TextOutcome query_text bytes ended (run_outcome q bytes ended)
+  run : (query : QueryTree) (q : Plan) → IsUtf8 query_text → IsQuery query_text query → IsPlanOf q query → TextOutcome query_text bytes ended (run_outcome q bytes ended)
 
 -- the greatest length of a query's text or file
 abbrev pub longest_query : ℕ

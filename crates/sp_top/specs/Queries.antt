@@ -1,10 +1,9 @@
--- What is made of a query's text, and of a query by the place where it stands: a plan that is run, or a status that refuses it.
+-- What is made of a query's text, and of a query by the place where it stands: a plan, or a status that refuses it.
 use Rattle.std.specs.Prelude.{◌≡◌, ℕ, Bool, List}
 use Rattle.std.specs.Str.{IsUtf8}
 use Rattle.sp_io.specs.Outside.{Rose}
 use Rattle.sp_plan.specs.declared.plan.Plan.{Plan}
 use Rattle.sp_plan.specs.Compiled.{IsCompiled}
-use Rattle.sp_plan.specs.Simple.{IsSimple}
 use Rattle.sp_syntax.specs.declared.query.Query.{Query as QueryTree}
 use Rattle.sp_syntax.specs.Queries.{IsQuery}
 use Rattle.sp_compile.specs.Told.{IsPlanOf}
@@ -14,13 +13,12 @@ use Rattle.sp_top.specs.Commands.{Place, file}
 use Rattle.sp_top.specs.Outcome.{TextOutcome, QueryOutcome, run_outcome, nothing_for}
 use Rattle.sp_top.specs.Answer.{Filed}
 
--- The plan stands for the query that the text is, and is one that is run.
+-- The plan stands for the query that the text is.
 pub record IsPlanFor (text : List ℕ) (q : Plan) : Type 0 where
   pub utf8 : IsUtf8 text
   pub query : QueryTree
   pub is_query : IsQuery text query
   pub is_plan : IsPlanOf q query
-  pub simple : IsSimple q
 
 -- the status refuses the text, whatever the input has
 abbrev pub RefusesText : List ℕ → Status → Type 0
@@ -39,7 +37,6 @@ RefusesQuery query status = (text : List ℕ) → IsUtf8 text → IsQuery text q
 
 -- A run of the plan is the outcome of the query that stands there.
 pub record IsPlanAt (before : Filed) (place : Place) (q : Plan) : Type 0 where
-  pub simple : IsSimple q
   pub compiled : IsCompiled q
   pub runs : (bytes : List ℕ) (ended : Bool) → QueryOutcome before.held bytes ended place (run_outcome q bytes ended)
 

@@ -10,7 +10,6 @@ mod placed;
 mod query;
 mod reader;
 mod run;
-mod simple;
 mod status;
 mod top;
 

@@ -1,6 +1,5 @@
-// From the text of a query to a plan that is run.
+// From the text of a query to its plan.
 ghost use Rattle.std.specs.Prelude.{◌≡◌, ◌≢◌, ◌≤◌, length, IfOk, IfErr};
-ghost use Rattle.sp_plan.specs.Simple.{IsSimple};
 ghost use Rattle.sp_syntax.specs.Queries.{IsQuery};
 ghost use Rattle.sp_parse.specs.declared.fault.ParseFault.{ParseFault};
 ghost use Rattle.sp_parse.specs.Codes as parse_codes;
@@ -10,7 +9,6 @@ ghost use Rattle.sp_compile.specs.Codes as compile_codes;
 ghost use Rattle.sp_top.specs.Outcome.{longest_query};
 ghost use Rattle.sp_top.specs.Queries.{IsPlanFor, RefusesText, RefusesQuery};
 
-use crate::simple::is_simple;
 use crate::status::Status;
 use sp_compile::{CompileFault, compile};
 use sp_parse::{ParseFault, parse};
@@ -58,24 +56,19 @@ fn query_of(alloc: Global, text: &str) -> Result<Query, Status>
     }
 }
 
-// The plan of a query where it is run, or the status that refuses the texts of the query.
+// The plan of a query, or the status that refuses the texts of the query.
 fn plan_of(alloc: Global, query: &Query) -> Result<Plan, Status>
-    ensures plan { IfOk result (λ q. IsPlanOf q query.now × IsSimple q) }
+    ensures plan { IfOk result (λ q. IsPlanOf q query.now) }
     ensures refused { IfErr result (RefusesQuery query.now) }
 {
-    let plan = match compile(alloc, query) {
-        Ok(plan) => plan,
-        Err(fault) => return Err(no_plan(&fault)),
-    };
-    if is_simple(&plan) {
-        Ok(plan)
-    } else {
-        Err(Status::Query { code: 0, place: 0 })
+    match compile(alloc, query) {
+        Ok(plan) => Ok(plan),
+        Err(fault) => Err(no_plan(&fault)),
     }
 }
 
-/// The plan of a query text, or the status that refuses it: a fault of the text with its place, code 0
-/// at 0 for a plan that isn't run yet, or want of memory.
+/// The plan of a query text, or the status that refuses it: a fault of the text with its place, or want
+/// of memory.
 pub(crate) fn read_query(alloc: Global, text: &str) -> Result<Plan, Status>
     requires { length text.now ≤ longest_query }
     ensures plan { IfOk result (IsPlanFor text.now) }

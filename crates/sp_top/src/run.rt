@@ -1,10 +1,9 @@
 // A plan over the input.
 ghost use Rattle.std.specs.Prelude.{◌≡◌, ◌≢◌, ◌≤◌, [], false, length, IfOk};
 ghost use Rattle.std.specs.Arc.{arc_value};
-ghost use Rattle.std.specs.List.{All};
 ghost use Rattle.sp_io.specs.Outside.{Grew, GrewWithin, Rose};
-ghost use Rattle.sp_plan.specs.Bounds.{PredWithin, IsSmall};
-ghost use Rattle.sp_plan.specs.Simple.{IsSimple};
+ghost use Rattle.sp_plan.specs.Compiled.{IsCompiled};
+ghost use Rattle.sp_plan.specs.Events.{AllFit, NeverGoesBack};
 ghost use Rattle.sp_top.specs.Answer.{Ran, IsPlanRun};
 ghost use Rattle.sp_top.specs.Outcome;
 ghost use Rattle.sp_top.specs.Outcome.{windows_text};
@@ -50,10 +49,10 @@ fn write_windows<K: Sink>(
     given: &Given,
     out: &mut K,
 ) -> Result<Written, Memory>
-    requires simple { IsSimple (arc_value plan.now) }
+    requires compiled { IsCompiled (arc_value plan.now) }
     requires few { length given.now.events.items ≤ 1048576 }
-    requires within { All (λ name. PredWithin name.pred) (arc_value plan.now).names }
-    requires small { All IsSmall given.now.events.items }
+    requires fit { AllFit (arc_value plan.now) given.now.events.items }
+    requires ordered { NeverGoesBack given.now.events.items }
     ensures all { result ≡ Ok Written.All → Grew (K.state out.old).held (windows_text (arc_value plan.now) given.now.events.items given.now.stop) (K.state out.new).held }
     ensures within { GrewWithin (K.state out.old).held (windows_text (arc_value plan.now) given.now.events.items given.now.stop) (K.state out.new).held }
     ensures failed { result ≡ Ok Written.Failed → Rose (K.state out.old).faults (K.state out.new).faults × (windows_text (arc_value plan.now) given.now.events.items given.now.stop ≢ []) }
@@ -70,8 +69,7 @@ pub(crate) fn run_plan<S: Source, K: Sink>(
     input: &mut S,
     out: &mut K,
 ) -> Status
-    requires simple { IsSimple plan }
-    requires within { All (λ name. PredWithin name.pred) plan.names }
+    requires compiled { IsCompiled plan }
     requires not_ended { (S.state input.old).ended ≡ false }
     ensures { Ran (IsPlanRun plan)
         (record { input = S.state input.old; out = K.state out.old })

@@ -1,5 +1,5 @@
 // Commands over the whole language: words, texts and files of queries, the first fault of each, and what
-// simple queries find.
+// queries find.
 ghost use Rattle.std.specs.Prelude.{◌≡◌, false};
 ghost use Rattle.sp_io.specs.MemorySource.{source_state};
 
@@ -181,7 +181,7 @@ fn long_words(rt: HostRuntime) -> Result<(), Fail> {
 }
 
 // Texts of queries with their first faults, one for each cause of each code.
-const FAULTS: [(&str, &str, (u8, usize)); 31] = [
+const FAULTS: [(&str, &str, (u8, usize)); 30] = [
     ("the empty text", "", (11, 0)),
     ("no character of the language", "EVENT (at INT;", (1, 13)),
     ("a text without an end", "EVENT 'a", (2, 6)),
@@ -302,11 +302,6 @@ const FAULTS: [(&str, &str, (u8, usize)); 31] = [
         (27, 53),
     ),
     (
-        "a plan that is not run yet",
-        "EVENT (at INT, k TEXT) TIME at PATTERN (A) WITHIN 1 TIME FROM EVERY 1 EVENTS SELECT FIRST CONSUME ALL",
-        (0, 0),
-    ),
-    (
         "elements before definitions",
         "EVENT (x INT) PATTERN (A B+) DEFINE A AS y = 1 WITHIN 0 EVENTS FROM EVERY 1 EVENTS SELECT FIRST CONSUME ALL",
         (24, 25),
@@ -423,7 +418,7 @@ fn too_many_columns_and_names(rt: HostRuntime) -> Result<(), Fail> {
     Ok(())
 }
 
-// Simple queries with what they find in a table.
+// Queries with what they find in a table.
 const FOUND: [(&str, &str, &str, &str); 8] = [
     (
         "a sum of products",

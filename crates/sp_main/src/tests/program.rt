@@ -21,7 +21,7 @@ fn query(alloc: Global, windows: &str, word: &str) -> Result<String, AllocError>
     format!(in alloc; "{FRONT}{windows} SELECT FIRST CONSUME {word}")
 }
 
-fn words(alloc: Global, query: &str) -> Result<Vec<String>, AllocError> {
+pub(crate) fn words(alloc: Global, query: &str) -> Result<Vec<String>, AllocError> {
     Ok(vec![in alloc;
         String::from_str(alloc, "run")?,
         String::from_str(alloc, "-q")?,
@@ -30,7 +30,7 @@ fn words(alloc: Global, query: &str) -> Result<Vec<String>, AllocError> {
 }
 
 // Runs the words over an input that is there at once, and holds the answer against what is wanted.
-fn expect(
+pub(crate) fn expect(
     rt: &impl Abort,
     alloc: Global,
     shows: &str,
@@ -247,7 +247,7 @@ fn worked_inputs(rt: HostRuntime) -> Result<(), Fail> {
 
 // Windows of a query of the form, with the last word of the text, and where its fault is: its code, and its
 // place from the first word of the windows on.
-const QUERIES: [(&str, &str, &str, Option<(u8, usize)>); 15] = [
+const QUERIES: [(&str, &str, &str, Option<(u8, usize)>); 18] = [
     (
         "the least numbers",
         "WITHIN 1 EVENTS FROM EVERY 1 EVENTS",
@@ -289,6 +289,24 @@ const QUERIES: [(&str, &str, &str, Option<(u8, usize)>); 15] = [
         "WITHIN 129 EVENTS FROM EVERY 2 EVENTS",
         "ALL",
         Some((27, 23)),
+    ),
+    (
+        "the greatest length and step in time",
+        "WITHIN 1000000000000000 TIME FROM EVERY 1000000000000000 TIME",
+        "ALL",
+        None,
+    ),
+    (
+        "a greater length in time",
+        "WITHIN 1000000000000001 TIME FROM EVERY 1000000000000000 TIME",
+        "ALL",
+        Some((3, 7)),
+    ),
+    (
+        "64 windows of time an event",
+        "WITHIN 64 TIME FROM EVERY 1 TIME",
+        "ALL",
+        None,
     ),
     (
         "more blanks and a line feed",

@@ -1,43 +1,47 @@
-use Rattle.std.proofs.Common.{◌≡◌, ◌+◌, ◌<◌, ◌++◌, Bool, List, length, take, drop, min, sym, subst, arith, rules}
+use Rattle.std.proofs.Common.{◌≡◌, ℕ, ◌+◌, ◌≤◌, Bool, List, ◌++◌, length, drop, take, refl, ◌∙◌, sym, ap, subst, arith, rules}
+use Rattle.std.specs.Arc.{arc_value}
+use Rattle.std.specs.List.{flat_map}
 use Rattle.std.proofs.lemmas.List.{take_at}
-use Rattle.sp_plan.specs.Simple.{IsCounted, IsStepped}
-use Rattle.sp_plan.specs.Runs.{state, matched_runs}
-use Rattle.sp_plan.specs.Sequential.{Progress, after_window}
-use Rattle.sp_seq.specs.Closed.{IsClosed}
-use Rattle.sp_seq.specs.Kept.{IsKept}
+use Rattle.sp_plan.specs.declared.event.Event.{Event}
+use Rattle.sp_plan.specs.declared.plan.Plan.{Plan}
+use Rattle.sp_plan.specs.declared.found.Match.{Match}
+use Rattle.sp_plan.specs.Windows.{closed}
+use Rattle.sp_plan.specs.Sequential.{seq}
+use Rattle.sp_plan.specs.Runs.{state}
+use Rattle.sp_seq.specs.Marked.{IsMarked}
 use Rattle.sp_seq.specs.Unconsumed.{unconsumed}
-use Rattle.sp_seq.proofs.Sweep.{Sweep, sweep_more, sweep_end, sweep_late}
+use Rattle.sp_seq.specs.Completed.{with_matches}
+use Rattle.sp_seq.specs.Spans.{IsSpan, IsSwept}
+use Rattle.sp_seq.proofs.Sweeping.{Sweeping, swept_more}
 use Rattle.sp_seq.proofs.engine.match_windows.Goals as goal
-use Rattle.sp_seq.proofs.engine.match_windows.Goals.{else-loop-first-test, then-loop-first-test+in_default-closed_end}
 
-pub loop-first-preserved : goal.loop-first-preserved
-loop-first-preserved c =
-    let q = c.args.plan.now in
-    let now = c.loop-first in
+pub loop-count-preserved : goal.loop-count-preserved
+loop-count-preserved c =
+    let q = arc_value c.args.plan in
     let events = c.args.events.now in
-    let n = c.in-Events.length in
-    let s = c.in-EveryEvents.step in
-    let above : 0 < s = (subst IsStepped c.in-EveryEvents.is c.requires.simple.stepped).0 in
-    let long : 0 < n = (subst IsCounted c.in-Events.is c.requires.simple.counted).0 in
-    let end = c.in-Some.end in
+    let now = c.loop-count in
+    let ms = now.matches.items in
+    let ms' = c.match_window.new.matches.items in
     let flags = now.consumed.items in
-    let flags' = c.match_window.new.consumed in
+    let flags' = c.consume.new.consumed in
+    let window = c.closed_window-window in
+    let first = window.result.first in
+    let end = window.result.end in
     let size : length flags' ≡ length flags = search rules in
     let whole : take now.consumed.len (flags' ++ drop (length flags') flags) ≡ flags' = take_at flags' (drop (length flags') flags) now.consumed.len (search (rules, size)) in
-    let end_is : end ≡ min (now.first + n) (length events) = search rules in
-    let shut : IsClosed now.first n (length events) c.args.ended = search rules in
-    let kept : (before : Progress) → IsKept before now.matches.items flags → IsKept (after_window q (now.number + 1) before (matched_runs (state q (unconsumed before.consumed events now.first end)))) c.match_window.new.matches.items flags' = λ before own.
-    c.in_ok-match_window.ensures before (subst (λ (l : List Bool). IsKept before now.matches.items l) (sym c.deref_mut.ensures.value) own) in
-    subst (λ (l : List Bool). Sweep q events c.args.ended s (now.number + 1) (now.first + s) c.match_window.new.matches.items l) (sym whole)
-    (sweep_more q events c.args.ended n s above long c.in-Events.is c.in-EveryEvents.is now.number now.first end now.matches.items c.match_window.new.matches.items flags flags' now.invariant (omega arith) end_is shut kept size)
+    let earlier : c.len-earlier.result ≡ length ms = search rules in
+    let span : IsSpan q events (now.count + 1) first end = subst (λ (p : Plan). IsSpan p events (now.count + 1) first end) c.requires.plan window.ensures.span in
+    let found : (p : Plan) → now.matcher.plan ≡ p → (number : ℕ) → window.result.number ≡ number → (before : List ℕ) → IsMarked before flags → ms' ≡ with_matches p number ms (state p (unconsumed before events first end)) = λ p same number is before marked.
+    c.in_ok-match_window.ensures.matches before (subst (IsMarked before) (sym c.deref.ensures.value) marked) ∙ (λ i. with_matches (same i) (is i) ms (state (same i) (unconsumed before events first end))) in
+    let new : c.behind.result.now ≡ drop (length ms) ms' = c.behind.ensures ∙ (λ i. drop (earlier i) (c.deref-in-loop-count.ensures.value i)) in
+    let marks : (before : List ℕ) → IsMarked before flags → IsMarked (before ++ flat_map (λ (one : Match). one.used) (drop (length ms) ms')) flags' = λ before marked.
+    subst (λ (l : List Match). IsMarked (before ++ flat_map (λ (one : Match). one.used) l) flags') new (c.consume.ensures before (subst (IsMarked before) (sym c.deref_mut.ensures.value) marked)) in
+    let swept : IsSwept q events (now.count + 1) ms' flags' = swept_more q events now.count first end ms ms' flags flags' now.invariant.swept span (found q now.invariant.plan_is (now.count + 1) window.ensures.number) marks size in
+    record { swept = subst (IsSwept q events (now.count + 1) ms') (sym whole) swept; plan_is = c.match_window.ensures.plan ∙ now.invariant.plan_is }
 
 pub returns : goal.returns
 returns c =
-    let q = c.args.plan.now in
-    let now = c.loop-first in
-    let above : 0 < c.in-EveryEvents.step = (subst IsStepped c.in-EveryEvents.is c.requires.simple.stepped).0 in
-    let long : 0 < c.in-Events.length = (subst IsCounted c.in-Events.is c.requires.simple.counted).0 in
-    elim c.loop-first-test.branch [
-      | else-loop-first-test w ↦ sweep_end q c.args.events.now c.args.ended c.in-Events.length c.in-EveryEvents.step above long c.in-Events.is c.in-EveryEvents.is now.number now.first now.matches.items now.consumed.items now.invariant (omega arith)
-      | then-loop-first-test+in_default-closed_end w ↦ sweep_late q c.args.events.now c.args.ended c.in-Events.length c.in-EveryEvents.step above long c.in-Events.is c.in-EveryEvents.is now.number now.first now.matches.items now.consumed.items now.invariant (search rules)
-    ]
+    let q = arc_value c.args.plan in
+    let all : c.loop-count.count ≡ c.closed-count-end.result = omega arith in
+    let closed_is = c.closed-count-end.ensures c.args.events.now c.args.windows.now.ended c.requires.stands in
+    c.loop-count.invariant.swept.matches_are ∙ ap (λ (n : ℕ). (seq q c.args.events.now n).matches) (all ∙ closed_is ∙ ap (λ (p : Plan). closed p c.args.events.now c.args.windows.now.ended) c.requires.plan)

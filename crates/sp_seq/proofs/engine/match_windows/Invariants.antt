@@ -1,9 +1,8 @@
-use Rattle.std.proofs.Common.{◌-◌, length}
-use Rattle.sp_seq.proofs.Sweep.{Sweep}
+use Rattle.std.proofs.Common.{◌≡◌}
+use Rattle.std.specs.Arc.{arc_value}
+use Rattle.sp_seq.specs.Spans.{IsSwept}
+use Rattle.sp_seq.proofs.Sweeping.{Sweeping}
 use Rattle.sp_seq.proofs.engine.match_windows.Given as goal
 
-abbrev pub invariant-loop-first : goal.invariant-loop-first
-invariant-loop-first l = Sweep l.plan l.events l.ended l.step l.number l.first l.matches.items l.consumed.items
-
-abbrev pub decreases-loop-first : goal.decreases-loop-first
-decreases-loop-first l = length l.events - l.first
+abbrev pub invariant-loop-count : goal.invariant-loop-count
+invariant-loop-count l = Sweeping (arc_value l.fn.plan) l.events l.count l.matches.items l.consumed.items l.matcher

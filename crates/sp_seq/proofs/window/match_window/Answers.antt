@@ -1,65 +1,60 @@
-use Rattle.std.proofs.Common.{◌≡◌, ℕ, ◌+◌, ◌<◌, List, Bool, [], ◌∷◌, ◌++◌, length, refl, sym, ◌∙◌, ap, subst, arith, rules}
-use Rattle.std.specs.Prelude.{slice_get}
-use Rattle.std.specs.List.Sorted.{IsStrictlyIncreasing}
-use Rattle.std.proofs.lemmas.List.{length_push}
-use Rattle.sp_plan.specs.Bounds.{IsSmall}
-use Rattle.sp_plan.specs.Runs.{Run, fits_name}
-use Rattle.sp_plan.specs.Sequential.{match_of}
-use Rattle.sp_seq.specs.Sequence.{IsRunOf}
-use Rattle.sp_seq.specs.Marked.{IsMarked}
-use Rattle.sp_seq.proofs.Going.{upto_push}
-use Rattle.sp_seq.proofs.Walk.{Walk, walk_start, walk_skip, walk_pass, walk_grow, walk_match, walk_as}
+use Rattle.std.proofs.Common.{◌≡◌, ℕ, pos, ◌+◌, Bool, true, false, List, [], ◌++◌, length, get_or, map, refl, sym, ◌∙◌, ap, subst, arith, length-append}
+use Rattle.std.specs.Prelude.{filter}
+use Rattle.sp_plan.specs.declared.event.Event.{Event}
+use Rattle.sp_plan.specs.declared.plan.Plan.{Plan}
+use Rattle.sp_plan.specs.declared.found.Match.{Match}
+use Rattle.sp_plan.specs.Events.{AllFit, fits}
+use Rattle.sp_plan.specs.Runs.{State, handle, state}
+use Rattle.sp_plan.specs.Moves as definitions
+use Rattle.sp_plan.specs.Moves.{Told}
+use Rattle.sp_match.specs.Laws.{is_completion}
+use Rattle.sp_match.specs.Matching.{Stands}
+use Rattle.sp_match.specs.Seen.{seen}
+use Rattle.sp_seq.specs.Completed.{matches_told, with_matches}
+use Rattle.sp_seq.specs.Unconsumed.{unconsumed}
+use Rattle.sp_seq.proofs.Gathering.{Gathering, gathered_none, gathered_skip, gathered_offer, below_more, below_none, gathering_as}
 use Rattle.sp_seq.proofs.window.match_window.Goals as goal
-use Rattle.sp_seq.proofs.window.match_window.Goals.{then-not-consumed-i+then-takes+in_ok-push+then-len-as_slice+in_ok-one+in_ok-push-2, then-not-consumed-i+then-takes+in_ok-push+else-len-as_slice+in_ok-bind, else-not-consumed-i, else-not-consumed-i-via-then-not-consumed-i+else-takes, else-not-consumed-i-via-else-not-consumed-i}
+use Rattle.sp_seq.proofs.window.match_window.Goals.{then-not-consumed-i+in_ok-offer_into+in_ok-add_matches, else-not-consumed-i}
 
 pub loop-i-init : goal.loop-i-init
-loop-i-init c = walk_as (walk_start c.args.plan.now c.args.window.number c.args.events.now c.args.window.first c.args.matches.now.items c.args.consumed.now c.requires.simple) (search rules) c.new-bound.ensures refl refl
-
-pub found-requires-clause-rising : goal.found-requires-clause-rising
-found-requires-clause-rising c = subst IsStrictlyIncreasing (sym (c.deref.ensures.value ∙ c.in_ok-push.ensures.items)) (upto_push c.loop-i.i c.loop-i.numbers.items c.loop-i.invariant.upto).rising
+loop-i-init c = record {
+  gathered = gathered_none c.clear.new.self.plan c.args.window.number c.args.events.now c.args.window.first c.args.matches.now.items c.args.consumed.now c.clear.new.self c.clear.ensures.none c.clear.ensures.count;
+  plan_is = refl;
+  below = below_none c.args.window.first c.clear.new.self c.clear.ensures.none c.clear.ensures.count;
+  more = omega arith;
+}
 
 pub loop-i-preserved : goal.loop-i-preserved
 loop-i-preserved c =
-    let q = c.args.plan.now in
+    let q = c.clear.new.self.plan in
     let now = c.loop-i in
-    let number = now.i + 1 in
-    let numbers = now.numbers.items in
-    let event = c.index-events-i.result in
-    let name : c.len-name.result ≡ length numbers = search rules in
-    let same : length now.consumed ≡ length c.args.events.now = search rules in
-    let fits_at = λ (n : ℕ). fits_name (slice_get q.names n) now.invariant.run event in
+    let same : length c.args.consumed.now ≡ length c.args.events.now = c.requires.same in
     elim c.if-not-consumed-i.branch [
-      | then-not-consumed-i+then-takes+in_ok-push+then-len-as_slice+in_ok-one+in_ok-push-2 w ↦
-          let fit : w.takes.result ≡ fits_at (length numbers) = w.takes.ensures now.invariant.run now.invariant.bound_is ∙ ap fits_at name in
-          let names : length w.as_slice.result.now ≡ length q.names = ap length w.as_slice.ensures in
-          let grown : w.push.new.self.items ≡ numbers ++ number ∷ [] = w.in_ok-push.ensures.items in
-          let filled : w.len.result ≡ length w.push.new.self.items = search rules in
-          let whole : length numbers + 1 ≡ length q.names = omega (arith, names, ap length grown, length_push numbers number, w.if-len-as_slice.true) in
-          let count : w.len-then-len-as_slice.result + 1 ≡ length now.matches.items + 1 = search rules in
-          let found : (r : Run) → IsRunOf (numbers ++ number ∷ []) r → w.in_ok-one.one ≡ match_of q c.args.window.number (length now.matches.items + 1, r) = λ r run.
-          w.in_ok-one.ensures r (subst (λ (l : List ℕ). IsRunOf l r) (sym (w.deref.ensures.value ∙ grown)) run) ∙ ap (λ (n : ℕ). match_of q c.args.window.number (n, r)) count in
-          let marks : (before : List ℕ) → IsMarked before now.consumed → IsMarked (before ++ w.in_ok-one.one.used) c.if-not-consumed-i.consumed = λ before own.
-          subst (λ (l : List ℕ). IsMarked (before ++ l) c.if-not-consumed-i.consumed) w.list.ensures.list (subst (λ (f : List Bool). IsMarked (before ++ w.list.result.now) f) (sym w.consumed-is) (w.mark.ensures before own)) in
-          walk_as (walk_match c.requires.simple now.invariant (omega arith) (omega arith) same event _ c.index-events-i.is w.if-not-consumed-i.true (sym fit ∙ w.if-takes.true) whole w.in_ok-one.one c.if-not-consumed-i.consumed found marks)
-          (search rules) (w.bound-is ∙ w.new-bound-then-len-as_slice.ensures) (ap (λ v. v.items) w.matches-is ∙ w.in_ok-push-2.ensures.items) refl
-      | then-not-consumed-i+then-takes+in_ok-push+else-len-as_slice+in_ok-bind w ↦
-          let fit : w.takes.result ≡ fits_at (length numbers) = w.takes.ensures now.invariant.run now.invariant.bound_is ∙ ap fits_at name in
-          let names : length w.as_slice.result.now ≡ length q.names = ap length w.as_slice.ensures in
-          let grown : w.push.new.self.items ≡ numbers ++ number ∷ [] = w.in_ok-push.ensures.items in
-          let filled : w.len.result ≡ length w.push.new.self.items = search rules in
-          let more : length numbers + 1 < length q.names = omega (arith, now.invariant.less, names, ap length grown, length_push numbers number, w.if-len-as_slice.false) in
-          let small : IsSmall event = subst IsSmall (sym c.index-events-i.is) (c.requires.small now.i event (omega arith)) in
-          let bound_more : c.if-not-consumed-i.bound ≡ now.bound ++ (length numbers, event) ∷ [] = w.bound-is ∙ w.in_ok-bind.ensures.bound ∙ ap (λ (n : ℕ). now.bound ++ (n, event) ∷ []) name in
-          walk_as (walk_grow c.requires.simple now.invariant (omega arith) (omega arith) same event _ c.index-events-i.is w.if-not-consumed-i.true (sym fit ∙ w.if-takes.true) more small)
-          (ap (λ v. v.items) w.numbers-is ∙ grown) bound_more (ap (λ v. v.items) w.matches-is) w.consumed-is
+      | then-not-consumed-i+in_ok-offer_into+in_ok-add_matches w ↦
+          let event = w.index-events-i.result in
+          let m = now.matcher in
+          let m' = w.offer_into.new.self in
+          let list = map seen w.offer_into.new.moves.list.items in
+          let offered = w.in_ok-offer_into.ensures in
+          let handled : (s : State) → Stands m s → Stands m' (handle q s (now.i + 1, event)) = subst (λ (p : Plan). (s : State) → Stands m s → Stands m' (handle p s (now.i + 1, event))) now.invariant.plan_is offered.stands in
+          let telling : (s : State) → Stands m s → list ≡ definitions.told q s (definitions.moves q s (now.i + 1, event)) =
+          subst (λ (p : Plan). (s : State) → Stands m s → list ≡ definitions.told p s (definitions.moves p s (now.i + 1, event))) now.invariant.plan_is offered.told in
+          let added : w.add_matches.new.matches.items ≡ now.matches.items ++ matches_told c.args.window.number (length now.matches.items + 1) (filter is_completion list) =
+          w.in_ok-add_matches.ensures ∙ ap (λ l. now.matches.items ++ matches_told c.args.window.number (length now.matches.items + 1) (filter is_completion (map seen l))) w.deref.ensures.value in
+          let next = gathered_offer now.invariant.gathered (omega arith) (omega arith) same _ event w.index-events-i.is c.completions_are_matches.ensures c.runs_are_sound.ensures w.if-not-consumed-i.true m' list w.add_matches.new.matches.items handled telling added in
+          gathering_as (record { gathered = next; plan_is = offered.plan ∙ now.invariant.plan_is; below = offered.below; more = omega (arith, now.invariant.more, ap length added, length-append now.matches.items (matches_told c.args.window.number (length now.matches.items + 1) (filter is_completion list))) }) w.matcher-is (ap (λ v. v.items) w.matches-is)
       | else-not-consumed-i w ↦
-          let on : Walk q c.args.window.number c.args.events.now c.args.window.first c.args.matches.now.items c.args.consumed.now number numbers now.bound now.matches.items now.consumed =
-          elim w.else-not-consumed-i.branch [
-            | else-not-consumed-i-via-then-not-consumed-i+else-takes v ↦
-                let fit : v.takes.result ≡ fits_at (length numbers) = v.takes.ensures now.invariant.run now.invariant.bound_is ∙ ap fits_at name in
-                walk_pass c.requires.simple now.invariant (omega arith) (omega arith) same event _ c.index-events-i.is v.if-not-consumed-i.true (sym fit ∙ v.if-takes.false)
-            | else-not-consumed-i-via-else-not-consumed-i v ↦
-                walk_skip c.requires.simple now.invariant (omega arith) (omega arith) same event _ c.index-events-i.is v.if-not-consumed-i.false
-          ] in
-          walk_as on (ap (λ v. v.items) w.numbers-is) w.bound-is (ap (λ v. v.items) w.matches-is) w.consumed-is
+          let none : Event = record { time = pos 0; values = [] } in
+          gathering_as (record {
+            gathered = gathered_skip now.invariant.gathered (omega arith) (omega arith) same none (get_or c.args.events.now now.i none) refl w.if-not-consumed-i.false;
+            plan_is = now.invariant.plan_is;
+            below = below_more (now.i + 1) _ now.invariant.below;
+            more = now.invariant.more;
+          }) w.matcher-is (ap (λ v. v.items) w.matches-is)
     ]
+
+pub returns-clause-matches : goal.returns-clause-matches
+returns-clause-matches c = λ before marked.
+    let last : c.loop-i.i ≡ c.args.window.end = omega (arith, c.requires.ordered) in
+    let matches_of : Plan → ℕ → List Match = λ q i. with_matches q c.args.window.number c.args.matches.now.items (state q (unconsumed before c.args.events.now c.args.window.first i)) in
+    c.loop-i.invariant.gathered.matches_are before marked ∙ (λ j. matches_of (c.clear.ensures.plan j) (last j))

@@ -1,5 +1,8 @@
-use Rattle.sp_seq.proofs.Walk.{Walk}
+use Rattle.std.proofs.Common.{◌≡◌, ◌+◌}
+use Rattle.sp_match.specs.Laws.{Below}
+use Rattle.sp_match.specs.Matching.{runs_of}
+use Rattle.sp_seq.proofs.Gathering.{Gathered, Gathering}
 use Rattle.sp_seq.proofs.window.match_window.Given as goal
 
 abbrev pub invariant-loop-i : goal.invariant-loop-i
-invariant-loop-i l = Walk l.plan l.window.number l.events l.window.first l.initial.matches.items l.initial.consumed l.i l.numbers.items l.bound l.matches.items l.consumed
+invariant-loop-i l = Gathering l.initial.matcher.plan l.window.number l.events l.window.first l.initial.matches.items l.consumed l.i l.matcher l.matches.items

@@ -1,13 +1,14 @@
 use Rattle.std.proofs.Common.{[], length, refl, sym, ap, subst, arith}
 use Rattle.std.specs.Arc.{arc_value}
-use Rattle.std.specs.List.{All}
-use Rattle.sp_plan.specs.Bounds.{IsSmall}
+use Rattle.sp_plan.specs.Compiled.{IsTimeOf}
+use Rattle.sp_plan.specs.Events.{AllFit, NeverGoesBack}
+use Rattle.sp_plan.specs.declared.plan.Plan.{Plan}
 use Rattle.sp_top.specs.Outcome.{run_outcome}
 use Rattle.sp_top.specs.Answer.{IsPlanRun}
 use Rattle.sp_top.proofs.Answering.{cut_short}
 use Rattle.sp_top.proofs.Told.{gave_none}
 use Rattle.sp_top.proofs.FewEvents.{read_few}
-use Rattle.sp_top.proofs.SmallReading.{read_small}
+use Rattle.sp_top.proofs.FitReading.{read_fits}
 use Rattle.sp_top.proofs.run.run_plan.Goals as goal
 
 pub returns-in_default : goal.returns-in_default
@@ -26,7 +27,16 @@ write_windows-requires-clause-few g c κs within =
     let few = (read_few (arc_value c.in-Ok.plan) reads.taken (g.S.Source.state c.read_input.new.input).ended).few in
     omega (arith, few, ap length reads.events)
 
-pub write_windows-requires-clause-small : goal.write_windows-requires-clause-small
-write_windows-requires-clause-small g c κs within =
+pub write_windows-requires-clause-fit : goal.write_windows-requires-clause-fit
+write_windows-requires-clause-fit g c κs within =
     let reads = c.in-Ok-read_input.ensures in
-    subst (All IsSmall) (sym reads.events) (read_small (arc_value c.in-Ok.plan) reads.taken (g.S.Source.state c.read_input.new.input).ended).small
+    let q = arc_value c.in-Ok.plan in
+    let timed : IsTimeOf q.schema.columns q.schema.time = subst (λ (p : Plan). IsTimeOf p.schema.columns p.schema.time) (sym c.in-Ok.ensures) c.requires.compiled.time in
+    subst (AllFit q) (sym reads.events) (read_fits q timed reads.taken (g.S.Source.state c.read_input.new.input).ended).fit
+
+pub write_windows-requires-clause-ordered : goal.write_windows-requires-clause-ordered
+write_windows-requires-clause-ordered g c κs within =
+    let reads = c.in-Ok-read_input.ensures in
+    let q = arc_value c.in-Ok.plan in
+    let timed : IsTimeOf q.schema.columns q.schema.time = subst (λ (p : Plan). IsTimeOf p.schema.columns p.schema.time) (sym c.in-Ok.ensures) c.requires.compiled.time in
+    subst NeverGoesBack (sym reads.events) (read_fits q timed reads.taken (g.S.Source.state c.read_input.new.input).ended).ordered

@@ -1,0 +1,7 @@
+mod Answering
+mod Runs
+mod Numbers
+mod Commas
+mod Named
+mod Lines
+mod Written

@@ -1,0 +1,16 @@
+//! The lines of matches: written, and read back. What the line of a match is stands in
+//! `sp_plan/specs/Lines.antt`; which matches a plan can have, and that a text is the line of at most
+//! one of them, in `specs/Matches.antt`.
+#![tactic(auto)]
+
+mod bindings;
+mod front;
+mod law;
+mod number;
+mod places;
+mod read;
+mod write;
+
+pub use law::one_match;
+pub use read::read_match_line;
+pub use write::match_line;

@@ -1,0 +1,117 @@
+// Lines of matches.
+ghost use Rattle.std.specs.Prelude.{◌≡◌, ◌<◌, ◌^◌, ◌++◌, IfOk, OnOk, slice_get, codes, string_bytes};
+ghost use Rattle.std.specs.Fmt.{decimal};
+ghost use Rattle.std.specs.List.{All, flat_map};
+ghost use Rattle.sp_emit.specs.Matches.{ArePlaces, Binds, IsLine};
+ghost use Rattle.sp_plan.specs.Lines.{line, commas, binding_text, name_text, used_text};
+
+use sp_plan::{Match, Memory, Places, Plan};
+use std::alloc::Global;
+use std::fmt::Write;
+
+// Room for the line of a match with few events.
+const ROOM: usize = 96;
+
+// Adds a number.
+fn push_number(out: &mut String, number: u32) -> Result<(), Memory>
+    ensures { OnOk result (string_bytes out.new ≡ string_bytes out.old ++ decimal number) }
+{
+    write!(out, "{number}")?;
+    Ok(())
+}
+
+// Adds numbers, each after a comma.
+fn push_more(out: &mut String, numbers: &[u32]) -> Result<(), Memory>
+    ensures { OnOk result (string_bytes out.new ≡ string_bytes out.old ++ flat_map (λ n. codes "," ++ decimal n) numbers.now) }
+{
+    for number in numbers {
+        out.push_str(",")?;
+        push_number(out, *number)?;
+    }
+    Ok(())
+}
+
+// Adds numbers joined by commas.
+fn push_commas(out: &mut String, numbers: &[u32]) -> Result<(), Memory>
+    ensures text { OnOk result (string_bytes out.new ≡ string_bytes out.old ++ commas numbers.now) }
+    ensures small { All (λ n. n < 2 ^ 32) numbers.now }
+{
+    if let [first, rest @ ..] = numbers {
+        push_number(out, *first)?;
+        push_more(out, rest)?;
+    }
+    Ok(())
+}
+
+// Adds the numbers of events.
+fn push_places(out: &mut String, places: &Places) -> Result<(), Memory>
+    ensures text { OnOk result (string_bytes out.new ≡ string_bytes out.old ++ commas places.now) }
+    ensures are { ArePlaces places.now }
+{
+    push_commas(out, places.list())
+}
+
+// Adds the text of a name.
+fn push_name(out: &mut String, plan: &Plan, name: u8) -> Result<(), Memory>
+    ensures { OnOk result (string_bytes out.new ≡ string_bytes out.old ++ name_text (slice_get plan.now.names name)) }
+{
+    match plan.names.as_slice().get(name as usize) {
+        Some(own) => Ok(out.push_str(own.text.as_str())?),
+        None => Ok(()),
+    }
+}
+
+// Adds a name with its events.
+fn push_binding(out: &mut String, plan: &Plan, name: u8, places: &Places) -> Result<(), Memory>
+    ensures text { OnOk result (string_bytes out.new ≡ string_bytes out.old ++ binding_text plan.now (name, places.now)) }
+    ensures byte { OnOk result (name < 2 ^ 8) }
+    ensures are { OnOk result (ArePlaces places.now) }
+{
+    out.push_str(" ")?;
+    push_name(out, plan, name)?;
+    out.push_str("=")?;
+    push_places(out, places)
+}
+
+// Adds each name with its events.
+fn push_bindings(out: &mut String, plan: &Plan, bound: &[(u8, Places)]) -> Result<(), Memory>
+    ensures text { OnOk result (string_bytes out.new ≡ string_bytes out.old ++ flat_map (binding_text plan.now) bound.now) }
+    ensures names { OnOk result (All (λ pair. pair.0 < 2 ^ 8) bound.now) }
+    ensures are { OnOk result (All (λ pair. ArePlaces pair.1) bound.now) }
+{
+    for (name, places) in bound {
+        push_binding(out, plan, *name, places)?;
+    }
+    Ok(())
+}
+
+// Adds the consumed numbers, or a dash where there are none.
+fn push_used(out: &mut String, used: &Places) -> Result<(), Memory>
+    ensures text { OnOk result (string_bytes out.new ≡ string_bytes out.old ++ used_text used.now) }
+    ensures are { OnOk result (ArePlaces used.now) }
+{
+    if used.list().is_empty() {
+        out.push_str("-")?;
+        return Ok(());
+    }
+    push_places(out, used)
+}
+
+/// The line of a match: its window's number, its own number, each bound name with the numbers of its
+/// events, the numbers of the events that it consumes or a dash, and one line feed. The text of a name
+/// that the plan hasn't is empty. Where each name of the plan is bound once, in its order, to at least
+/// one event, `read_match_line` gives the match back.
+pub fn match_line(alloc: Global, plan: &Plan, found: &Match) -> Result<String, Memory>
+    ensures line { IfOk result (λ text. string_bytes text ≡ line plan.now found.now) }
+    ensures back { Binds plan.now found.now → IfOk result (λ text. IsLine plan.now found.now (string_bytes text)) }
+{
+    let window = found.window;
+    let number = found.number;
+    let mut out = String::with_capacity(alloc, ROOM)?;
+    write!(out, "w={window} m={number}")?;
+    push_bindings(&mut out, plan, found.bound.as_slice())?;
+    out.push_str(" used=")?;
+    push_used(&mut out, &found.used)?;
+    out.push_str("\n")?;
+    Ok(out)
+}

@@ -1,0 +1,44 @@
+use Rattle.std.proofs.Common.{◌≡◌, None, map, get_or, set, sym, ap, subst, ◌∙◌}
+use Rattle.std.specs.Prelude.{if◌then◌else◌}
+use Rattle.std.proofs.lemmas.List.{map-set}
+use Rattle.sp_plan.specs.Windows.{Numbered}
+use Rattle.sp_plan.specs.Runs.{takes}
+use Rattle.sp_match.specs.declared.run.Fate.TheVariants.{Leaves}
+use Rattle.sp_match.specs.Kept.{Kept, kept, pairs}
+use Rattle.sp_match.specs.Good.{RunUndoes}
+use Rattle.sp_match.specs.Handled.{dealt, left_at, run_at}
+use Rattle.sp_match.proofs.Takes.{takes_named}
+use Rattle.sp_match.proofs.Undoing.{here, good_here, run_fate, run_stays, undone_set}
+use Rattle.sp_match.proofs.handling.deal.Goals as goal
+
+pub bind-requires-clause-named : goal.bind-requires-clause-named
+bind-requires-clause-named c = takes_named c.args.plan.now (pairs (kept (get_or c.args.runs.now c.args.at c.index-runs-at.result))) c.args.event.now c.in-Some.name (sym c.takes.ensures ∙ c.in-Some.is)
+
+pub returns-in_err-leave-in-None-clause-undoes : goal.returns-in_err-leave-in-None-clause-undoes
+returns-in_err-leave-in-None-clause-undoes c =
+    let q = c.args.plan.now in
+    let k = kept (get_or c.args.runs.now c.args.at c.index-runs-at-in-None.result) in
+    let same = run_stays q k (good_here q c.args.runs.now c.args.at c.index-runs-at-in-None.result c.requires.within c.requires.good) in
+    undone_set q c.args.runs.now c.args.at c.index-runs-at-in-None.result c.leave.new.run c.requires.within c.requires.good
+    (subst (RunUndoes q k) (sym c.in_err-leave-in-None.ensures.err) same)
+
+pub returns-in_ok-leave-in-None-clause-undoes : goal.returns-in_ok-leave-in-None-clause-undoes
+returns-in_ok-leave-in-None-clause-undoes c =
+    let q = c.args.plan.now in
+    let k = kept (get_or c.args.runs.now c.args.at c.index-runs-at-in-None.result) in
+    let same = run_stays q k (good_here q c.args.runs.now c.args.at c.index-runs-at-in-None.result c.requires.within c.requires.good) in
+    undone_set q c.args.runs.now c.args.at c.index-runs-at-in-None.result c.leave.new.run c.requires.within c.requires.good
+    (subst (RunUndoes q k) (sym c.in_ok-leave-in-None.ensures.run) (run_fate q k k Leaves same))
+
+pub returns-in_ok-leave-in-None-clause-runs : goal.returns-in_ok-leave-in-None-clause-runs
+returns-in_ok-leave-in-None-clause-runs c =
+    let q = c.args.plan.now in
+    let x : Numbered = (c.args.number, c.args.event.now) in
+    let rs = c.args.runs.now in
+    let ks = map kept rs in
+    let at = c.args.at in
+    let first = here rs at c.index-runs-at.result c.requires.within in
+    let none : None ≡ takes q (pairs (run_at ks at)) c.args.event.now = sym c.in-None.is ∙ c.takes.ensures ∙ ap (λ k. takes q (pairs k) c.args.event.now) (sym first) in
+    map-set kept rs at c.leave.new.run ∙ ap (set ks at) c.in_ok-leave-in-None.ensures.run
+    ∙ ap (λ (k : Kept). set ks at (record k { fate = Leaves })) (sym (here rs at c.index-runs-at-in-None.result c.requires.within))
+    ∙ (λ i. if sym c.if-begins.true i then left_at at ks else ks) ∙ ap (dealt q c.args.begins at x ks) none

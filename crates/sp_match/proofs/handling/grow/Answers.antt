@@ -1,0 +1,58 @@
+use Rattle.std.proofs.Common.{◌≡◌, [], ◌∷◌, ◌++◌, map, sym, ap, subst, ◌∙◌, arith}
+use Rattle.std.proofs.lemmas.List.{append_assoc, map_push}
+use Rattle.sp_plan.specs.Runs.{is_complete}
+use Rattle.sp_plan.specs.Moves.{Told, GrownTold}
+use Rattle.sp_match.specs.Kept.{Kept, grown, kept, pairs}
+use Rattle.sp_match.specs.Good.{Good, RunUndoes}
+use Rattle.sp_match.specs.Handled.{bound, finished, finished_told}
+use Rattle.sp_match.specs.Seen.{seen}
+use Rattle.sp_match.proofs.Binding.{used_below}
+use Rattle.sp_match.proofs.Undoing.{run_fate, run_grown}
+use Rattle.sp_match.proofs.handling.grow.Goals as goal
+
+pub grow-requires : goal.grow-requires
+grow-requires c = record {
+  named = omega (arith, c.requires.named, c.requires.compiled.names);
+  flags = c.requires.good.flags;
+  below = used_below c.args.plan.now c.args.number (kept c.args.run.now) c.requires.good c.requires.below;
+}
+
+pub returns-in_err-push-clause-undoes : goal.returns-in_err-push-clause-undoes
+returns-in_err-push-clause-undoes c =
+    let q = c.args.plan.now in
+    let k = kept c.args.run.now in
+    let is : kept c.grow.new.self ≡ bound q c.args.name (c.args.number, c.args.event.now) k = c.in_ok-grow.ensures.grown ∙ ap (λ b. grown c.args.name b c.args.number c.args.event.now k) c.is_consumed-consumed.ensures in
+    subst (RunUndoes q k) (sym is) (run_grown q c.args.name c.args.number c.args.event.now k c.requires.good c.requires.idle c.requires.named c.requires.compiled.names c.requires.small c.requires.below)
+
+pub finish-requires-clause-good : goal.finish-requires-clause-good
+finish-requires-clause-good c =
+    let q = c.args.plan.now in
+    let k = kept c.args.run.now in
+    let is : kept c.grow.new.self ≡ bound q c.args.name (c.args.number, c.args.event.now) k = c.in_ok-grow.ensures.grown ∙ ap (λ b. grown c.args.name b c.args.number c.args.event.now k) c.is_consumed-consumed.ensures in
+    subst (Good q) (sym is) (run_grown q c.args.name c.args.number c.args.event.now k c.requires.good c.requires.idle c.requires.named c.requires.compiled.names c.requires.small c.requires.below).good
+
+pub returns-in_err-is_whole-clause-undoes : goal.returns-in_err-is_whole-clause-undoes
+returns-in_err-is_whole-clause-undoes c =
+    let q = c.args.plan.now in
+    let k = kept c.args.run.now in
+    let is : kept c.grow.new.self ≡ bound q c.args.name (c.args.number, c.args.event.now) k = c.in_ok-grow.ensures.grown ∙ ap (λ b. grown c.args.name b c.args.number c.args.event.now k) c.is_consumed-consumed.ensures in
+    subst (RunUndoes q k) (sym (c.in_err-is_whole.ensures.err ∙ is)) (run_grown q c.args.name c.args.number c.args.event.now k c.requires.good c.requires.idle c.requires.named c.requires.compiled.names c.requires.small c.requires.below)
+
+pub returns : goal.returns
+returns c =
+    let q = c.args.plan.now in
+    let k = kept c.args.run.now in
+    let k' = bound q c.args.name (c.args.number, c.args.event.now) k in
+    let is : kept c.grow.new.self ≡ k' = c.in_ok-grow.ensures.grown ∙ ap (λ b. grown c.args.name b c.args.number c.args.event.now k) c.is_consumed-consumed.ensures in
+    let undoes = run_grown q c.args.name c.args.number c.args.event.now k c.requires.good c.requires.idle c.requires.named c.requires.compiled.names c.requires.small c.requires.below in
+    let now : kept c.finish.new.run ≡ finished q k' = c.in_ok-is_whole.ensures.run ∙ ap (finished q) is in
+    let before = map seen c.args.list.now.items in
+    let grew : Told = GrownTold k.number c.args.number in
+    record {
+      run = now;
+      told = c.in_ok-is_whole.ensures.told
+          ∙ (λ i. (ap (map seen) c.in_ok-push.ensures.items ∙ map_push seen c.args.list.now.items _ ∙ ap (λ (n : Kept). before ++ GrownTold n.number c.args.number ∷ []) is) i ++ finished_told q (is i))
+          ∙ append_assoc before (grew ∷ []) (finished_told q k');
+      complete = c.in_ok-is_whole.ensures.complete ∙ ap (λ n. is_complete q (pairs n)) is;
+      undoes = subst (RunUndoes q k) (sym now) (run_fate q k k' (finished q k').fate undoes);
+    }

@@ -1,0 +1,5 @@
+use Rattle.sp_match.proofs.Closing.{closing_ends_runs}
+use Rattle.sp_match.proofs.laws.closing_ends_runs.Goals as goal
+
+pub returns : goal.returns
+returns c = closing_ends_runs

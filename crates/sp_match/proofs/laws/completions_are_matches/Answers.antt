@@ -1,0 +1,6 @@
+use Rattle.sp_match.proofs.Completions.{completions_are_matches}
+use Rattle.sp_match.proofs.Orders.{ordered_rises}
+use Rattle.sp_match.proofs.laws.completions_are_matches.Goals as goal
+
+pub returns : goal.returns
+returns c q s x ordered = completions_are_matches q s x (ordered_rises s ordered)

@@ -1,0 +1,5 @@
+use Rattle.sp_match.proofs.Leading.{handling_is_lawful}
+use Rattle.sp_match.proofs.laws.handling_is_lawful.Goals as goal
+
+pub returns : goal.returns
+returns c = handling_is_lawful

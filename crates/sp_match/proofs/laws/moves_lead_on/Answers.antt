@@ -1,0 +1,5 @@
+use Rattle.sp_match.proofs.Leading.{moves_lead_on}
+use Rattle.sp_match.proofs.laws.moves_lead_on.Goals as goal
+
+pub returns : goal.returns
+returns c = moves_lead_on

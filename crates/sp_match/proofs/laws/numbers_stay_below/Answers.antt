@@ -1,0 +1,5 @@
+use Rattle.sp_match.proofs.Below.{numbers_stay_below}
+use Rattle.sp_match.proofs.laws.numbers_stay_below.Goals as goal
+
+pub returns : goal.returns
+returns c = numbers_stay_below

@@ -1,0 +1,45 @@
+use Rattle.std.proofs.Common.{◌≡◌, true, false, not, take, get_or, sym, ap, subst, ◌∙◌, rules}
+use Rattle.std.specs.List.{All, find}
+use Rattle.std.proofs.lemmas.List.Elements.{All-get_or}
+use Rattle.sp_plan.specs.declared.plan.Element.TheVariants.{One}
+use Rattle.sp_plan.specs.Runs.{is_filled}
+use Rattle.sp_match.specs.Kept.{kept, pairs}
+use Rattle.sp_match.specs.Good.{IsNamed}
+use Rattle.sp_match.proofs.Finds.{found_none, found_more, found_here}
+use Rattle.sp_match.proofs.Named.{elements_named}
+use Rattle.sp_match.proofs.taking.first_unfilled.Goals as goal
+
+pub loop-i-init : goal.loop-i-init
+loop-i-init c =
+    let r = pairs (kept c.args.run.now) in
+    let filled = c.args.run.now.filled in
+    ap (λ es. find (λ element. not (is_filled r element)) (take filled es)) c.as_slice-elements.ensures ∙ found_none (is_filled r) (take filled c.args.plan.now.elements) c.requires.good.filled
+
+pub is_filled-requires-clause-named : goal.is_filled-requires-clause-named
+is_filled-requires-clause-named c =
+    let all : All IsNamed c.as_slice-elements.result.now = subst (All IsNamed) (sym c.as_slice-elements.ensures) (elements_named c.args.plan.now c.requires.compiled) in
+    All-get_or IsNamed c.as_slice-elements.result.now c.loop-i.i (One 0) c.loop-i-test.true all
+
+pub returns-then-not-is_filled-clause-first : goal.returns-then-not-is_filled-clause-first
+returns-then-not-is_filled-clause-first c =
+    let r = pairs (kept c.args.run.now) in
+    let elements = c.as_slice-elements.result.now in
+    let element = get_or elements c.loop-i.i (One 0) in
+    let same : element ≡ get_or elements c.loop-i.i element = search rules in
+    let holds : not (is_filled r element) ≡ true = ap not (sym c.is_filled.ensures ∙ c.if-not-is_filled.true) in
+    sym (found_here (λ element. not (is_filled r element)) elements c.loop-i.i element c.loop-i.invariant c.loop-i-test.true same holds)
+    ∙ ap (λ es. find (λ element. not (is_filled r element)) es) c.as_slice-elements.ensures
+
+pub returns-then-not-is_filled-clause-named : goal.returns-then-not-is_filled-clause-named
+returns-then-not-is_filled-clause-named c =
+    let all : All IsNamed c.as_slice-elements.result.now = subst (All IsNamed) (sym c.as_slice-elements.ensures) (elements_named c.args.plan.now c.requires.compiled) in
+    All-get_or IsNamed c.as_slice-elements.result.now c.loop-i.i (One 0) c.loop-i-test.true all
+
+pub loop-i-preserved : goal.loop-i-preserved
+loop-i-preserved c =
+    let r = pairs (kept c.args.run.now) in
+    let elements = c.as_slice-elements.result.now in
+    let element = get_or elements c.loop-i.i (One 0) in
+    let same : get_or elements c.loop-i.i element ≡ element = search rules in
+    let fails : not (is_filled r (get_or elements c.loop-i.i element)) ≡ false = ap (λ e. not (is_filled r e)) same ∙ ap not (sym c.is_filled.ensures ∙ c.if-not-is_filled.false) in
+    found_more (λ element. not (is_filled r element)) elements c.loop-i.i element c.loop-i.invariant c.loop-i-test.true fails

@@ -1,0 +1,16 @@
+use Rattle.std.proofs.Common.{◌≡◌, Bool, true, false, not, Option, Some, None, refl, sym, ap, ◌∙◌}
+use Rattle.std.specs.Prelude.{is_none, is_some}
+use Rattle.sp_plan.specs.declared.plan.Element.{Element}
+use Rattle.sp_plan.specs.Runs.{is_filled}
+use Rattle.sp_match.specs.Kept.{kept, pairs}
+use Rattle.sp_match.proofs.Finds.{all_or_found}
+use Rattle.sp_match.proofs.taking.is_complete.Goals as goal
+
+is_it_none : (b : Bool) (o : Option Element) → not b ≡ is_some o → b ≡ is_none o
+is_it_none true None e = refl
+is_it_none false None e = cc
+is_it_none true (Some x) e = cc
+is_it_none false (Some x) e = refl
+
+pub returns : goal.returns
+returns c = is_it_none c.is_none.result c.first_unfilled.result (sym c.is_none.ensures) ∙ ap is_none c.first_unfilled.ensures.first ∙ sym (all_or_found (is_filled (pairs (kept c.args.run.now))) c.args.plan.now.elements)

@@ -1,0 +1,10 @@
+use Rattle.std.proofs.Common.{sym, subst}
+use Rattle.sp_match.specs.declared.run.Run.{Run}
+use Rattle.sp_match.specs.Kept.{kept}
+use Rattle.sp_match.specs.Good.{Good}
+use Rattle.sp_match.proofs.Undoing.{good_here}
+use Rattle.sp_match.proofs.wanting.want_before.Goals as goal
+
+pub left-requires-clause-good : goal.left-requires-clause-good
+left-requires-clause-good c =
+    subst (λ (r : Run). Good c.args.plan.now (kept r)) (sym c.run-item.is) (good_here c.args.plan.now c.args.runs.now c.loop-run.run-index c.run-item.result c.loop-run-test.true c.requires.good)

@@ -1,0 +1,88 @@
+// All open runs at once: told to be abandoned, copied, compared.
+ghost use Rattle.std.specs.Prelude.{◌≡◌, ◌↔◌, ◌++◌, map, IsTrue, IfOk, OnOk};
+ghost use Rattle.std.specs.List.{All};
+ghost use Rattle.sp_plan.specs.declared.plan.Plan.{Plan};
+ghost use Rattle.sp_match.specs.Kept.{kept, started};
+ghost use Rattle.sp_match.specs.Good.{Good};
+ghost use Rattle.sp_match.specs.Handled.{leaving_told};
+ghost use Rattle.sp_match.specs.Seen.{seen};
+
+use crate::Memory;
+use crate::moves::Move;
+use crate::run::Run;
+use std::alloc::Global;
+
+/// Tells that all runs are abandoned.
+pub(crate) fn abandon_all(runs: &[Run], list: &mut Vec<Move>) -> Result<(), Memory>
+    ensures { OnOk result (map seen list.new.items ≡ map seen list.old.items ++ map leaving_told (map kept runs.now)) }
+{
+    for run in runs {
+        list.push(Move::Abandoned { run: run.number })?;
+    }
+    Ok(())
+}
+
+/// The same runs once more.
+pub(crate) fn copies(alloc: Global, runs: &[Run]) -> Result<Vec<Run>, Memory>
+    ensures { IfOk result (λ copies. map kept copies.items ≡ map kept runs.now) }
+{
+    let mut copies = Vec::with_capacity(alloc, runs.len())?;
+    for run in runs {
+        copies.push(run.copy(alloc)?)?;
+    }
+    Ok(copies)
+}
+
+// Whether two pairs of a name and a number are equal.
+fn same_pair(one: (u8, u32), other: (u8, u32)) -> bool
+    ensures { IsTrue result ↔ (one ≡ other) }
+{
+    one.0 == other.0 && one.1 == other.1
+}
+
+// Whether two lists of names and numbers are equal.
+fn same_bound(ones: &[(u8, u32)], others: &[(u8, u32)]) -> bool
+    ensures { IsTrue result ↔ (ones.now ≡ others.now) }
+{
+    if ones.len() != others.len() {
+        return false;
+    }
+    for at in 0..ones.len() {
+        if !same_pair(ones[at], others[at]) {
+            return false;
+        }
+    }
+    true
+}
+
+// Whether two runs have the same number and pairs.
+fn same_run(one: &Run, other: &Run) -> bool
+    requires one { (q : Plan) × Good q (kept one.now) }
+    requires other { (q : Plan) × Good q (kept other.now) }
+    ensures { IsTrue result ↔ (started (kept one.now) ≡ started (kept other.now)) }
+{
+    if one.number != other.number {
+        return false;
+    }
+    if !same_bound(&one.bound, &other.bound) {
+        return false;
+    }
+    one.events.same(&other.events)
+}
+
+/// Whether both are the same runs with the same pairs.
+pub(crate) fn same_runs(ones: &[Run], others: &[Run]) -> bool
+    requires one { (q : Plan) × All (Good q) (map kept ones.now) }
+    requires other { (q : Plan) × All (Good q) (map kept others.now) }
+    ensures { IsTrue result ↔ (map started (map kept ones.now) ≡ map started (map kept others.now)) }
+{
+    if ones.len() != others.len() {
+        return false;
+    }
+    for at in 0..ones.len() {
+        if !same_run(&ones[at], &others[at]) {
+            return false;
+        }
+    }
+    true
+}

@@ -1,0 +1,27 @@
+//! The matcher of a window: the open runs, what each event does to them, and the moves that tell of it.
+//! What is proved of runs and moves whatever the matcher does stands in laws.
+#![tactic(auto)]
+
+mod all_runs;
+mod completing;
+mod handling;
+mod laws;
+mod matcher;
+mod moves;
+mod run;
+mod settling;
+mod taking;
+mod turns;
+mod wanting;
+
+pub use laws::{
+    closing_ends_runs, completions_are_matches, handling_is_lawful, moves_are_handling,
+    moves_lead_on, numbers_stay_below, one_event_more, runs_are_sound,
+};
+pub use matcher::Matcher;
+pub use moves::{Move, Moves};
+pub use run::Run;
+use std::alloc::AllocError;
+
+/// Want of memory. Any call that allocates may answer it, and says what stands after it.
+pub type Memory = AllocError;

@@ -1,0 +1,214 @@
+ghost use Rattle.std.specs.Prelude.{◌≡◌, ℕ, ◌+◌, ◌^◌, ◌<◌, true, ◌↔◌, [], length, map, IsTrue, IfOk, OnOk, OnErr, slice_index_or};
+ghost use Rattle.std.specs.Arc.{arc_value};
+ghost use Rattle.sp_plan.specs.Compiled.{IsCompiled};
+ghost use Rattle.sp_plan.specs.Events.{fits};
+ghost use Rattle.sp_plan.specs.Runs.{State, handle};
+ghost use Rattle.sp_plan.specs.Moves as definitions;
+ghost use Rattle.sp_match.specs.Event as handling;
+ghost use Rattle.sp_match.specs.Laws.{Below};
+ghost use Rattle.sp_match.specs.Seen.{seen, seen_run};
+
+use crate::Memory;
+use crate::all_runs::{abandon_all, copies, same_runs};
+use crate::moves::Moves;
+use crate::run::Run;
+use crate::settling::{settle, undo};
+use crate::turns::handle_all;
+use crate::wanting::left;
+use sp_plan::{Event, Plan, fitting_events_are_small, plans_are_themselves};
+use std::alloc::Global;
+use std::marker::Model;
+use std::sync::Arc;
+
+/// The partial matches of one window: which are open, and how many have started. Contracts see the plan,
+/// the open runs with their events, and the count.
+#[derive(Drop)]
+pub struct Matcher {
+    plan: Arc<Plan>,
+    runs: Vec<Run>,
+    count: u32,
+    // what the open runs wanted before the event at hand; a room that is used again
+    lefts: Vec<u32>,
+}
+
+impl Model for Matcher {
+    ghost use Rattle.std.specs.Prelude.{map};
+    ghost use Rattle.std.specs.Arc.{arc_value};
+    ghost use Rattle.sp_match.specs.Matching.{Matching};
+
+    ghost Value = { Matching };
+
+    ghost use Rattle.sp_plan.specs.contracts.plan.Expr as expr;
+    ghost use Rattle.sp_plan.specs.contracts.plan.Pred as pred;
+    ghost use Rattle.std.specs.Coded.{codes};
+
+    ghost coded = { Prim.hlevel (codes, expr.the_row.coded, pred.the_row.coded) };
+
+    ghost use Rattle.sp_match.specs.Kept.{kept, started};
+    ghost use Rattle.sp_match.specs.Keeping.{IsKept};
+
+    ghost view = { λ m. record { plan = arc_value m.plan; open_runs = map started (map kept m.runs.items); started = m.count } };
+
+    ghost invariant = { λ m. IsKept (arc_value m.plan) m.count (map kept m.runs.items) };
+}
+
+// How many runs have started, where one more may have.
+fn count_after(count: u32, began: bool) -> u32
+    requires { count + 1 < 2 ^ 32 }
+    ensures { result ≡ handling.count_after count began }
+{
+    if began { count + 1 } else { count }
+}
+
+impl Matcher {
+    ghost use Rattle.sp_plan.specs.Compiled.{IsCompiled};
+    ghost use Rattle.sp_match.specs.Matching.{SameMatching, Stands, runs_of, shown};
+
+    /// No run is open, and none has started. Takes no memory.
+    pub fn new(alloc: Global, plan: Arc<Plan>) -> Result<Matcher, Memory>
+        requires { IsCompiled (arc_value plan) }
+        ensures plan { IfOk result (λ m. m.plan ≡ arc_value plan) }
+        ensures none { IfOk result (λ m. m.open_runs ≡ []) }
+        ensures count { IfOk result (λ m. m.started ≡ 0) }
+    {
+        Ok(Matcher {
+            plan,
+            runs: Vec::new(alloc),
+            count: 0,
+            lefts: Vec::new(alloc),
+        })
+    }
+
+    /// The open runs, in the order of their start.
+    pub fn open_runs(&self) -> &[Run]
+        ensures { map seen_run result.now ≡ map (shown self.now.plan) self.now.open_runs }
+    {
+        &self.runs
+    }
+
+    /// Forgets all runs. The rooms are kept, and no memory is taken.
+    pub fn clear(&mut self)
+        ensures plan { self.new.plan ≡ self.old.plan }
+        ensures none { self.new.open_runs ≡ [] }
+        ensures count { self.new.started ≡ 0 }
+    {
+        self.runs.clear();
+        self.count = 0;
+    }
+
+    /// Handles the next visible event: the open runs are offered it, the oldest first, and then it may
+    /// start one. The moves are cleared first, and tell of it then; their room is used again. After want
+    /// of memory the matcher is as before, and nothing is said of the moves.
+    pub fn offer_into(
+        &mut self,
+        alloc: Global,
+        number: u32,
+        event: &Event,
+        moves: &mut Moves,
+    ) -> Result<(), Memory>
+        requires fits { fits self.old.plan event.now ≡ true }
+        requires below { Below number (runs_of self.old) }
+        ensures stands { OnOk result ((s : State) → Stands self.old s → Stands self.new (handle self.old.plan s (number, event.now))) }
+        ensures told { OnOk result ((s : State) → Stands self.old s
+            → map seen moves.new.list.items ≡ definitions.told self.old.plan s (definitions.moves self.old.plan s (number, event.now))) }
+        ensures wanted { OnOk result ((s : State) → Stands self.old s
+            → moves.new.wanted.items ≡ definitions.still_wanted self.old.plan s (definitions.moves self.old.plan s (number, event.now))) }
+        ensures below { OnOk result (Below (number + 1) (runs_of self.new)) }
+        ensures plan { self.new.plan ≡ self.old.plan }
+        ensures err { OnErr result (self.new ≡ self.old) }
+    {
+        fitting_events_are_small();
+        let open = self.runs.len();
+        match handle_all(
+            alloc,
+            &self.plan,
+            &mut self.runs,
+            &mut self.lefts,
+            self.count,
+            number,
+            event,
+            moves,
+        ) {
+            Ok(started) => {
+                settle(&self.plan, &mut self.runs);
+                self.count = count_after(self.count, started);
+                Ok(())
+            }
+            Err(memory) => {
+                undo(&mut self.runs, open);
+                Err(memory)
+            }
+        }
+    }
+
+    /// Handles the next visible event as `offer_into` does, and gives new moves.
+    pub fn offer(&mut self, alloc: Global, number: u32, event: &Event) -> Result<Moves, Memory>
+        requires fits { fits self.old.plan event.now ≡ true }
+        requires below { Below number (runs_of self.old) }
+        ensures stands { OnOk result ((s : State) → Stands self.old s → Stands self.new (handle self.old.plan s (number, event.now))) }
+        ensures told { IfOk result (λ moves. (s : State) → Stands self.old s
+            → map seen moves.list.items ≡ definitions.told self.old.plan s (definitions.moves self.old.plan s (number, event.now))) }
+        ensures wanted { IfOk result (λ moves. (s : State) → Stands self.old s
+            → moves.wanted.items ≡ definitions.still_wanted self.old.plan s (definitions.moves self.old.plan s (number, event.now))) }
+        ensures below { OnOk result (Below (number + 1) (runs_of self.new)) }
+        ensures plan { self.new.plan ≡ self.old.plan }
+        ensures err { OnErr result (self.new ≡ self.old) }
+    {
+        let mut moves = Moves::new(alloc);
+        self.offer_into(alloc, number, event, &mut moves)?;
+        Ok(moves)
+    }
+
+    /// How many events the run at this place among the open ones, from 0, wants at least: one for each
+    /// name that it hasn't bound.
+    pub fn left(&self, place: u32) -> u32
+        requires { place < length self.now.open_runs }
+        ensures { result ≡ definitions.left self.now.plan (slice_index_or self.now.open_runs place (0, [])).1 }
+    {
+        left(&self.plan, &self.runs[place as usize])
+    }
+
+    /// The window is closed: all open runs are abandoned, by run number. After want of memory the
+    /// matcher is as before.
+    pub fn close(&mut self, alloc: Global) -> Result<Moves, Memory>
+        ensures none { OnOk result (self.new.open_runs ≡ []) }
+        ensures count { self.new.started ≡ self.old.started }
+        ensures plan { self.new.plan ≡ self.old.plan }
+        ensures told { IfOk result (λ moves. (s : State) → Stands self.old s → map seen moves.list.items ≡ definitions.told self.old.plan s (definitions.closing s)) }
+        ensures wanted { IfOk result (λ moves. moves.wanted.items ≡ []) }
+        ensures err { OnErr result (self.new ≡ self.old) }
+    {
+        let mut moves = Moves::new(alloc);
+        abandon_all(&self.runs, &mut moves.list)?;
+        self.runs.clear();
+        Ok(moves)
+    }
+
+    /// The same runs once more, with the same plan.
+    pub fn copy(&self, alloc: Global) -> Result<Matcher, Memory>
+        ensures { IfOk result (λ m. m ≡ self.now) }
+    {
+        Ok(Matcher {
+            plan: Arc::try_clone(&self.plan)?,
+            runs: copies(alloc, &self.runs)?,
+            count: self.count,
+            lefts: Vec::new(alloc),
+        })
+    }
+
+    /// Whether both have the same plan, but for where its parts lie in memory, and the same runs with
+    /// equal events. Where they share the plan they are equal then. Takes no memory.
+    pub fn same(&self, other: &Matcher) -> bool
+        ensures same { IsTrue result ↔ SameMatching self.now other.now }
+        ensures shared { self.now.plan ≡ other.now.plan → IsTrue result ↔ (self.now ≡ other.now) }
+    {
+        plans_are_themselves();
+        if self.count != other.count {
+            return false;
+        }
+        if !same_runs(&self.runs, &other.runs) {
+            return false;
+        }
+        self.plan.same(&other.plan)
+    }
+}

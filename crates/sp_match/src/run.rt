@@ -1,0 +1,163 @@
+// One partial match.
+ghost use Rattle.std.specs.Prelude.{◌≡◌, ℕ, ◌<◌, ◌-◌, not, [], IfOk, OnOk, OnErr, slice_index_or, false};
+ghost use Rattle.std.specs.List.{All, list_any};
+ghost use Rattle.sp_base.specs.Numbers.{has};
+ghost use Rattle.sp_match.specs.Tally.{is_leaving};
+ghost use Rattle.sp_match.specs.Kept.{kept, stays, empty, grown, before, CanGrow, CanUndo};
+
+use crate::Memory;
+use sp_base::Numbers;
+use sp_plan::{Bound, Event};
+use std::alloc::Global;
+
+/// A partial match that is open.
+#[derive(Drop)]
+pub struct Run {
+    /// 1 for the first run of the window, and so on in the order of their start.
+    pub number: u32,
+    /// Each bound name with the number of its event, in the order in which they were bound.
+    pub bound: Vec<(u8, u32)>,
+    /// The numbers of the events that it would use if it completed as it is.
+    pub used: Numbers,
+    // the bound events, as predicates read them
+    pub(crate) events: Bound,
+    // which names are bound
+    pub(crate) names: [bool; 32],
+    // so many elements of the pattern, from the first on, are filled
+    pub(crate) filled: usize,
+    pub(crate) turn: Turn,
+    pub(crate) fate: Fate,
+}
+
+/// What a run did with the event that is being handled.
+#[derive(Clone, Copy, Drop)]
+pub(crate) enum Turn {
+    /// Nothing, or it comes later.
+    Idle,
+    /// It bound the event: to a name that it hadn't bound before, or once more; to a consumed one, or not.
+    Grew {
+        name: u8,
+        anew: bool,
+        consumed: bool,
+    },
+}
+
+/// Whether a run stays open when the event has been handled.
+#[derive(Clone, Copy, Drop)]
+pub(crate) enum Fate {
+    Stays,
+    Completes,
+    Leaves,
+}
+
+impl Run {
+    // A run that has bound no event. Takes no memory.
+    pub(crate) fn new(alloc: Global, number: u32) -> Run
+        ensures { kept result ≡ empty number }
+    {
+        Run {
+            number,
+            bound: Vec::new(alloc),
+            used: Numbers::new(alloc),
+            events: Bound::new(alloc),
+            names: [false; 32],
+            filled: 0,
+            turn: Turn::Idle,
+            fate: Fate::Stays,
+        }
+    }
+
+    // Whether it stays open.
+    pub(crate) fn stays(&self) -> bool
+        ensures { result ≡ stays self.now.fate }
+    {
+        matches!(self.fate, Fate::Stays)
+    }
+
+    // Whether it is abandoned.
+    pub(crate) fn leaves(&self) -> bool
+        ensures { result ≡ is_leaving self.now.fate }
+    {
+        matches!(self.fate, Fate::Leaves)
+    }
+
+    // Whether it has bound one of these numbers, under whatever name.
+    pub(crate) fn holds_one(&self, numbers: &Numbers) -> bool
+        ensures { result ≡ list_any (λ pair. has numbers.now.list pair.1) self.now.bound.items }
+    {
+        self.bound.iter().any(|(_, number)| numbers.has(*number))
+    }
+
+    // Binds an event to a name. After want of memory it is as before.
+    pub(crate) fn grow(
+        &mut self,
+        alloc: Global,
+        name: u8,
+        consumed: bool,
+        number: u32,
+        event: &Event,
+    ) -> Result<(), Memory>
+        requires { CanGrow name number (kept self.old) }
+        ensures grown { OnOk result (kept self.new ≡ grown name consumed number event.now (kept self.old)) }
+        ensures err { OnErr result (kept self.new ≡ kept self.old) }
+    {
+        self.bound.reserve(1)?;
+        self.used.reserve(1)?;
+        self.events.bind(alloc, name, event)?;
+        self.bound.push((name, number))?;
+        if consumed {
+            self.used.put(number);
+        }
+        let at = name as usize;
+        let anew = !self.names[at];
+        self.names[at] = true;
+        self.turn = Turn::Grew {
+            name,
+            anew,
+            consumed,
+        };
+        Ok(())
+    }
+
+    // Takes the pair away that the event at hand brought, if it brought one: the run is as before the
+    // event, and stays.
+    pub(crate) fn undo(&mut self)
+        requires { CanUndo (kept self.old) }
+        ensures { kept self.new ≡ before (kept self.old) }
+    {
+        self.fate = Fate::Stays;
+        let Turn::Grew {
+            name,
+            anew,
+            consumed,
+        } = self.turn
+        else {
+            return;
+        };
+        self.turn = Turn::Idle;
+        self.bound.pop();
+        self.events.unbind();
+        if consumed {
+            self.used.pop();
+        }
+        if anew {
+            self.names[name as usize] = false;
+        }
+    }
+
+    // The same run once more.
+    pub(crate) fn copy(&self, alloc: Global) -> Result<Run, Memory>
+        ensures { IfOk result (λ run. kept run ≡ kept self.now) }
+    {
+        Ok(Run {
+            number: self.number,
+            bound: self.bound.as_slice().to_vec(alloc)?,
+            used: self.used.copy(alloc)?,
+            events: self.events.copy(alloc)?,
+            names: self.names,
+            filled: self.filled,
+            turn: self.turn,
+            fate: self.fate,
+        })
+    }
+}

@@ -1,0 +1,60 @@
+// The end of an event's handling: what was marked is done, or all is made as it was.
+ghost use Rattle.std.specs.Prelude.{◌≡◌, filter, map, take};
+ghost use Rattle.std.specs.List.{All};
+ghost use Rattle.sp_plan.specs.Compiled.{IsCompiled};
+ghost use Rattle.sp_match.specs.Kept.{kept, started, before, stays, CanUndo};
+ghost use Rattle.sp_match.specs.Good.{Good};
+ghost use Rattle.sp_match.specs.Going.{IsIdle};
+ghost use Rattle.sp_match.specs.Handled.{open_runs};
+ghost use Rattle.sp_match.specs.declared.run.Turn.TheVariants.{Idle};
+
+use crate::run::{Run, Turn};
+use crate::taking::filled_front;
+use sp_plan::Plan;
+
+/// The runs are as before the event at hand, where so many were there then.
+pub(crate) fn undo(runs: &mut Vec<Run>, count: usize)
+    requires { All CanUndo (take count (map kept runs.old.items)) }
+    ensures { map kept runs.new.items ≡ map before (take count (map kept runs.old.items)) }
+{
+    runs.truncate(count);
+    for run in runs.iter_mut() {
+        run.undo();
+    }
+}
+
+// A run goes on with what it has bound.
+fn settle_run(plan: &Plan, run: &mut Run)
+    requires compiled { IsCompiled plan.now }
+    requires good { Good plan.now (kept run.old) }
+    ensures good { Good plan.now (kept run.new) }
+    ensures run { started (kept run.new) ≡ started (kept run.old) }
+    ensures idle { run.new.turn ≡ Idle }
+    ensures fate { run.new.fate ≡ run.old.fate }
+{
+    if let Turn::Grew { .. } = run.turn {
+        run.filled = filled_front(plan, run);
+        run.turn = Turn::Idle;
+    }
+}
+
+// Drops the runs that leave.
+fn drop_leaving(runs: &mut Vec<Run>)
+    ensures { runs.new.items ≡ filter (λ run. stays run.fate) runs.old.items }
+{
+    runs.retain(|run| run.stays());
+}
+
+/// The runs that stay go on, and the others are dropped.
+pub(crate) fn settle(plan: &Plan, runs: &mut Vec<Run>)
+    requires compiled { IsCompiled plan.now }
+    requires good { All (Good plan.now) (map kept runs.old.items) }
+    ensures runs { map started (map kept runs.new.items) ≡ open_runs (map kept runs.old.items) }
+    ensures good { All (Good plan.now) (map kept runs.new.items) }
+    ensures idle { All IsIdle (map kept runs.new.items) }
+{
+    drop_leaving(runs);
+    for run in runs.iter_mut() {
+        settle_run(plan, run);
+    }
+}

@@ -1,0 +1,73 @@
+// How many events runs want at least.
+ghost use Rattle.std.specs.Prelude.{◌≡◌, ◌≤◌, [], ◌++◌, length, map, take, OnOk};
+ghost use Rattle.std.specs.List.{All};
+ghost use Rattle.sp_plan.specs.Compiled.{IsCompiled};
+ghost use Rattle.sp_plan.specs.Moves as definitions;
+ghost use Rattle.sp_match.specs.Kept.{kept, pairs};
+ghost use Rattle.sp_match.specs.Good.{Good};
+ghost use Rattle.sp_match.specs.Wanted.{all_left, wanted_by, wanted_all};
+
+use crate::Memory;
+use crate::run::Run;
+use sp_plan::Plan;
+
+/// How many events a run wants at least: one for each name that it hasn't bound.
+pub(crate) fn left(plan: &Plan, run: &Run) -> u32
+    requires compiled { IsCompiled plan.now }
+    requires good { Good plan.now (kept run.now) }
+    ensures left { result ≡ definitions.left plan.now (pairs (kept run.now)) }
+    ensures few { result ≤ 32 }
+{
+    let mut left = 0;
+    for name in 0..plan.names.as_slice().len() {
+        if !run.names[name] {
+            left += 1;
+        }
+    }
+    left
+}
+
+/// What each run wants; what stood there before is dropped.
+pub(crate) fn want_before(plan: &Plan, runs: &[Run], lefts: &mut Vec<u32>) -> Result<(), Memory>
+    requires compiled { IsCompiled plan.now }
+    requires good { All (Good plan.now) (map kept runs.now) }
+    ensures { OnOk result (lefts.new.items ≡ all_left plan.now (map kept runs.now)) }
+{
+    lefts.clear();
+    for run in runs {
+        lefts.push(left(plan, run))?;
+    }
+    Ok(())
+}
+
+// What a run wanted and wants now, where it isn't abandoned.
+fn want_one(plan: &Plan, before: u32, run: &Run, wanted: &mut Vec<(u32, u32)>) -> Result<(), Memory>
+    requires compiled { IsCompiled plan.now }
+    requires good { Good plan.now (kept run.now) }
+    ensures { OnOk result (wanted.new.items ≡ wanted.old.items ++ wanted_by plan.now (before, kept run.now)) }
+{
+    if run.leaves() {
+        return Ok(());
+    }
+    wanted.push((before, left(plan, run)))?;
+    Ok(())
+}
+
+/// What each of the first runs wanted, by `lefts`, and wants now; of abandoned ones nothing is said.
+pub(crate) fn want_after(
+    plan: &Plan,
+    lefts: &[u32],
+    runs: &[Run],
+    wanted: &mut Vec<(u32, u32)>,
+) -> Result<(), Memory>
+    requires compiled { IsCompiled plan.now }
+    requires good { All (Good plan.now) (map kept runs.now) }
+    requires there { length lefts.now ≤ length runs.now }
+    requires none { wanted.old.items ≡ [] }
+    ensures { OnOk result (wanted.new.items ≡ wanted_all plan.now lefts.now (take (length lefts.now) (map kept runs.now))) }
+{
+    for (at, before) in lefts.iter().enumerate() {
+        want_one(plan, *before, &runs[at], wanted)?;
+    }
+    Ok(())
+}

@@ -1,0 +1,6 @@
+use Rattle.std.proofs.lemmas.Slice.Eq.{slice_eq-Decides}
+use Rattle.sp_plan.proofs.Decided.{element_decides}
+use Rattle.sp_plan.proofs.same.same_elements.Goals as goal
+
+pub returns : goal.returns
+returns c = slice_eq-Decides element_decides c.args.xs.now c.args.ys.now c.eq.result c.eq.ensures

@@ -1,0 +1,18 @@
+// What is true of every plan and event. A law runs no code: who calls it has the fact.
+ghost use Rattle.sp_plan.specs.Laws.{FittingEventsAreSmall, PlansAreThemselves, SamePredicatesHoldAlike};
+
+/// Law: the numbers of an event that fits a plan are at most 10^15 in magnitude.
+pub fn fitting_events_are_small()
+    ensures { FittingEventsAreSmall }
+{}
+
+/// Law: a plan is the same as itself, as `Plan::same` says it.
+pub fn plans_are_themselves()
+    ensures { PlansAreThemselves }
+{}
+
+/// Law: predicates that are the same, as `Plan::same` asks it of the predicates of two plans, hold of
+/// the same events.
+pub fn same_predicates_hold_alike()
+    ensures { SamePredicatesHoldAlike }
+{}

@@ -1,0 +1,13 @@
+pub mod Lists
+pub mod Spans
+pub mod Feeding
+pub mod Lasts
+pub mod Opened
+pub mod Settling
+pub mod WindowsAre
+pub mod SpansAre
+pub mod Keeps
+pub mod Multiples
+pub mod Parts
+pub mod Numbers
+pub mod Growing

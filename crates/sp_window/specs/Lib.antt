@@ -1,0 +1,6 @@
+pub mod Limits
+pub mod Openings
+pub mod Standing
+pub mod Keeping
+pub mod Opens
+pub mod Laws

@@ -1,0 +1,30 @@
+ghost use Rattle.sp_plan.specs.declared.plan.Plan.{Plan};
+ghost use Rattle.sp_plan.specs.Sequential.{Grows};
+ghost use Rattle.sp_plan.specs.Windows.{IsWindowed};
+ghost use Rattle.sp_window.specs.Laws.{GoodEvents, Holds, KeptByFeeding, ClosedFirst};
+
+/// Law: no events are good, and good events are so without the last one.
+pub fn good_events()
+    ensures { (q : Plan) → GoodEvents q }
+{}
+
+/// Law: a window of good events holds consecutive ones of them, at least one, and later windows begin
+/// no earlier.
+pub fn windows_hold()
+    ensures { (q : Plan) → IsWindowed q → Holds q }
+{}
+
+/// Law: one event more keeps the windows and where they begin, and takes no event from them.
+pub fn windows_are_kept()
+    ensures { (q : Plan) → IsWindowed q → KeptByFeeding q }
+{}
+
+/// Law: the closed windows are the first ones; they stay closed, and keep their events.
+pub fn closed_come_first()
+    ensures { (q : Plan) → IsWindowed q → ClosedFirst q }
+{}
+
+/// Law: while the input has not ended, the matches so far begin those of any longer input.
+pub fn growth()
+    ensures { Grows }
+{}

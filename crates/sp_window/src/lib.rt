@@ -1,0 +1,12 @@
+//! The windows of a plan while its events come one after another.
+//! What the windows of a list of events are is said in `sp_plan/specs/Windows.antt`; that the
+//! windows kept here are those is said by `Stands` in `specs/Standing.antt`.
+#![tactic(auto)]
+
+mod laws;
+mod opening;
+mod record;
+mod windows;
+
+pub use laws::{closed_come_first, good_events, growth, windows_are_kept, windows_hold};
+pub use windows::{Window, Windows};
