@@ -1,28 +1,27 @@
 #!/usr/bin/env python3
-"""An independent count of the matches of query.txt over events.csv, by the rules in docs/language.md.
-
-It shares nothing with the program: it goes through each window once with plain lists.
-"""
-import os, re
+"""An independent count of the matches of query.txt over events.csv."""
+import csv, os, sys
+from fractions import Fraction
 
 here = os.path.dirname(os.path.abspath(__file__))
-query = open(os.path.join(here, "query.txt")).read()
-length, step = map(int, re.search(r"WITHIN (\d+) EVENTS FROM EVERY (\d+) EVENTS", query).groups())
-consume = query.rstrip().endswith("ALL")
-kinds = [row.rstrip("\n").split(",")[1] for row in open(os.path.join(here, "events.csv"))][1:]
+sys.path.insert(0, os.path.dirname(here))
+sys.dont_write_bytecode = True
+import rules
 
-gone, number = set(), 0
-for window, first in enumerate(range(0, len(kinds), step), 1):
-    alarm = None
-    for place in range(first, min(first + length, len(kinds))):
-        if place in gone:
-            continue
-        if alarm is None and kinds[place] == "a":
-            alarm = place
-        elif alarm is not None and kinds[place] == "b":
-            number += 1
-            pair = (alarm + 1, place + 1)
-            print("w=%d m=%d A=%d B=%d used=%s" % (window, number, *pair, "%d,%d" % pair if consume else "-"))
-            if consume:
-                gone |= {alarm, place}
-            alarm = None
+rows = list(csv.DictReader(open(os.path.join(here, "events.csv"))))
+times = [int(row["at"]) for row in rows]
+spans = range(0, times[-1] + 1, 300)
+windows = [[n for n, at in enumerate(times, 1) if begin <= at < begin + 900] for begin in spans]
+rules.write(
+    ["Alarm", "High", "Valve"],
+    [("one", ["Alarm"]), ("plus", ["High"]), ("one", ["Valve"])],
+    {
+        "Alarm": lambda row, bound: row["kind"] == "alarm",
+        "High": lambda row, bound: row["kind"] == "pressure" and row["pump"] == bound["Alarm"]["pump"] and Fraction(row["bar"]) > Fraction("8.5"),
+        "Valve": lambda row, bound: row["kind"] == "valve" and row["pump"] == bound["Alarm"]["pump"],
+    },
+    "FIRST",
+    {"Alarm", "Valve"},
+    [window for window in windows if window],
+    rows,
+)
