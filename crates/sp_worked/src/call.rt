@@ -1,0 +1,50 @@
+ghost use Rattle.std.specs.Prelude.{◌≡◌, ◌<◌};
+
+use sp_io::{MemFiles, MemSink, MemSource};
+use sp_top::spectre;
+use std::alloc::{AllocError, Global};
+
+/// What the program leaves when it ends.
+#[derive(Drop, PartialEq, Eq)]
+pub(crate) struct Outcome {
+    pub(crate) status: u8,
+    pub(crate) output: Vec<u8>,
+    pub(crate) error: Vec<u8>,
+}
+
+/// Words and the objects in memory that they are run over. A call's number counts from 1.
+#[derive(Drop)]
+pub(crate) struct Call {
+    pub(crate) words: Vec<String>,
+    pub(crate) input: Vec<u8>,
+    /// The most bytes that a call of the input gives; 0 counts as 1.
+    pub(crate) piece: u32,
+    /// The input fails behind so many bytes.
+    pub(crate) read_fails: Option<u64>,
+    pub(crate) files: Vec<(String, Vec<u8>)>,
+    pub(crate) load_fails: Vec<u32>,
+    /// A call of the output that keeps so many bytes and fails.
+    pub(crate) write_fails: Vec<(u32, u32)>,
+    /// The same of the error output.
+    pub(crate) tell_fails: Vec<(u32, u32)>,
+}
+
+// What the sinks have room for.
+const ROOM: u32 = 1_000_000;
+
+impl Call {
+    /// What the program leaves.
+    pub(crate) fn outcome(self, alloc: Global) -> Result<Outcome, AllocError> {
+        let mut input = MemSource::new(self.input, self.piece.max(1), self.read_fails);
+        let mut files = MemFiles::new(self.files, self.load_fails);
+        let mut out = MemSink::new(alloc, self.write_fails, ROOM)?;
+        let mut err = MemSink::new(alloc, self.tell_fails, ROOM)?;
+        let words = self.words.as_slice();
+        let status = spectre(alloc, words, &mut input, &mut files, &mut out, &mut err);
+        Ok(Outcome {
+            status,
+            output: out.bytes().to_vec(alloc)?,
+            error: err.bytes().to_vec(alloc)?,
+        })
+    }
+}

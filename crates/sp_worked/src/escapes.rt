@@ -1,0 +1,130 @@
+// Texts with escapes: `\\`, `\n`, `\r`, `\t`, `\xHH` for a byte, `{NAME}` for a text that was given this
+// name, and `\c` as the last one, for a line without its line feed.
+use crate::fault::LineFault;
+use crate::line::push;
+use std::alloc::Global;
+
+/// A text that was given a name.
+#[derive(Drop)]
+pub(crate) struct Named {
+    pub(crate) name: Vec<u8>,
+    pub(crate) bytes: Vec<u8>,
+}
+
+/// What a text stands for, and whether it said that no line feed follows.
+#[derive(Drop)]
+pub(crate) struct Text {
+    pub(crate) bytes: Vec<u8>,
+    pub(crate) is_cut: bool,
+}
+
+// Where in a text the next byte stands.
+#[derive(Clone, Copy, Drop)]
+enum Place {
+    Plain,
+    Escape,
+    FirstDigit,
+    SecondDigit(u8),
+    Name,
+    Cut,
+}
+
+#[derive(Drop)]
+struct Written {
+    bytes: Vec<u8>,
+    name: Vec<u8>,
+    place: Place,
+}
+
+/// What a text stands for.
+pub(crate) fn unescaped(alloc: Global, named: &[Named], text: &str) -> Result<Text, LineFault> {
+    let mut so_far = Written {
+        bytes: Vec::new(alloc),
+        name: Vec::new(alloc),
+        place: Place::Plain,
+    };
+    for byte in text.as_bytes() {
+        so_far.place = so_far.take(named, *byte)?;
+    }
+    match so_far.place {
+        Place::Plain => Ok(Text {
+            bytes: so_far.bytes,
+            is_cut: false,
+        }),
+        Place::Cut => Ok(Text {
+            bytes: so_far.bytes,
+            is_cut: true,
+        }),
+        _ => Err(LineFault::Bad("an escape or a name that does not end")),
+    }
+}
+
+impl Written {
+    // Takes the next byte, and answers where the one behind it stands.
+    fn take(&mut self, named: &[Named], byte: u8) -> Result<Place, LineFault> {
+        match self.place {
+            Place::Plain => self.take_plain(byte),
+            Place::Escape => self.take_escape(byte),
+            Place::FirstDigit => Ok(Place::SecondDigit(digit(byte)?)),
+            Place::SecondDigit(first) => {
+                let byte = first.wrapping_mul(16).wrapping_add(digit(byte)?);
+                self.put(byte)
+            }
+            Place::Name => self.take_name(named, byte),
+            Place::Cut => Err(LineFault::Bad("a text behind \\c")),
+        }
+    }
+
+    // Appends a byte that stands for itself.
+    fn put(&mut self, byte: u8) -> Result<Place, LineFault> {
+        push(&mut self.bytes, byte)?;
+        Ok(Place::Plain)
+    }
+
+    fn take_plain(&mut self, byte: u8) -> Result<Place, LineFault> {
+        match byte {
+            b'\\' => Ok(Place::Escape),
+            b'{' => {
+                self.name.clear();
+                Ok(Place::Name)
+            }
+            _ => self.put(byte),
+        }
+    }
+
+    fn take_escape(&mut self, byte: u8) -> Result<Place, LineFault> {
+        match byte {
+            b'\\' => self.put(b'\\'),
+            b'n' => self.put(b'\n'),
+            b'r' => self.put(b'\r'),
+            b't' => self.put(b'\t'),
+            b'x' => Ok(Place::FirstDigit),
+            b'c' => Ok(Place::Cut),
+            _ => Err(LineFault::Bad("no such escape")),
+        }
+    }
+
+    fn take_name(&mut self, named: &[Named], byte: u8) -> Result<Place, LineFault> {
+        if byte != b'}' {
+            push(&mut self.name, byte)?;
+            return Ok(Place::Name);
+        }
+        let name = self.name.as_slice();
+        match named.iter().rev().find(|it| it.name.as_slice() == name) {
+            Some(found) => {
+                self.bytes.extend_from_slice(found.bytes.as_slice())?;
+                Ok(Place::Plain)
+            }
+            None => Err(LineFault::Bad("a name that no text was given")),
+        }
+    }
+}
+
+// What a hexadecimal digit stands for.
+fn digit(byte: u8) -> Result<u8, LineFault> {
+    match byte {
+        b'0'..=b'9' => Ok(byte - b'0'),
+        b'a'..=b'f' => Ok(byte - b'a' + 10),
+        _ => Err(LineFault::Bad("no hexadecimal digit")),
+    }
+}

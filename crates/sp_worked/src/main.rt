@@ -1,0 +1,76 @@
+//! The worked rows: runs each row of the files that the arguments name by the top call, over objects in
+//! memory, and tells each row whose answer is another one than the row says. docs/rows.md describes the
+//! files.
+#![tactic(auto)]
+
+mod call;
+mod escapes;
+mod fault;
+mod line;
+mod reader;
+mod report;
+mod row;
+
+use fault::Fault;
+use reader::rows_of;
+use report::{tell_faulty_line, tell_row};
+use row::Row;
+use std::process::ExitCode;
+use std::{env, fs, io};
+
+// Runs a file's rows, and answers whether all came as they say.
+fn run_file(rt: HostRuntime, file: &str) -> io::Result<bool> {
+    let Ok(text) = fs::read_to_string(&rt, file) else {
+        eprintln!(rt; "{file}: cannot be read")?;
+        return Ok(false);
+    };
+    match rows_of(rt.alloc(), text.as_str()) {
+        Ok(rows) => run_rows(rt, file, rows),
+        Err(fault) => {
+            tell_faulty_line(&rt, file, &fault)?;
+            Ok(false)
+        }
+    }
+}
+
+// Runs the rows, tells those that differ, and prints how many there are where none does.
+fn run_rows(rt: HostRuntime, file: &str, rows: Vec<Row>) -> io::Result<bool> {
+    let count = rows.len();
+    let mut is_well = true;
+    for row in rows {
+        is_well &= run_row(rt, file, row)?;
+    }
+    if is_well {
+        println!(rt; "{file}: {count} rows, all as expected")?;
+    }
+    Ok(is_well)
+}
+
+// Runs a row, and answers whether what came is what it says.
+fn run_row(rt: HostRuntime, file: &str, row: Row) -> io::Result<bool> {
+    let Row {
+        name,
+        call,
+        expected,
+    } = row;
+    let came = call.outcome(rt.alloc())?;
+    if came == expected {
+        return Ok(true);
+    }
+    tell_row(&rt, file, name.as_str(), &expected, &came)?;
+    Ok(false)
+}
+
+// Runs all files, and answers whether all rows came as they say.
+fn run_files(rt: HostRuntime) -> io::Result<bool> {
+    let mut is_well = true;
+    for file in env::args(&rt)?.skip(1) {
+        is_well &= run_file(rt, file.as_str())?;
+    }
+    Ok(is_well)
+}
+
+fn main(rt: HostRuntime) -> io::Result<ExitCode> {
+    let is_well = run_files(rt)?;
+    Ok(ExitCode::from(u8::from(!is_well)))
+}

@@ -1,0 +1,73 @@
+use crate::escapes::{Named, unescaped};
+use crate::fault::{Fault, LineFault};
+use crate::line::{Line, push, repeated};
+use crate::row::Row;
+use std::alloc::Global;
+
+// The rows so far, and the texts that were given names.
+#[derive(Drop)]
+struct Reader {
+    named: Vec<Named>,
+    rows: Vec<Row>,
+}
+
+/// The rows of a file.
+pub(crate) fn rows_of(alloc: Global, text: &str) -> Result<Vec<Row>, Fault> {
+    let mut reader = Reader {
+        named: Vec::new(alloc),
+        rows: Vec::new(alloc),
+    };
+    let mut number = 0usize;
+    for line in text.lines() {
+        number = number.saturating_add(1);
+        match reader.take(alloc, line) {
+            Ok(()) => {}
+            Err(fault) => return Err(fault.at(number)),
+        }
+    }
+    Ok(reader.rows)
+}
+
+impl Reader {
+    // Takes a line: a comment, a blank line, a named text, or a part of a row.
+    fn take(&mut self, alloc: Global, line: &str) -> Result<(), LineFault> {
+        if line.is_empty() || line.starts_with('#') {
+            return Ok(());
+        }
+        let (key, text) = line.split_once(' ').unwrap_or((line, ""));
+        let (key, times) = repeated(key)?;
+        match key {
+            "row" => self.begin(alloc, text),
+            "let" => self.name(alloc, text, times),
+            _ => {
+                let text = unescaped(alloc, self.named.as_slice(), text)?;
+                self.put(alloc, &Line { key, times, text })
+            }
+        }
+    }
+
+    // Begins a row.
+    fn begin(&mut self, alloc: Global, name: &str) -> Result<(), LineFault> {
+        let name = String::from_str(alloc, name)?;
+        push(&mut self.rows, Row::new(alloc, name))
+    }
+
+    // Gives a name to so many times a text.
+    fn name(&mut self, alloc: Global, text: &str, times: u32) -> Result<(), LineFault> {
+        let Some((name, text)) = text.split_once(' ') else {
+            return Err(LineFault::Bad("a name without a text"));
+        };
+        let text = unescaped(alloc, self.named.as_slice(), text)?;
+        let bytes = text.bytes.repeat(alloc, times as usize)?;
+        let name = name.as_bytes().to_vec(alloc)?;
+        push(&mut self.named, Named { name, bytes })
+    }
+
+    // Puts a part into the last row.
+    fn put(&mut self, alloc: Global, line: &Line<'_>) -> Result<(), LineFault> {
+        match self.rows.last_mut() {
+            Some(row) => line.put(alloc, row),
+            None => Err(LineFault::Bad("a part before the first row")),
+        }
+    }
+}

@@ -1,0 +1,65 @@
+use crate::call::Outcome;
+use crate::fault::Fault;
+use std::io;
+
+/// Tells on the error output why a file of rows is not read.
+pub(crate) fn tell_faulty_line(rt: &impl Eprint, file: &str, fault: &Fault) -> io::Result<()> {
+    match fault {
+        Fault::Memory => eprintln!(rt; "{file}: no memory"),
+        Fault::Line { number, why } => eprintln!(rt; "{file}, line {number}: {why}"),
+    }
+}
+
+/// Tells on the error output what was expected of a row and what came.
+pub(crate) fn tell_row(
+    rt: &impl Eprint,
+    file: &str,
+    name: &str,
+    expected: &Outcome,
+    came: &Outcome,
+) -> io::Result<()> {
+    eprintln!(rt; "{file}: differs: {name}")?;
+    if expected.status != came.status {
+        eprintln!(rt;
+            "  status: expected {}, came {}",
+            expected.status, came.status
+        )?;
+    }
+    tell_bytes(
+        rt,
+        "output",
+        expected.output.as_slice(),
+        came.output.as_slice(),
+    )?;
+    tell_bytes(
+        rt,
+        "error output",
+        expected.error.as_slice(),
+        came.error.as_slice(),
+    )
+}
+
+// The most bytes of a text that are told.
+const SHOWN: usize = 200;
+
+// Some bytes from a place on.
+fn shown(bytes: &[u8], from: usize) -> &[u8] {
+    let (_, rest) = bytes.split_at(from.min(bytes.len()));
+    let (front, _) = rest.split_at(rest.len().min(SHOWN));
+    front
+}
+
+// Tells bytes that differ, from the first one that does.
+fn tell_bytes(rt: &impl Eprint, of: &str, expected: &[u8], came: &[u8]) -> io::Result<()> {
+    if expected == came {
+        return Ok(());
+    }
+    let same = expected
+        .iter()
+        .zip(came)
+        .take_while(|(a, b)| a == b)
+        .count();
+    let expected = shown(expected, same).escape_ascii();
+    let came = shown(came, same).escape_ascii();
+    eprintln!(rt; "  {of}, from byte {same} on: expected \"{expected}\", came \"{came}\"")
+}

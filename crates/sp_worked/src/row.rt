@@ -1,0 +1,34 @@
+use crate::call::{Call, Outcome};
+use std::alloc::Global;
+
+/// A worked row: what it shows, a call, and what is to come of it.
+#[derive(Drop)]
+pub(crate) struct Row {
+    pub(crate) name: String,
+    pub(crate) call: Call,
+    pub(crate) expected: Outcome,
+}
+
+impl Row {
+    /// A row of no words over no bytes, of which nothing is to come.
+    pub(crate) fn new(alloc: Global, name: String) -> Row {
+        Row {
+            name,
+            call: Call {
+                words: Vec::new(alloc),
+                input: Vec::new(alloc),
+                piece: 4096,
+                read_fails: None,
+                files: Vec::new(alloc),
+                load_fails: Vec::new(alloc),
+                write_fails: Vec::new(alloc),
+                tell_fails: Vec::new(alloc),
+            },
+            expected: Outcome {
+                status: 0,
+                output: Vec::new(alloc),
+                error: Vec::new(alloc),
+            },
+        }
+    }
+}
