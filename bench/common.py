@@ -1,0 +1,77 @@
+"""What the benches share: the program and its runs, tables of events, scattered numbers, callgrind's counts."""
+import collections, functools, operator, os, re, subprocess, sys, tempfile, time
+
+TOP = os.path.dirname(os.path.dirname(os.path.abspath(__file__)))
+
+# Seconds by the clock; processor seconds; bytes of memory at most; lines written, where they were counted.
+Ran = collections.namedtuple("Ran", "seconds processor memory lines")
+
+
+def stop(why):
+    sys.exit("%s: %s" % (os.path.basename(sys.argv[0]), why))
+
+
+@functools.lru_cache(maxsize=None)
+def program():
+    """The path of the program itself, which is built where it must be. It is asked for once, since each start of
+    ./spectre takes some time to find it."""
+    asked = subprocess.run([os.path.join(TOP, "dist", "program")], stdout=subprocess.PIPE, text=True)
+    if asked.returncode != 0:
+        sys.exit(asked.returncode)
+    return asked.stdout.rstrip("\n")
+
+
+def run(words, source, counts_lines=False):
+    """A run of the program with these words. `source` is the path of its input, or a function that writes the input
+    to a descriptor. A run that does not end with status 0 stops the bench."""
+    command, writes = [program(), *words], callable(source)
+    with open(os.devnull if writes else source, "rb") as rows:
+        begin = time.monotonic()
+        child = subprocess.Popen(
+            command,
+            stdin=subprocess.PIPE if writes else rows,
+            stdout=subprocess.PIPE if counts_lines else subprocess.DEVNULL,
+        )
+        if writes:
+            source(child.stdin.fileno())
+            child.stdin.close()
+        lines = child.stdout.read().count(b"\n") if counts_lines else None
+        _, status, usage = os.wait4(child.pid, 0)
+        seconds = time.monotonic() - begin
+    child.returncode = os.waitstatus_to_exitcode(status)
+    if child.returncode != 0:
+        stop("the program answered %d" % child.returncode)
+    return Ran(seconds, usage.ru_utime + usage.ru_stime, usage.ru_maxrss * 1024, lines)
+
+
+def best(words, source, by="seconds"):
+    """The best of three runs, by the clock or by `processor`: what else runs on the machine only adds to a time."""
+    return min((run(words, source) for _ in range(3)), key=operator.attrgetter(by))
+
+
+def scattered(count):
+    """The numbers 1 to `count`, each with a number below 2^32 that is the same in each run, and looks drawn by lot."""
+    x = 7
+    for at in range(1, count + 1):
+        x = (1664525 * x + 1013904223) % 2**32
+        yield at, x
+
+
+def table(path, heading, rows):
+    """Writes a table of events, with a line for the heading and for each row."""
+    with open(path, "w") as out:
+        out.write(heading + "\n")
+        for row in rows:
+            out.write(row + "\n")
+
+
+def profile(words, path):
+    """The instructions of a run over the table, by callgrind. For the whole run, whose name is PROGRAM TOTALS, and then
+    for each function, the dearest first: how many, the name, and callgrind's line."""
+    with tempfile.NamedTemporaryFile() as counts, open(path) as rows:
+        command = ["valgrind", "--tool=callgrind", "--callgrind-out-file=" + counts.name, program(), *words]
+        if subprocess.run(command, stdin=rows, capture_output=True).returncode != 0:
+            stop("callgrind failed")
+        text = subprocess.run(["callgrind_annotate", "--threshold=99.9", counts.name], capture_output=True, text=True).stdout
+    found = re.finditer(r"^ *([\d,]+) \([ \d.]+%\) +(\S.*)$", text, re.M)
+    return [(int(it[1].replace(",", "")), it[2], it[0]) for it in found]
