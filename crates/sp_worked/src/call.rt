@@ -5,7 +5,7 @@ use sp_top::spectre;
 use std::alloc::{AllocError, Global};
 
 /// What the program leaves when it ends.
-#[derive(Drop, PartialEq, Eq)]
+#[derive(Drop, PartialEq)]
 pub(crate) struct Outcome {
     pub(crate) status: u8,
     pub(crate) output: Vec<u8>,

@@ -1,6 +1,6 @@
 // Texts with escapes: `\\`, `\n`, `\r`, `\t`, `\xHH` for a byte, `{NAME}` for a text that was given this
 // name, and `\c` as the last one, for a line without its line feed.
-use crate::fault::LineFault;
+use crate::fault::Fault;
 use crate::line::push;
 use std::alloc::Global;
 
@@ -37,7 +37,7 @@ struct Written {
 }
 
 /// What a text stands for.
-pub(crate) fn unescaped(alloc: Global, named: &[Named], text: &str) -> Result<Text, LineFault> {
+pub(crate) fn unescaped(alloc: Global, named: &[Named], text: &str) -> Result<Text, Fault> {
     let mut so_far = Written {
         bytes: Vec::new(alloc),
         name: Vec::new(alloc),
@@ -55,13 +55,13 @@ pub(crate) fn unescaped(alloc: Global, named: &[Named], text: &str) -> Result<Te
             bytes: so_far.bytes,
             is_cut: true,
         }),
-        _ => Err(LineFault::Bad("an escape or a name that does not end")),
+        _ => Err(Fault::Bad("an escape or a name that does not end")),
     }
 }
 
 impl Written {
     // Takes the next byte, and answers where the one behind it stands.
-    fn take(&mut self, named: &[Named], byte: u8) -> Result<Place, LineFault> {
+    fn take(&mut self, named: &[Named], byte: u8) -> Result<Place, Fault> {
         match self.place {
             Place::Plain => self.take_plain(byte),
             Place::Escape => self.take_escape(byte),
@@ -71,17 +71,17 @@ impl Written {
                 self.put(byte)
             }
             Place::Name => self.take_name(named, byte),
-            Place::Cut => Err(LineFault::Bad("a text behind \\c")),
+            Place::Cut => Err(Fault::Bad("a text behind \\c")),
         }
     }
 
     // Appends a byte that stands for itself.
-    fn put(&mut self, byte: u8) -> Result<Place, LineFault> {
+    fn put(&mut self, byte: u8) -> Result<Place, Fault> {
         push(&mut self.bytes, byte)?;
         Ok(Place::Plain)
     }
 
-    fn take_plain(&mut self, byte: u8) -> Result<Place, LineFault> {
+    fn take_plain(&mut self, byte: u8) -> Result<Place, Fault> {
         match byte {
             b'\\' => Ok(Place::Escape),
             b'{' => {
@@ -92,7 +92,7 @@ impl Written {
         }
     }
 
-    fn take_escape(&mut self, byte: u8) -> Result<Place, LineFault> {
+    fn take_escape(&mut self, byte: u8) -> Result<Place, Fault> {
         match byte {
             b'\\' => self.put(b'\\'),
             b'n' => self.put(b'\n'),
@@ -100,11 +100,11 @@ impl Written {
             b't' => self.put(b'\t'),
             b'x' => Ok(Place::FirstDigit),
             b'c' => Ok(Place::Cut),
-            _ => Err(LineFault::Bad("no such escape")),
+            _ => Err(Fault::Bad("no such escape")),
         }
     }
 
-    fn take_name(&mut self, named: &[Named], byte: u8) -> Result<Place, LineFault> {
+    fn take_name(&mut self, named: &[Named], byte: u8) -> Result<Place, Fault> {
         if byte != b'}' {
             push(&mut self.name, byte)?;
             return Ok(Place::Name);
@@ -115,16 +115,16 @@ impl Written {
                 self.bytes.extend_from_slice(found.bytes.as_slice())?;
                 Ok(Place::Plain)
             }
-            None => Err(LineFault::Bad("a name that no text was given")),
+            None => Err(Fault::Bad("a name that no text was given")),
         }
     }
 }
 
 // What a hexadecimal digit stands for.
-fn digit(byte: u8) -> Result<u8, LineFault> {
+fn digit(byte: u8) -> Result<u8, Fault> {
     match byte {
         b'0'..=b'9' => Ok(byte - b'0'),
         b'a'..=b'f' => Ok(byte - b'a' + 10),
-        _ => Err(LineFault::Bad("no hexadecimal digit")),
+        _ => Err(Fault::Bad("no hexadecimal digit")),
     }
 }

@@ -11,9 +11,8 @@ mod reader;
 mod report;
 mod row;
 
-use fault::Fault;
 use reader::rows_of;
-use report::{tell_faulty_line, tell_row};
+use report::{tell_line, tell_row};
 use row::Row;
 use std::process::ExitCode;
 use std::{env, fs, io};
@@ -26,8 +25,8 @@ fn run_file(rt: HostRuntime, file: &str) -> io::Result<bool> {
     };
     match rows_of(rt.alloc(), text.as_str()) {
         Ok(rows) => run_rows(rt, file, rows),
-        Err(fault) => {
-            tell_faulty_line(&rt, file, &fault)?;
+        Err((line, fault)) => {
+            tell_line(&rt, file, line, &fault)?;
             Ok(false)
         }
     }

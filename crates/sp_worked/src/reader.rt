@@ -1,5 +1,5 @@
 use crate::escapes::{Named, unescaped};
-use crate::fault::{Fault, LineFault};
+use crate::fault::Fault;
 use crate::line::{Line, push, repeated};
 use crate::row::Row;
 use std::alloc::Global;
@@ -11,8 +11,8 @@ struct Reader {
     rows: Vec<Row>,
 }
 
-/// The rows of a file.
-pub(crate) fn rows_of(alloc: Global, text: &str) -> Result<Vec<Row>, Fault> {
+/// The rows of a file, or the number of the first line, from 1, that is not taken, and why.
+pub(crate) fn rows_of(alloc: Global, text: &str) -> Result<Vec<Row>, (usize, Fault)> {
     let mut reader = Reader {
         named: Vec::new(alloc),
         rows: Vec::new(alloc),
@@ -20,9 +20,8 @@ pub(crate) fn rows_of(alloc: Global, text: &str) -> Result<Vec<Row>, Fault> {
     let mut number = 0usize;
     for line in text.lines() {
         number = number.saturating_add(1);
-        match reader.take(alloc, line) {
-            Ok(()) => {}
-            Err(fault) => return Err(fault.at(number)),
+        if let Err(fault) = reader.take(alloc, line) {
+            return Err((number, fault));
         }
     }
     Ok(reader.rows)
@@ -30,7 +29,7 @@ pub(crate) fn rows_of(alloc: Global, text: &str) -> Result<Vec<Row>, Fault> {
 
 impl Reader {
     // Takes a line: a comment, a blank line, a named text, or a part of a row.
-    fn take(&mut self, alloc: Global, line: &str) -> Result<(), LineFault> {
+    fn take(&mut self, alloc: Global, line: &str) -> Result<(), Fault> {
         if line.is_empty() || line.starts_with('#') {
             return Ok(());
         }
@@ -47,15 +46,15 @@ impl Reader {
     }
 
     // Begins a row.
-    fn begin(&mut self, alloc: Global, name: &str) -> Result<(), LineFault> {
+    fn begin(&mut self, alloc: Global, name: &str) -> Result<(), Fault> {
         let name = String::from_str(alloc, name)?;
         push(&mut self.rows, Row::new(alloc, name))
     }
 
     // Gives a name to so many times a text.
-    fn name(&mut self, alloc: Global, text: &str, times: u32) -> Result<(), LineFault> {
+    fn name(&mut self, alloc: Global, text: &str, times: u32) -> Result<(), Fault> {
         let Some((name, text)) = text.split_once(' ') else {
-            return Err(LineFault::Bad("a name without a text"));
+            return Err(Fault::Bad("a name without a text"));
         };
         let text = unescaped(alloc, self.named.as_slice(), text)?;
         let bytes = text.bytes.repeat(alloc, times as usize)?;
@@ -64,10 +63,10 @@ impl Reader {
     }
 
     // Puts a part into the last row.
-    fn put(&mut self, alloc: Global, line: &Line<'_>) -> Result<(), LineFault> {
+    fn put(&mut self, alloc: Global, line: &Line<'_>) -> Result<(), Fault> {
         match self.rows.last_mut() {
             Some(row) => line.put(alloc, row),
-            None => Err(LineFault::Bad("a part before the first row")),
+            None => Err(Fault::Bad("a part before the first row")),
         }
     }
 }

@@ -2,12 +2,18 @@ use crate::call::Outcome;
 use crate::fault::Fault;
 use std::io;
 
-/// Tells on the error output why a file of rows is not read.
-pub(crate) fn tell_faulty_line(rt: &impl Eprint, file: &str, fault: &Fault) -> io::Result<()> {
-    match fault {
-        Fault::Memory => eprintln!(rt; "{file}: no memory"),
-        Fault::Line { number, why } => eprintln!(rt; "{file}, line {number}: {why}"),
-    }
+/// Tells on the error output which line of a file of rows is not taken, and why.
+pub(crate) fn tell_line(
+    rt: &impl Eprint,
+    file: &str,
+    line: usize,
+    fault: &Fault,
+) -> io::Result<()> {
+    let why = match fault {
+        Fault::Memory => "no memory",
+        Fault::Bad(why) => why,
+    };
+    eprintln!(rt; "{file}, line {line}: {why}")
 }
 
 /// Tells on the error output what was expected of a row and what came.
