@@ -32,6 +32,10 @@ without_some (suc n) bytes = if is_mark (take 3 bytes) then without_some n (drop
 abbrev pub without_marks : List ℕ → List ℕ
 without_marks bytes = without_some (length bytes) bytes
 
+-- the cells of the records that bytes are
+abbrev pub record_cells : List ℕ → RowCells
+record_cells bytes = after_first (next_record default_config st.StartRecord [] [] bytes)
+
 -- the cells of a row
 abbrev pub row_cells : List ℕ → RowCells
-row_cells bytes = after_first (next_record default_config st.StartRecord [] [] (strip_bom (without_marks bytes)))
+row_cells bytes = record_cells (strip_bom (without_marks bytes))

@@ -1,6 +1,8 @@
 // The cells of a row, as the crate csv reads them.
-ghost use Rattle.std.specs.Prelude.{◌≡◌, ◌<◌, ◌≤◌, true, false, take, drop, length, IfOk, IfErr, IfSome};
-ghost use Rattle.csv.specs.Reading.{stops_reader, error_kind};
+ghost use Rattle.std.specs.Prelude.{◌≡◌, ◌<◌, ◌≤◌, ℕ, true, false, List, Some, take, drop, length, IfOk, IfErr, IfSome};
+ghost use Rattle.csv.specs.Reading.{default_config, error_kind, is_flexible, reader_config, reader_state, reader_trim, source_of, stops_reader, Ready};
+ghost use Rattle.csv.specs.declared.reader.Trim.TheVariants as trim;
+ghost use Rattle.csv.specs.declared.parser.State.TheVariants as st;
 ghost use Rattle.sp_rows.specs.Cells as rows;
 ghost use Rattle.sp_rows.specs.Plain.{pieces};
 ghost use Rattle.sp_rows.specs.Shapes.{shape_of};
@@ -9,6 +11,7 @@ use crate::split::find_cells;
 use csv::{ByteRecord, ReaderBuilder};
 use sp_plan::Memory;
 use std::alloc::{AllocError, Global};
+use std::io::Read;
 
 // The bytes of a byte order mark.
 const MARK: &[u8] = b"\xef\xbb\xbf";
@@ -50,8 +53,30 @@ fn without_marks(row: &[u8]) -> &[u8]
     rest
 }
 
-// The cells of a row, by the crate csv. Of the errors of the reader only want of memory and a fault of the source come,
-/// and a row in memory has no faults.
+// What a reader of a row reads: no record, one, or several. Of its errors only want of memory and a
+// fault of the source come.
+fn cells_of<R: Read>(alloc: Global, reader: &mut csv::Reader<R>) -> Result<Cells, csv::Error>
+    requires ready { Ready reader.old }
+    requires untrimmed { reader_trim reader.old ≡ trim.None }
+    requires flexible { is_flexible reader.old ≡ true }
+    requires config { reader_config reader.old ≡ default_config }
+    requires start { reader_state reader.old ≡ st.StartRecord }
+    ensures cells { IfOk result (λ cells. (bytes : List ℕ) → source_of R.remaining reader.old ≡ Some bytes → shape_of cells ≡ rows.record_cells bytes) }
+    ensures refused { IfErr result (λ e. stops_reader (error_kind e) ≡ true) }
+{
+    let mut first = ByteRecord::new(alloc);
+    if !reader.read_byte_record(&mut first)? {
+        return Ok(Cells::Blank);
+    }
+    let mut second = ByteRecord::new(alloc);
+    if reader.read_byte_record(&mut second)? {
+        Ok(Cells::Several)
+    } else {
+        Ok(Cells::One(first))
+    }
+}
+
+// The cells of a row, by the crate csv. A row in memory has no faults.
 fn read_cells(alloc: Global, row: &[u8]) -> Result<Cells, csv::Error>
     ensures cells { IfOk result (λ cells. shape_of cells ≡ rows.row_cells row.now) }
     ensures refused { IfErr result (λ e. stops_reader (error_kind e) ≡ true) }
@@ -63,16 +88,7 @@ fn read_cells(alloc: Global, row: &[u8]) -> Result<Cells, csv::Error>
         .has_headers(false)
         .flexible(true)
         .from_reader(alloc, without_marks(row));
-    let mut first = ByteRecord::new(alloc);
-    if !reader.read_byte_record(&mut first)? {
-        return Ok(Cells::Blank);
-    }
-    let mut second = ByteRecord::new(alloc);
-    if reader.read_byte_record(&mut second)? {
-        Ok(Cells::Several)
-    } else {
-        Ok(Cells::One(first))
-    }
+    cells_of(alloc, &mut reader)
 }
 
 /// The cells of any row, by the crate csv.

@@ -1,12 +1,18 @@
 -- Answers before the input is read, answers cut short by want of memory, and an outcome seen as another.
-use Rattle.std.proofs.Common.{◌⊎◌, ◌≡◌, ◌≢◌, ◌<◌, inr, ⊎_elim, ℕ, Bool, List, [], refl, arith, sym, subst, ◌∙◌, inl}
+use Rattle.std.proofs.Common.{◌⊎◌, ◌≡◌, ◌≢◌, ◌<◌, inr, ⊎_elim, ℕ, Bool, true, false, List, [], Option, Some, None, refl, ap, arith, sym, subst, ◌∙◌, inl}
 use Rattle.std.proofs.lemmas.List.{append-nil}
-use Rattle.sp_io.specs.Outside.{Told, Gave, Grew, GrewWithin}
+use Rattle.sp_io.specs.Outside.{Told, Gave, Grew, GrewWithin, Rose}
 use Rattle.sp_top.specs.declared.status.Status.{Status}
 use Rattle.sp_top.specs.declared.status.Status.TheVariants.{Done, Memory, Usage, Query, Input, Read, Write, Limited}
 use Rattle.sp_plan.specs.declared.plan.Plan.{Plan}
+use Rattle.sp_top.specs.declared.input.Given.{Given}
+use Rattle.sp_top.specs.declared.input.Stop.{Stop}
+use Rattle.sp_top.specs.declared.input.Stop.TheVariants.{End, Failed, Open}
+use Rattle.sp_top.specs.declared.input.Failure.{Failure}
+use Rattle.sp_top.specs.declared.input.Failure.TheVariants.{Row, Limit}
 use Rattle.sp_top.specs.Commands.{Place, IsCommand}
-use Rattle.sp_top.specs.Outcome.{Outcome, QueryOutcome, IsOutcome, nothing_for}
+use Rattle.sp_top.specs.Outcome.{Outcome, QueryOutcome, IsOutcome, nothing_for, run_outcome, status_of, windows_text}
+use Rattle.sp_top.specs.Reading.{Reading, read, stop_of, stop_or}
 use Rattle.sp_top.specs.Answer.{Outside, Ran, IsPlanRun, Filed, FileFault, FileTold, Answered}
 use Rattle.sp_top.specs.Queries.{IsPlanAt, RefusesPlace}
 use Rattle.sp_top.proofs.Told.{gave_none, grew_none}
@@ -69,6 +75,48 @@ cut_short P old new taken o gave is same = record {
   write_fault = λ e. cc;
   write_told = λ _. inr refl;
 }
+
+-- the status of a run whose lines were all written tells of neither memory nor the output
+not_cut : (stop : Stop) → (status_of stop ≡ Memory) ⊎ (status_of stop ≡ Write) → ⊥
+not_cut End which = ⊎_elim (λ e. cc) (λ e. cc) which
+not_cut (Failed (Row code row column)) which = ⊎_elim (λ e. cc) (λ e. cc) which
+not_cut (Failed (Limit limit)) which = ⊎_elim (λ e. cc) (λ e. cc) which
+not_cut Open which = ⊎_elim (λ e. cc) (λ e. cc) which
+
+-- of a fault of the input only where the source failed
+only_open : (stop : Stop) → status_of stop ≡ Read → stop ≡ Open
+only_open End is = cc
+only_open (Failed (Row code row column)) is = cc
+only_open (Failed (Limit limit)) is = cc
+only_open Open is = refl
+
+-- and of success only where the input has ended
+only_ended : (r : Reading) (ended : Bool) (stopped : Option Failure) → status_of (stop_or r ended stopped) ≡ Done → ended ≡ true
+only_ended r ended (Some (Row code row column)) is = cc
+only_ended r ended (Some (Limit limit)) is = cc
+only_ended r true None is = refl
+only_ended r false None is = cc
+
+-- all lines of a run were written
+pub all_written : (q p : Plan) (old new : Outside) (taken : List ℕ) (given : Given) (s : Status) → p ≡ q → Gave old.input.left taken new.input.left
+    → given.events.items ≡ (read p taken new.input.ended).events → given.stop ≡ stop_of (read p taken new.input.ended) new.input.ended → (given.stop ≡ Open → Rose old.input.faults new.input.faults)
+    → s ≡ status_of given.stop → Grew old.out.held (windows_text p given.events.items given.stop) new.out.held → new.out.faults ≡ old.out.faults → Ran (IsPlanRun q) old new s
+all_written q p old new taken given s same gave events stop fault is grew no_fault =
+    let r = read q taken new.input.ended in
+    let events_are : given.events.items ≡ r.events = events ∙ ap (λ (o : Plan). (read o taken new.input.ended).events) same in
+    let stop_is : given.stop ≡ stop_of r new.input.ended = stop ∙ ap (λ (o : Plan). stop_of (read o taken new.input.ended) new.input.ended) same in
+    record {
+      taken = taken;
+      outcome = run_outcome q taken new.input.ended;
+      gave = gave;
+      is = refl;
+      exact = λ _ _. (is ∙ ap status_of stop_is, subst (λ (xs : List ℕ). Grew old.out.held xs new.out.held) (λ i. windows_text (same i) (events_are i) (stop_is i)) grew);
+      cut_off = λ which. absurd (not_cut given.stop (⊎_elim (λ e. inl (sym is ∙ e)) (λ e. inr (sym is ∙ e)) which));
+      read_whole = λ e. only_ended r new.input.ended r.stopped (sym (ap status_of stop_is) ∙ sym is ∙ e);
+      read_fault = λ e. fault (only_open given.stop (sym is ∙ e));
+      write_fault = λ e. absurd (not_cut given.stop (inr (sym is ∙ e)));
+      write_told = λ rose. absurd (omega (arith, rose, no_fault));
+    }
 
 -- an outcome of one kind is one of another
 pub ran_weaker : (P Q : List ℕ → Bool → Outcome → Type 0) (old new : Outside) (s : Status) → ((b : List ℕ) (e : Bool) (o : Outcome) → P b e o → Q b e o) → Ran P old new s → Ran Q old new s

@@ -1,4 +1,5 @@
-use Rattle.std.proofs.Common.{◌∷◌, ◌++◌, [], List, ℕ, ◌∙◌, ap}
+use Rattle.std.proofs.Common.{◌∷◌, ◌++◌, [], List, ℕ, ◌∙◌, ap, arith}
+use Rattle.std.proofs.lemmas.Grind.{common_steps}
 use Rattle.sp_emit.proofs.Commas as l
 use Rattle.sp_emit.proofs.places.numbers_at.Goals as goal
 
@@ -13,3 +14,6 @@ returns-in_default-short_number_at c = l.none_behind _ _ _ _ c.each.invariant c.
 
 pub each-preserved : goal.each-preserved
 each-preserved c = l.goes _ _ _ _ c.each.invariant c.in-Some-behind.ensures _ _ _ c.in_ok-push-2.ensures.items c.in-Some-short_number_at.ensures
+
+pub each-smaller : goal.each-smaller
+each-smaller c = grind (arith, common_steps)

@@ -1,4 +1,5 @@
-use Rattle.std.proofs.Common.{ap, subst, Some, sym, ℕ, List}
+use Rattle.std.proofs.Common.{ap, subst, Some, sym, ℕ, List, arith}
+use Rattle.std.proofs.lemmas.Grind.{common_steps}
 use Rattle.std.proofs.lemmas.Option.{MatchOption-at_none, MatchOption-at_some}
 use Rattle.sp_plan.specs.declared.found.Match.{Match}
 use Rattle.sp_emit.specs.Reading.{BindingsAt}
@@ -41,3 +42,9 @@ pub returns-clause-only : goal.returns-clause-only
 returns-clause-only c = λ m is.
     ap (λ (n : Match). Some n) (l.same_match _ _ m (l.same_line _ _ _ m c.as_bytes.ensures.value is) _ _ c.in-Some.ensures _ _ c.in-Some-labelled_at.ensures _ _ (bound c)
     _ (MatchOption-at_some _ _ _ c.in-Some-3.is c.in_ok-used.ensures))
+
+pub returns-in_default-clause-line : goal.returns-in_default-clause-line
+returns-in_default-clause-line c = grind (arith, common_steps)
+
+pub returns-in_default-clause-only : goal.returns-in_default-clause-only
+returns-in_default-clause-only c = grind (arith, common_steps)

@@ -16,3 +16,6 @@ returns-clause-back c = λ binds. record {
   binds = binds;
   is = grind (arith, common_steps);
 }
+
+pub returns-clause-line : goal.returns-clause-line
+returns-clause-line c = grind (arith, common_steps)

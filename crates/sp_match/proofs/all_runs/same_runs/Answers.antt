@@ -1,4 +1,5 @@
 use Rattle.std.proofs.Common.{◌≡◌, ℕ, ◌<◌, List, [], true, false, map, length, get_or, sym, ap, subst, ◌∙◌, arith}
+use Rattle.std.proofs.lemmas.Grind.{common_steps}
 use Rattle.std.proofs.lemmas.List.{get_or-map, length-map}
 use Rattle.sp_plan.specs.Runs.{Started}
 use Rattle.sp_match.specs.declared.run.Run.{Run}
@@ -35,3 +36,12 @@ returns-then-not-same_run c =
           let not : c.same_run.result ≡ false = c.if-not-same_run.true in
           cc,
     )
+
+pub returns-then-ones-others : goal.returns-then-ones-others
+returns-then-ones-others c = grind (arith, common_steps)
+
+pub loop-at-preserved : goal.loop-at-preserved
+loop-at-preserved c = grind (arith, common_steps)
+
+pub returns : goal.returns
+returns c = grind (arith, common_steps)

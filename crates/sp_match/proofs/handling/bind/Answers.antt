@@ -1,4 +1,5 @@
-use Rattle.std.proofs.Common.{◌≡◌, true, false, ◌++◌, map, get_or, set, sym, ap, ◌∙◌}
+use Rattle.std.proofs.Common.{◌≡◌, true, false, ◌++◌, map, get_or, set, sym, ap, ◌∙◌, arith}
+use Rattle.std.proofs.lemmas.Grind.{common_steps}
 use Rattle.std.specs.List.{flat_map}
 use Rattle.std.proofs.lemmas.List.{append_assoc, get_or-set_same, map-set}
 use Rattle.sp_plan.specs.Windows.{Numbered}
@@ -67,3 +68,12 @@ returns c =
       undoes = undoes_on q ks (map kept (set rs at c.grow.new.run)) (map kept c.abandon.new.runs)
           (undone_set q rs at c.index-runs-at.result c.grow.new.run c.requires.within c.requires.good c.in_ok-is_whole.ensures.undoes) (c.in_ok-abandon.ensures.undoes q (undone_set c.args.plan.now c.args.runs.now c.args.at c.index-runs-at.result c.grow.new.run c.requires.within c.requires.good c.in_ok-is_whole.ensures.undoes).good);
     }
+
+pub grow-requires-clause-good : goal.grow-requires-clause-good
+grow-requires-clause-good c = grind (arith, common_steps)
+
+pub grow-requires-clause-idle : goal.grow-requires-clause-idle
+grow-requires-clause-idle c = grind (arith, common_steps)
+
+pub grow-requires-clause-below : goal.grow-requires-clause-below
+grow-requires-clause-below c = grind (arith, common_steps)

@@ -1,4 +1,5 @@
-use Rattle.std.proofs.Common.{◌≡◌, None, map, get_or, set, sym, ap, subst, ◌∙◌}
+use Rattle.std.proofs.Common.{◌≡◌, None, map, get_or, set, sym, ap, subst, ◌∙◌, arith}
+use Rattle.std.proofs.lemmas.Grind.{common_steps}
 use Rattle.std.specs.Prelude.{if◌then◌else◌}
 use Rattle.std.proofs.lemmas.List.{map-set}
 use Rattle.sp_plan.specs.Windows.{Numbered}
@@ -42,3 +43,39 @@ returns-in_ok-leave-in-None-clause-runs c =
     map-set kept rs at c.leave.new.run ∙ ap (set ks at) c.in_ok-leave-in-None.ensures.run
     ∙ ap (λ (k : Kept). set ks at (record k { fate = Leaves })) (sym (here rs at c.index-runs-at-in-None.result c.requires.within))
     ∙ (λ i. if sym c.if-begins.true i then left_at at ks else ks) ∙ ap (dealt q c.args.begins at x ks) none
+
+pub takes-requires-clause-good : goal.takes-requires-clause-good
+takes-requires-clause-good c = grind (arith, common_steps)
+
+pub returns-then-used-clause-received : goal.returns-then-used-clause-received
+returns-then-used-clause-received c = grind (arith, common_steps)
+
+pub returns-then-used-clause-runs : goal.returns-then-used-clause-runs
+returns-then-used-clause-runs c = grind (arith, common_steps)
+
+pub returns-then-used-clause-told : goal.returns-then-used-clause-told
+returns-then-used-clause-told c = grind (arith, common_steps)
+
+pub returns-else-used-clause-received : goal.returns-else-used-clause-received
+returns-else-used-clause-received c = grind (arith, common_steps)
+
+pub returns-else-used-clause-runs : goal.returns-else-used-clause-runs
+returns-else-used-clause-runs c = grind (arith, common_steps)
+
+pub returns-else-used-clause-told : goal.returns-else-used-clause-told
+returns-else-used-clause-told c = grind (arith, common_steps)
+
+pub returns-in_ok-leave-in-None-clause-received : goal.returns-in_ok-leave-in-None-clause-received
+returns-in_ok-leave-in-None-clause-received c = grind (arith, common_steps)
+
+pub returns-in_ok-leave-in-None-clause-told : goal.returns-in_ok-leave-in-None-clause-told
+returns-in_ok-leave-in-None-clause-told c = grind (arith, common_steps)
+
+pub returns-in-None-2-clause-received : goal.returns-in-None-2-clause-received
+returns-in-None-2-clause-received c = grind (arith, common_steps)
+
+pub returns-in-None-2-clause-runs : goal.returns-in-None-2-clause-runs
+returns-in-None-2-clause-runs c = grind (arith, common_steps)
+
+pub returns-in-None-2-clause-told : goal.returns-in-None-2-clause-told
+returns-in-None-2-clause-told c = grind (arith, common_steps)

@@ -1,4 +1,5 @@
-use Rattle.std.proofs.Common.{◌≡◌, true, false, not, take, get_or, sym, ap, subst, ◌∙◌, rules}
+use Rattle.std.proofs.Common.{◌≡◌, true, false, not, take, get_or, sym, ap, subst, ◌∙◌, rules, arith}
+use Rattle.std.proofs.lemmas.Grind.{common_steps}
 use Rattle.std.specs.List.{All, find}
 use Rattle.std.proofs.lemmas.List.Elements.{All-get_or}
 use Rattle.sp_plan.specs.declared.plan.Element.TheVariants.{One}
@@ -43,3 +44,6 @@ loop-i-preserved c =
     let same : get_or elements c.loop-i.i element ≡ element = search rules in
     let fails : not (is_filled r (get_or elements c.loop-i.i element)) ≡ false = ap (λ e. not (is_filled r e)) same ∙ ap not (sym c.is_filled.ensures ∙ c.if-not-is_filled.false) in
     found_more (λ element. not (is_filled r element)) elements c.loop-i.i element c.loop-i.invariant c.loop-i-test.true fails
+
+pub returns-clause-first : goal.returns-clause-first
+returns-clause-first c = grind (arith, common_steps)

@@ -1,4 +1,5 @@
-use Rattle.std.proofs.Common.{◌≡◌, ℕ, ◌+◌, true, false, List, [], ◌∷◌, ◌++◌, map, length, take, drop, Option, Some, None, refl, sym, ap, subst, ◌∙◌}
+use Rattle.std.proofs.Common.{◌≡◌, ℕ, ◌+◌, true, false, List, [], ◌∷◌, ◌++◌, map, length, take, drop, Option, Some, None, refl, sym, ap, subst, ◌∙◌, arith}
+use Rattle.std.proofs.lemmas.Grind.{common_steps}
 use Rattle.std.specs.List.{All}
 use Rattle.std.proofs.lemmas.List.{length-map, take_at}
 use Rattle.sp_plan.specs.declared.plan.Plan.{Plan}
@@ -113,3 +114,12 @@ returns-in-None-clause-handled c =
     ts c.in_ok-so_far.so_far c.start_name.result c.requires.ready c.deref_mut.ensures.value (c.offer_to_all.auto.runs ∙ c.deref_mut.ensures.len) c.deref_mut.ensures.len
     c.deref.ensures.value c.in_ok-so_far.ensures.undoes c.in_ok-so_far.ensures.going c.start_name.ensures in
     no_run q x c.args.count c.args.runs.now.items c.offer_to_all.new.runs (take c.args.runs.now.len (c.offer_to_all.new.runs ++ drop (length c.offer_to_all.new.runs) c.args.runs.now.items)) ts c.in_ok-so_far.so_far c.start_name.result t c.in-None.is
+
+pub returns-in_err-so_far-clause-undoes : goal.returns-in_err-so_far-clause-undoes
+returns-in_err-so_far-clause-undoes c = grind (arith, common_steps)
+
+pub open-requires-clause-good : goal.open-requires-clause-good
+open-requires-clause-good c = grind (arith, common_steps)
+
+pub returns-in-None-clause-undoes : goal.returns-in-None-clause-undoes
+returns-in-None-clause-undoes c = grind (arith, common_steps)

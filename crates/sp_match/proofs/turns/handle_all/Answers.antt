@@ -1,4 +1,5 @@
-use Rattle.std.proofs.Common.{◌≡◌, ℕ, List, map, length, take, ap, subst, ◌∙◌}
+use Rattle.std.proofs.Common.{◌≡◌, ℕ, List, map, length, take, ap, subst, ◌∙◌, arith}
+use Rattle.std.proofs.lemmas.Grind.{common_steps}
 use Rattle.std.specs.List.{All}
 use Rattle.std.proofs.lemmas.List.{length-map}
 use Rattle.sp_plan.specs.Windows.{Numbered}
@@ -23,3 +24,6 @@ returns-clause-wanted c = λ s is count_is.
     c.in_ok-want_after.ensures ∙ (λ i. wanted_all q (lefts_is i) (take (size i) (map kept (c.deref-3.ensures.value i))))
     ∙ wanted_is q s (act q s x).moves old (take (length rs) new) c.requires.ready.idle c.in_ok-began.ensures.undoes is
     (subst (λ (n : ℕ). All (Tally (act q s x).moves) (take n new)) long (c.in_ok-began.ensures.handled.tally s is count_is))
+
+pub returns-in_err-want_before-clause-undoes : goal.returns-in_err-want_before-clause-undoes
+returns-in_err-want_before-clause-undoes c = grind (arith, common_steps)

@@ -1,4 +1,5 @@
-use Rattle.std.proofs.Common.{◌≡◌, ℕ, ◌+◌, List, [], ◌∷◌, ◌++◌, map, length, take, drop, sym, ap, subst, ◌∙◌}
+use Rattle.std.proofs.Common.{◌≡◌, ℕ, ◌+◌, List, [], ◌∷◌, ◌++◌, map, length, take, drop, sym, ap, subst, ◌∙◌, arith}
+use Rattle.std.proofs.lemmas.Grind.{common_steps}
 use Rattle.std.specs.List.{All}
 use Rattle.std.proofs.lemmas.List.{length-map, map_push, take_at}
 use Rattle.std.proofs.lemmas.List.Elements.{All-push}
@@ -44,3 +45,21 @@ returns-clause-undoes c =
 pub returns-clause-good : goal.returns-clause-good
 returns-clause-good c =
     subst (λ (l : List Run). All (Good c.args.plan.now) (map kept l)) (sym (take_at c.bind.new.runs (drop (length c.bind.new.runs) c.push.new.self.items) c.push.new.self.len (c.bind.auto.runs ∙ c.deref_mut.ensures.len))) c.in_ok-bind.ensures.undoes.good
+
+pub returns-in_err-push-clause-undoes : goal.returns-in_err-push-clause-undoes
+returns-in_err-push-clause-undoes c = grind (arith, common_steps)
+
+pub returns-in_err-push-2-clause-undoes : goal.returns-in_err-push-2-clause-undoes
+returns-in_err-push-2-clause-undoes c = grind (arith, common_steps)
+
+pub bind-requires-clause-below : goal.bind-requires-clause-below
+bind-requires-clause-below c = grind (arith, common_steps)
+
+pub bind-requires-clause-idle : goal.bind-requires-clause-idle
+bind-requires-clause-idle c = grind (arith, common_steps)
+
+pub returns-clause-runs : goal.returns-clause-runs
+returns-clause-runs c = grind (arith, common_steps)
+
+pub returns-clause-told : goal.returns-clause-told
+returns-clause-told c = grind (arith, common_steps)

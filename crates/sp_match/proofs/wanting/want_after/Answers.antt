@@ -1,4 +1,5 @@
 use Rattle.std.proofs.Common.{◌≡◌, ℕ, ◌<◌, List, ◌++◌, map, length, get_or, sym, ap, subst, ◌∙◌, arith}
+use Rattle.std.proofs.lemmas.Grind.{common_steps}
 use Rattle.std.proofs.lemmas.List.{get_or-map, get_or_default, length-map}
 use Rattle.sp_match.specs.declared.run.Run.{Run}
 use Rattle.sp_match.specs.Kept.{kept}
@@ -26,3 +27,6 @@ loop-at-preserved c =
     let run_is : k ≡ get_or (map kept rs) i k = ap kept c.index-runs-at.is ∙ sym (get_or-map kept rs i c.index-runs-at.result k within) in
     c.in_ok-want_one.ensures ∙ ap (λ (l : List (ℕ × ℕ)). l ++ wanted_by q (n, k)) c.loop-at.invariant
     ∙ sym (wanted_more q lefts (map kept rs) i n k inside (omega (arith, within, length-map rs kept)) (get_or_default lefts i 0 n inside) run_is)
+
+pub returns : goal.returns
+returns c = grind (arith, common_steps)

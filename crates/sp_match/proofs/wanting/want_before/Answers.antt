@@ -1,4 +1,5 @@
-use Rattle.std.proofs.Common.{sym, subst}
+use Rattle.std.proofs.Common.{sym, subst, arith}
+use Rattle.std.proofs.lemmas.Grind.{common_steps}
 use Rattle.sp_match.specs.declared.run.Run.{Run}
 use Rattle.sp_match.specs.Kept.{kept}
 use Rattle.sp_match.specs.Good.{Good}
@@ -8,3 +9,9 @@ use Rattle.sp_match.proofs.wanting.want_before.Goals as goal
 pub left-requires-clause-good : goal.left-requires-clause-good
 left-requires-clause-good c =
     subst (λ (r : Run). Good c.args.plan.now (kept r)) (sym c.run-item.is) (good_here c.args.plan.now c.args.runs.now c.loop-run.run-index c.run-item.result c.loop-run-test.true c.requires.good)
+
+pub loop-run-preserved : goal.loop-run-preserved
+loop-run-preserved c = grind (arith, common_steps)
+
+pub returns : goal.returns
+returns c = grind (arith, common_steps)

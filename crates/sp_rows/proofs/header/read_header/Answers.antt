@@ -1,4 +1,5 @@
-use Rattle.std.proofs.Common.{◌≡◌, ◌∙◌, ap, sym, refl, Some, List, ℕ, true, false, ◌++◌, ◌∷◌, [], length}
+use Rattle.std.proofs.Common.{◌≡◌, ◌∙◌, ap, sym, refl, Some, List, ℕ, true, false, ◌++◌, ◌∷◌, [], length, arith}
+use Rattle.std.proofs.lemmas.Grind.{common_steps}
 use Rattle.std.specs.Prelude.{is_none, Option}
 use Rattle.std.specs.Option.{option_map}
 use Rattle.std.specs.List.{slice_get}
@@ -36,3 +37,6 @@ loop-column-preserved c =
           ∙ ap (λ (l : List ℕ). l ++ c.in-Some.place ∷ []) c.loop-column.invariant.places
           ∙ sym (gives_more (place_of cells) columns i column c.in-Some.place is has);
     }
+
+pub returns : goal.returns
+returns c = grind (arith, common_steps)

@@ -1,4 +1,5 @@
-use Rattle.std.proofs.Common.{◌≡◌, ◌∙◌, ap, sym, None, List, ℕ, ◌+◌}
+use Rattle.std.proofs.Common.{◌≡◌, ◌∙◌, ap, sym, None, List, ℕ, ◌+◌, arith}
+use Rattle.std.proofs.lemmas.Grind.{common_steps}
 use Rattle.std.specs.List.{slice_get, filter_map}
 use Rattle.sp_rows.specs.declared.fault.RowKind.{RowKind}
 use Rattle.sp_rows.specs.Rows.{columns_at, values_of, with_cell, fault_at, cell_in}
@@ -60,3 +61,9 @@ returns-clause-time c =
     let all = taken_all columns c.loop-number.number past in
     time_read c.args.plan.now c.args.places.now cells c.args.texts.now c.loop-number.texts c.loop-number.values.items (c.loop-number.invariant.values ∙ ap (values_of c.args.texts.now cells) all)
     (ap (filter_map (fault_at cells)) (sym all) ∙ c.loop-number.invariant.whole)
+
+pub returns-in_err-values-clause-kept : goal.returns-in_err-values-clause-kept
+returns-in_err-values-clause-kept c = grind (arith, common_steps)
+
+pub loop-number-init : goal.loop-number-init
+loop-number-init c = grind (arith, common_steps)

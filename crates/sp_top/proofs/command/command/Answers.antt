@@ -1,4 +1,5 @@
-use Rattle.std.proofs.Common.{◌≡◌, [], ◌∷◌, map, sym, ◌∙◌, ap}
+use Rattle.std.proofs.Common.{◌≡◌, [], ◌∷◌, map, sym, ◌∙◌, ap, arith}
+use Rattle.std.proofs.lemmas.Grind.{common_steps}
 use Rattle.std.specs.Prelude.{string_bytes}
 use Rattle.sp_top.proofs.Commands.{text_command, file_command, no_command}
 use Rattle.sp_top.proofs.Words.{three}
@@ -26,3 +27,9 @@ returns-in_default-as_str-clause-none c =
     let option : string_bytes c.option-item.result ≡ c.as_str-2.result.now = sym c.as_str-2.ensures.value in
     let words = three c.args.words.now c.first-item.result c.option-item.result c.rest-item.result c.in-len3.len_at_least c.in-len3.len_below c.first-item.is c.option-item.is c.rest-item.is in
     no_command (map string_bytes c.args.words.now) c.as_str.result.now c.as_str-2.result.now (string_bytes c.rest-item.result) (ap (map string_bytes) words ∙ (λ i. first i ∷ option i ∷ string_bytes c.rest-item.result ∷ [])) c.in_default-as_str.not-text c.in_default-as_str.not-text-2
+
+pub returns-in_default-clause-none : goal.returns-in_default-clause-none
+returns-in_default-clause-none c = grind (arith, common_steps)
+
+pub returns-then-not-is_run-clause-none : goal.returns-then-not-is_run-clause-none
+returns-then-not-is_run-clause-none c = grind (arith, common_steps)

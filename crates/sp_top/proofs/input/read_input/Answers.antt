@@ -1,4 +1,5 @@
 use Rattle.std.proofs.Common.{[], false, take, sym, ap, ◌∙◌, arith, rules}
+use Rattle.std.proofs.lemmas.Grind.{common_steps}
 use Rattle.std.specs.Prelude.{is_some}
 use Rattle.sp_top.specs.Kept.{reading_of}
 use Rattle.sp_top.specs.Reading.{Reading}
@@ -49,3 +50,6 @@ loop-preserved g c =
       going = none_where (reading_of c.feed.new.self.kept).stopped (sym c.if-has_stopped.ensures);
       size = omega (arith, c.loop.invariant.size, read.ensures.size);
     }
+
+pub returns-in_err-reader : goal.returns-in_err-reader
+returns-in_err-reader g c = grind (arith, common_steps)

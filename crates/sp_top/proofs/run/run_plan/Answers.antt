@@ -1,11 +1,11 @@
-use Rattle.std.proofs.Common.{[], length, refl, sym, ap, subst, arith}
+use Rattle.std.proofs.Common.{[], Ok, length, refl, sym, ap, subst, arith}
 use Rattle.std.specs.Arc.{arc_value}
 use Rattle.sp_plan.specs.Compiled.{IsTimeOf}
 use Rattle.sp_plan.specs.Events.{AllFit, NeverGoesBack}
 use Rattle.sp_plan.specs.declared.plan.Plan.{Plan}
 use Rattle.sp_top.specs.Outcome.{run_outcome}
 use Rattle.sp_top.specs.Answer.{IsPlanRun}
-use Rattle.sp_top.proofs.Answering.{cut_short}
+use Rattle.sp_top.proofs.Answering.{all_written, cut_short}
 use Rattle.sp_top.proofs.Told.{gave_none}
 use Rattle.sp_top.proofs.FewEvents.{read_few}
 use Rattle.sp_top.proofs.FitReading.{read_fits}
@@ -40,3 +40,9 @@ write_windows-requires-clause-ordered g c κs within =
     let q = arc_value c.in-Ok.plan in
     let timed : IsTimeOf q.schema.columns q.schema.time = subst (λ (p : Plan). IsTimeOf p.schema.columns p.schema.time) (sym c.in-Ok.ensures) c.requires.compiled.time in
     subst NeverGoesBack (sym reads.events) (read_fits q timed reads.taken (g.S.Source.state c.read_input.new.input).ended).ordered
+
+pub returns-in-Ok-All : goal.returns-in-Ok-All
+returns-in-Ok-All g c =
+    let reads = c.in-Ok-read_input.ensures in
+    all_written c.args.plan (arc_value c.in-Ok.plan) _ _ reads.taken c.in-Ok-read_input.given c.status_of.result c.in-Ok.ensures reads.gave reads.events reads.stop reads.fault c.status_of.ensures
+    (c.in-Ok-All.ensures.all (ap Ok c.in-Ok-All.field-0-is)) (c.in-Ok-All.ensures.not_failed (λ e. cc))

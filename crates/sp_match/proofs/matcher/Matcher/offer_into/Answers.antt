@@ -1,4 +1,4 @@
-use Rattle.std.proofs.Common.{◌≡◌, ℕ, ◌+◌, Bool, List, map, length, take, refl, sym, ap, subst, ◌∙◌}
+use Rattle.std.proofs.Common.{◌≡◌, ℕ, ◌+◌, Bool, List, map, length, take, refl, sym, ap, subst, ◌∙◌, rules}
 use Rattle.std.specs.List.{All}
 use Rattle.std.specs.Arc.{arc_value}
 use Rattle.sp_plan.specs.declared.plan.Plan.{Plan}
@@ -23,6 +23,13 @@ handle_all-requires-clause-ready c =
     let count = c.self.inside.count in
     subst (λ (q : Plan). IsReady q c.args.number count ks) (sym c.deref.ensures)
     (ready (arc_value c.self.inside.plan) c.args.number count ks c.self.invariant (subst (λ (m : Matching). Below c.args.number (runs_of m)) (sym c.self.view_is) c.requires.below))
+
+-- what a matcher is after an event, and what is told and wanted
+record Offered (before after : Matching) (x : Numbered) (ts : List Told) (ws : List (ℕ × ℕ)) : Type 0 where
+  stands : (s : State) → Stands before s → Stands after (handle before.plan s x)
+  tells : (s : State) → Stands before s → ts ≡ told before.plan s (moves before.plan s x)
+  wants : (s : State) → Stands before s → ws ≡ still_wanted before.plan s (moves before.plan s x)
+  stays_below : Below (x.0 + 1) (runs_of after)
 
 -- the event as it was handled, with the matcher's own plan
 module _ (q q' : Plan) (x : Numbered) (count : ℕ) (old : List Kept) (began : Bool) (new settled : List Kept) (ts : List Told) (m m' : Matching) (is : q' ≡ q) (view : (record { plan = q; open_runs = map started old; started = count }) ≡ m)
@@ -65,6 +72,9 @@ module _ (q q' : Plan) (x : Numbered) (count : ℕ) (old : List Kept) (began : B
     ordered = ordered_after q x count old began new settled ts own.ordered handled_own settled_is;
   }
 
+  offered : (ws : List (ℕ × ℕ)) → ((s : State) → s.open_runs ≡ map started old → s.started ≡ count → ws ≡ still_wanted q' s (moves q' s x)) → Below x.0 (runs_of m) → Offered m m' x ts ws
+  offered ws wanted below = record { stands = stands_after; tells = told_after; wants = wanted_after ws wanted; stays_below = low_after x.0 refl below }
+
 pub invariant_of-self : goal.invariant_of-self
 invariant_of-self c =
     let q = arc_value c.self.inside.plan in
@@ -77,45 +87,17 @@ invariant_of-self c =
     (kept_after q c.deref.result.now x count old c.in-Ok.started (map kept c.handle_all.new.runs.items) settled (map seen c.handle_all.new.moves.list.items) c.args.self.now after c.deref.ensures c.self.view_is c.self.invariant
     c.in-Ok.ensures.handled c.settle.ensures.runs refl (subst (λ (p : Plan). All (Good p) settled) (c.deref-in-Ok.ensures ∙ sym c.deref.ensures) c.settle.ensures.good) c.settle.ensures.idle)
 
-pub returns-in-Ok-clause-stands : goal.returns-in-Ok-clause-stands
-returns-in-Ok-clause-stands c =
+pub returns-in-Ok : goal.returns-in-Ok
+returns-in-Ok c =
     let q = arc_value c.self.inside.plan in
     let x : Numbered = (c.args.number, c.args.event.now) in
     let settled = map kept c.settle.new.runs.items in
-    let count = c.self.inside.count in
     let after : Matching = record { plan = q; open_runs = map started settled; started = c.count_after-self-inside.result } in
-    stands_after q c.deref.result.now x count (map kept c.self.inside.runs.items) c.in-Ok.started (map kept c.handle_all.new.runs.items) settled (map seen c.handle_all.new.moves.list.items) c.args.self.now after c.deref.ensures c.self.view_is c.self.invariant
-    c.in-Ok.ensures.handled c.settle.ensures.runs (λ i. record { plan = q; open_runs = map started settled; started = c.count_after-self-inside.ensures i })
-
-pub returns-in-Ok-clause-told : goal.returns-in-Ok-clause-told
-returns-in-Ok-clause-told c =
-    let q = arc_value c.self.inside.plan in
-    let x : Numbered = (c.args.number, c.args.event.now) in
-    let settled = map kept c.settle.new.runs.items in
-    let count = c.self.inside.count in
-    let after : Matching = record { plan = q; open_runs = map started settled; started = c.count_after-self-inside.result } in
-    told_after q c.deref.result.now x count (map kept c.self.inside.runs.items) c.in-Ok.started (map kept c.handle_all.new.runs.items) settled (map seen c.handle_all.new.moves.list.items) c.args.self.now after c.deref.ensures c.self.view_is c.self.invariant
-    c.in-Ok.ensures.handled c.settle.ensures.runs (λ i. record { plan = q; open_runs = map started settled; started = c.count_after-self-inside.ensures i })
-
-pub returns-in-Ok-clause-wanted : goal.returns-in-Ok-clause-wanted
-returns-in-Ok-clause-wanted c =
-    let q = arc_value c.self.inside.plan in
-    let x : Numbered = (c.args.number, c.args.event.now) in
-    let settled = map kept c.settle.new.runs.items in
-    let count = c.self.inside.count in
-    let after : Matching = record { plan = q; open_runs = map started settled; started = c.count_after-self-inside.result } in
-    wanted_after q c.deref.result.now x count (map kept c.self.inside.runs.items) c.in-Ok.started (map kept c.handle_all.new.runs.items) settled (map seen c.handle_all.new.moves.list.items) c.args.self.now after c.deref.ensures c.self.view_is c.self.invariant
-    c.in-Ok.ensures.handled c.settle.ensures.runs (λ i. record { plan = q; open_runs = map started settled; started = c.count_after-self-inside.ensures i }) c.handle_all.new.moves.wanted.items c.in-Ok.ensures.wanted
-
-pub returns-in-Ok-clause-below : goal.returns-in-Ok-clause-below
-returns-in-Ok-clause-below c =
-    let q = arc_value c.self.inside.plan in
-    let x : Numbered = (c.args.number, c.args.event.now) in
-    let settled = map kept c.settle.new.runs.items in
-    let count = c.self.inside.count in
-    let after : Matching = record { plan = q; open_runs = map started settled; started = c.count_after-self-inside.result } in
-    low_after q c.deref.result.now x count (map kept c.self.inside.runs.items) c.in-Ok.started (map kept c.handle_all.new.runs.items) settled (map seen c.handle_all.new.moves.list.items) c.args.self.now after c.deref.ensures c.self.view_is c.self.invariant
-    c.in-Ok.ensures.handled c.settle.ensures.runs (λ i. record { plan = q; open_runs = map started settled; started = c.count_after-self-inside.ensures i }) c.args.number refl c.requires.below
+    let o =
+    offered q c.deref.result.now x c.self.inside.count (map kept c.self.inside.runs.items) c.in-Ok.started (map kept c.handle_all.new.runs.items) settled (map seen c.handle_all.new.moves.list.items) c.args.self.now after
+    c.deref.ensures c.self.view_is c.self.invariant c.in-Ok.ensures.handled c.settle.ensures.runs (λ i. record { plan = q; open_runs = map started settled; started = c.count_after-self-inside.ensures i })
+    c.handle_all.new.moves.wanted.items c.in-Ok.ensures.wanted c.requires.below in
+    record { stands = o.stands; told = o.tells; wanted = o.wants; below = o.stays_below; plan = search rules; err = search rules }
 
 -- the runs as before
 back : (q q' : Plan) (old new after : List Kept) (size n : ℕ) → All IsIdle old → n ≡ size → Undoes q' old (take size new) → after ≡ map before (take n new) → after ≡ old

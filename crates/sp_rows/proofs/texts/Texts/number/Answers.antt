@@ -1,4 +1,5 @@
-use Rattle.std.proofs.Common.{◌≡◌, ℕ, List, Vec, Global, sym, ◌∙◌, ap, subst, IfOk, map}
+use Rattle.std.proofs.Common.{◌≡◌, ℕ, List, Vec, Global, sym, ◌∙◌, ap, subst, IfOk, map, arith}
+use Rattle.std.proofs.lemmas.Grind.{common_steps}
 use Rattle.sp_plan.specs.Texts.{symbol_of, with_text}
 use Rattle.sp_rows.proofs.Answered.{on_ok}
 use Rattle.sp_rows.proofs.Numbered.{found_number, found_known, place_of_texts, added_text}
@@ -32,3 +33,15 @@ returns-clause-number c =
 pub returns-clause-texts : goal.returns-clause-texts
 returns-clause-texts c =
     on_ok c.number_at-2.result (ap (λ (keys : List (Vec ℕ Global)). map bytes_of keys) c.in_ok-place.ensures.keys ∙ added_text bytes_of c.self.inside.set.keys c.in_ok-owned.owned ∙ (λ i. with_text (c.self.view_is i) (c.in_ok-owned.ensures.items i)))
+
+pub returns-in-Some-clause-kept : goal.returns-in-Some-clause-kept
+returns-in-Some-clause-kept c = grind (arith, common_steps)
+
+pub returns-in_err-owned-clause-kept : goal.returns-in_err-owned-clause-kept
+returns-in_err-owned-clause-kept c = grind (arith, common_steps)
+
+pub returns-in_err-place-clause-kept : goal.returns-in_err-place-clause-kept
+returns-in_err-place-clause-kept c = grind (arith, common_steps)
+
+pub returns-clause-kept : goal.returns-clause-kept
+returns-clause-kept c = grind (arith, common_steps)
