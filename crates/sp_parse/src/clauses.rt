@@ -5,6 +5,7 @@ ghost use Rattle.sp_syntax.specs.Grammar as g;
 ghost use Rattle.sp_parse.specs.Reads.{Answers, Takes, among, never, reads_as};
 
 use crate::columns::ident;
+use crate::list::added;
 use crate::stop::Stop;
 use crate::tokens::{begins, behind, expect, span_of, whole};
 use sp_syntax::{Ident, Kernel, Mark, QueryConsume, Span, Token, Word};
@@ -88,13 +89,9 @@ fn all_or_none<'a>(tokens: &'a [Token]) -> Result<(QueryConsume, &'a [Token]), S
 fn name_list<'a>(alloc: Global, tokens: &'a [Token]) -> Result<(Items<Ident>, &'a [Token]), Stop>
     ensures { (room : ℕ) → Answers (λ _. g.ListOf g.Name) (among never (reads_as (g.kernel (g.mark m.Comma)))) room tokens.now (λ p. (p.0, p.1.now)) result }
 {
-    let mut list = Items::new(alloc);
-    let (first, mut rest) = ident(alloc, tokens)?;
-    list.push(first)?;
+    let (mut list, mut rest) = added(Items::new(alloc), ident(alloc, tokens))?;
     'each: while let Some(next) = behind(rest, Mark::Comma) {
-        let (name, after) = ident(alloc, next)?;
-        list.push(name)?;
-        rest = after;
+        (list, rest) = added(list, ident(alloc, next))?;
     }
     Ok((list, rest))
 }

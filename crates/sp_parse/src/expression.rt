@@ -6,7 +6,7 @@ ghost use Rattle.sp_parse.specs.Reads.{Answers, Operator, Takes, never};
 
 use crate::stop::Stop;
 use crate::tokens::{begins, begins_name, expect, name, span_of};
-use crate::trees::{binary, leaf, unary};
+use crate::trees::{joined, leaf, unary};
 use sp_plan::Text;
 use sp_syntax::{Kernel, Mark, Node, Token, Tree};
 use std::alloc::Global;
@@ -152,9 +152,7 @@ fn term<'a>(alloc: Global, tokens: &'a [Token], room: usize) -> Result<(Tree, &'
 {
     let (mut tree, mut rest) = factor(alloc, tokens, room)?;
     while let Some((node, behind)) = times(rest) {
-        let (right, after) = factor(alloc, behind, room)?;
-        tree = binary(alloc, node, tree, right, span_of(tokens, after))?;
-        rest = after;
+        (tree, rest) = joined(alloc, tokens, tree, node, factor(alloc, behind, room))?;
     }
     Ok((tree, rest))
 }
@@ -170,9 +168,7 @@ pub(crate) fn sum<'a>(
 {
     let (mut tree, mut rest) = term(alloc, tokens, room)?;
     while let Some((node, behind)) = plus(rest) {
-        let (right, after) = term(alloc, behind, room)?;
-        tree = binary(alloc, node, tree, right, span_of(tokens, after))?;
-        rest = after;
+        (tree, rest) = joined(alloc, tokens, tree, node, term(alloc, behind, room))?;
     }
     Ok((tree, rest))
 }

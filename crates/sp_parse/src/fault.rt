@@ -4,20 +4,18 @@ ghost use Rattle.sp_parse.specs.Codes.{code_of, place_of};
 
 use sp_syntax::LexFault;
 
-/// Why a text is no query. Places are bytes of the text, from 0.
+/// Why a text is no query, to be told by its code and its place. Places are bytes of the text, from 0.
 #[derive(Debug, Drop, thiserror::Error)]
+#[error("the text is no query")]
 pub enum ParseFault {
     /// The text has no tokens; never by want of memory.
-    #[error("no tokens")]
     Lex(LexFault),
     /// The first token up to which the tokens begin no query, or the text's length where it ends too
     /// early.
-    #[error("a token that does not belong here, at byte {at}")]
     Unexpected { at: u32 },
     /// The token that opens level 65 of nesting.
-    #[error("nested deeper than 64 levels, at byte {at}")]
     TooDeep { at: u32 },
-    #[error("out of memory")]
+    /// Want of memory.
     Memory,
 }
 
