@@ -29,7 +29,7 @@ within_limits : (number limit : ℕ) → is_within number limit ≡ true → (0 
 within_limits number limit is = (grind (arith, nat_tests), grind (arith, nat_tests))
 
 -- a check that finds nothing
-true_where : (fine : Bool) (fault : CompileFault) → (if fine then None else Some fault) ≡ None → fine ≡ true
+pub true_where : (fine : Bool) (fault : CompileFault) → (if fine then None else Some fault) ≡ None → fine ≡ true
 true_where true fault none = refl
 true_where false fault none = absurd (cc none)
 
@@ -60,3 +60,14 @@ step_keeps size _ step _ fine =
     let both = and_parts (is_within step 1048576) (nat_le (windows_per_event size step) 64) fine in
     let limits = within_limits step 1048576 both.0 in
     (limits.0, limits.1, few size step both.1)
+
+-- how great such a step is, of time and of events
+pub step_of_time : (size : ℕ) (of : Word) (step : ℕ) (unit : Word) → step_is_fine size of step unit ≡ true → unit ≡ w.Time → step ≤ 1000000000000000
+step_of_time size w.Time step w.Time fine is = (within_limits step 1000000000000000 ((and_parts (is_within step 1000000000000000) (nat_le (windows_per_event size step) 64) fine).0)).1
+step_of_time size _ step w.Time fine is = absurd (cc fine)
+step_of_time size _ step _ fine is = absurd (cc is)
+
+pub step_of_events : (size : ℕ) (of : Word) (step : ℕ) (unit : Word) → step_is_fine size of step unit ≡ true → (unit ≡ w.Time → ⊥) → step ≤ 1048576
+step_of_events size _ step w.Time fine out = absurd (out refl)
+step_of_events size w.Time step _ fine out = (within_limits step 1048576 fine).1
+step_of_events size _ step _ fine out = (within_limits step 1048576 ((and_parts (is_within step 1048576) (nat_le (windows_per_event size step) 64) fine).0)).1

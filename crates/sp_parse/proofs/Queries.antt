@@ -1,7 +1,6 @@
 -- The whole query, and what its tokens answer.
-use Rattle.std.proofs.Common.{◌≡◌, ◌≢◌, ◌++◌, ◌||◌, ◌==◌, ℕ, Bool, true, false, List, [], ◌∷◌, length, Option, Some, None, is_some, Result, IsErrAnd, IfErr, refl, sym, ◌∙◌, ap, subst, append_assoc, append-nil, length-append, arith}
+use Rattle.std.proofs.Common.{◌≡◌, ◌≢◌, ◌++◌, ◌||◌, ◌==◌, ℕ, Bool, true, false, List, [], ◌∷◌, length, Option, Some, None, is_some, Result, Ok, Err, Bor, IfOk, IfErr, inl, inr, refl, sym, ◌∙◌, ap, subst, append_assoc, append-nil, length-append, arith}
 use Rattle.std.proofs.lemmas.Bool.Decides.{nat_tests}
-use Rattle.std.proofs.lemmas.Result.{err_from_is_err_and}
 use Rattle.sp_lex.specs.declared.token.Token.{Token}
 use Rattle.sp_lex.specs.declared.token.Span.{Span}
 use Rattle.sp_lex.specs.declared.token.Kernel.{Kernel}
@@ -23,7 +22,7 @@ use Rattle.sp_parse.specs.declared.stop.Stop.{Stop}
 use Rattle.sp_parse.specs.declared.stop.Stop.TheVariants as stop
 use Rattle.sp_parse.specs.Clauses.{Ending, EndingValue, Body, BodyValue}
 use Rattle.sp_parse.specs.Follow.{after_pred, after_definitions}
-use Rattle.sp_parse.specs.Reads.{heads, never, reads_as, among, head_as, Found, Fault, wrong, deep, Within, Opens, Stuck, Stops}
+use Rattle.sp_parse.specs.Reads.{heads, never, reads_as, among, head_as, Found, Fault, wrong, deep, Within, Opens, Stuck, Stops, Answers, Ends}
 use Rattle.sp_parse.specs.Parses.{NotWith, NeedsMore, IsUnexpected, Halts, IsFrom}
 use Rattle.sp_parse.proofs.Reading as r
 use Rattle.sp_parse.proofs.Reading.{Begins}
@@ -270,15 +269,31 @@ rest_is_none s rest q_ x h p d =
     let k_ : length s ≡ length x.front = ap length j.0 in
     h (omega (arith, ap length x.cut, length-append x.front rest))
 
-pub exit_halts : (s : List Token) (y : Result Query Stop) (e : Stop) → IsErrAnd y (λ z. z ≡ e) → Stops Derives never 64 s e → IfErr y (λ z. Halts s z)
-exit_halts s y e h g_ =
-    let p = err_from_is_err_and y h in
-    subst (λ l. IfErr l (λ z. Halts s z)) (sym p.1) (subst (λ l. Halts s l) (sym p.2) (halts s e g_))
+module _ (s : List Token) (read : Result (Query × Bor (List Token)) Stop) (a : Answers Derives never 64 s (λ p. (p.0, p.1.now)) read) where
+  read_all : (q_ : Query) (rest : Bor (List Token)) → read ≡ Ok (q_, rest) → Found Derives never 64 s q_ rest.now
+  read_all q_ rest e = r.read_found Derives never 64 s read q_ rest a e
 
-pub exit_all : (s : List Token) (y : Result Query Stop) (e : Stop) (query : Query) → IsErrAnd y (λ z. z ≡ e) → Stops Derives never 64 s e → Derives 64 s query → IsFrom query y
-exit_all s y e query h g_ d =
-    let p = err_from_is_err_and y h in
-    subst (λ l. IsFrom query l) (sym p.1) (p.2 ∙ halted_all s e g_ query d)
+  pub ends_found : (y : Result Query Stop) → Ends read y → IfOk y (λ query. Derives 64 s query)
+  ends_found (Ok q_) h = spells s h.0.now q_ (read_all q_ h.0 h.1) h.2
+  ends_found (Err x) h = tt
+
+  pub ends_only : (y : Result Query Stop) → Ends read y → IfOk y (λ answer. (levels : ℕ) (query : Query) → Derives levels s query → query ≡ answer)
+  ends_only (Ok q_) h = only_query s h.0.now q_ (read_all q_ h.0 h.1) h.2
+  ends_only (Err x) h = tt
+
+  pub ends_all : (y : Result Query Stop) → Ends read y → (query : Query) → Derives 64 s query → IsFrom query y
+  ends_all (Ok q_) h query d = only_query s h.0.now q_ (read_all q_ h.0 h.1) h.2 64 query d
+  ends_all (Err x) h query d = elim h as (λ _. x ≡ stop.Memory) [
+    | inl g ↦ halted_all s x (r.read_stops Derives never 64 s read x a g) query d
+    | inr g ↦ absurd (rest_is_none s g.1.now g.0 (read_all g.0 g.1 g.2) g.3 query d)
+  ]
+
+  pub ends_halts : (y : Result Query Stop) → Ends read y → IfErr y (λ x. Halts s x)
+  ends_halts (Ok q_) h = tt
+  ends_halts (Err x) h = elim h as (λ _. Halts s x) [
+    | inl g ↦ halts s x (r.read_stops Derives never 64 s read x a g)
+    | inr g ↦ subst (λ y. Halts s y) (sym g.4) (g.1.now, refl, halts_behind s g.1.now g.0 (read_all g.0 g.1 g.2) g.3)
+  ]
 
 absurd_of : (b : Bool) → b ≡ (0 == 0) → b ≡ false → ⊥
 absurd_of b e h = grind (arith, nat_tests)

@@ -7,7 +7,7 @@ ghost use Rattle.sp_parse.specs.Reads.{Answers, Takes, among, never, reads_as};
 use crate::columns::ident;
 use crate::list::added;
 use crate::stop::Stop;
-use crate::tokens::{begins, behind, expect, span_of, whole};
+use crate::tokens::{begins, behind, closed, expect, span_of, whole};
 use sp_syntax::{Ident, Kernel, Mark, QueryConsume, Span, Token, Word};
 use sqlite_items::Items;
 use std::alloc::Global;
@@ -101,9 +101,7 @@ fn consumed<'a>(alloc: Global, tokens: &'a [Token]) -> Result<(Items<Ident>, &'a
     ensures { (room : ℕ) → Answers (λ _. g.Between m.LeftRound (g.ListOf g.Name) m.RightRound) never room tokens.now (λ p. (p.0, p.1.now)) result }
 {
     let rest = expect(tokens, Mark::LeftRound)?;
-    let (names, rest) = name_list(alloc, rest)?;
-    let rest = expect(rest, Mark::RightRound)?;
-    Ok((names, rest))
+    closed(name_list(alloc, rest), Mark::RightRound)
 }
 
 // CONSUME ( ALL | NONE | "(" name { "," name } ")" )

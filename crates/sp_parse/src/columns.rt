@@ -7,7 +7,7 @@ ghost use Rattle.sp_parse.specs.Reads.{Answers, Takes, among, never, reads_as};
 
 use crate::list::added;
 use crate::stop::Stop;
-use crate::tokens::{begins, behind, expect, name, span_of, whole};
+use crate::tokens::{begins, behind, closed, expect, name, span_of, whole};
 use sp_syntax::{Ident, Kernel, Mark, QueryColumn, Token, Word};
 use sqlite_items::Items;
 use std::alloc::Global;
@@ -94,9 +94,7 @@ pub(crate) fn columns<'a>(
 {
     let rest = expect(tokens, Mark::Event)?;
     let rest = expect(rest, Mark::LeftRound)?;
-    let (list, rest) = column_list(alloc, rest)?;
-    let rest = expect(rest, Mark::RightRound)?;
-    Ok((list, rest))
+    closed(column_list(alloc, rest), Mark::RightRound)
 }
 
 // TIME name

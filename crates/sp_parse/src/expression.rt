@@ -5,7 +5,7 @@ ghost use Rattle.sp_parse.specs.Follow.{after_factor, after_term, after_sum};
 ghost use Rattle.sp_parse.specs.Reads.{Answers, Operator, Takes, never};
 
 use crate::stop::Stop;
-use crate::tokens::{begins, begins_name, expect, name, span_of};
+use crate::tokens::{begins, begins_name, closed, expect, name, span_of};
 use crate::trees::{joined, leaf, unary};
 use sp_plan::Text;
 use sp_syntax::{Kernel, Mark, Node, Token, Tree};
@@ -117,9 +117,7 @@ fn enclosed<'a>(
     ensures { Answers (λ n. g.Between Mark.LeftRound (g.Sum n) Mark.RightRound) never room tokens.now (λ p. (p.0, p.1.now)) result }
 {
     let rest = expect(tokens, Mark::LeftRound)?;
-    let (tree, rest) = sum(alloc, rest, room)?;
-    let rest = expect(rest, Mark::RightRound)?;
-    Ok((tree, rest))
+    closed(sum(alloc, rest, room), Mark::RightRound)
 }
 
 // "*"

@@ -7,7 +7,7 @@ ghost use Rattle.sp_parse.specs.Reads.{Answers, among, heads, never, reads_as};
 use crate::columns::ident;
 use crate::list::added;
 use crate::stop::Stop;
-use crate::tokens::{begins, begins_name, behind, expect, span_of};
+use crate::tokens::{begins, begins_name, behind, closed, expect, span_of};
 use sp_syntax::{Ident, Mark, QueryElement, Token};
 use sqlite_items::Items;
 use std::alloc::Global;
@@ -44,9 +44,7 @@ fn set<'a>(alloc: Global, tokens: &'a [Token]) -> Result<(Items<Ident>, &'a [Tok
 {
     let rest = expect(tokens, Mark::Set)?;
     let rest = expect(rest, Mark::LeftRound)?;
-    let (list, rest) = names(alloc, rest)?;
-    let rest = expect(rest, Mark::RightRound)?;
-    Ok((list, rest))
+    closed(names(alloc, rest), Mark::RightRound)
 }
 
 // name [ "+" ] | SET "(" name name { name } ")"
@@ -90,7 +88,5 @@ pub(crate) fn elements<'a>(
 {
     let rest = expect(tokens, Mark::Pattern)?;
     let rest = expect(rest, Mark::LeftRound)?;
-    let (list, rest) = element_row(alloc, rest)?;
-    let rest = expect(rest, Mark::RightRound)?;
-    Ok((list, rest))
+    closed(element_row(alloc, rest), Mark::RightRound)
 }

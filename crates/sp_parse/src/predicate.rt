@@ -5,7 +5,7 @@ ghost use Rattle.sp_parse.specs.Reads.{Answers, Operator, Takes, never};
 
 use crate::expression::sum;
 use crate::stop::Stop;
-use crate::tokens::{begins, expect, span_of};
+use crate::tokens::{begins, closed, expect, span_of};
 use crate::trees::{joined, unary};
 use sp_plan::Compare;
 use sp_syntax::{Kernel, Mark, Node, Token, Tree, Word};
@@ -75,9 +75,7 @@ fn squared<'a>(alloc: Global, tokens: &'a [Token], room: usize) -> Result<(Tree,
     ensures { Answers (λ n. g.Between Mark.LeftSquare (g.Pred n) Mark.RightSquare) never room tokens.now (λ p. (p.0, p.1.now)) result }
 {
     let rest = expect(tokens, Mark::LeftSquare)?;
-    let (tree, rest) = pred(alloc, rest, room)?;
-    let rest = expect(rest, Mark::RightSquare)?;
-    Ok((tree, rest))
+    closed(pred(alloc, rest, room), Mark::RightSquare)
 }
 
 // AND

@@ -7,7 +7,7 @@ ghost use Rattle.sp_syntax.specs.Phrase.{Optional};
 ghost use Rattle.sp_parse.specs.Clauses as clauses;
 ghost use Rattle.sp_parse.specs.Follow.{after_definitions};
 ghost use Rattle.sp_parse.specs.Parses.{Halts, IsFrom};
-ghost use Rattle.sp_parse.specs.Reads.{Answers, among, never, reads_as};
+ghost use Rattle.sp_parse.specs.Reads.{Answers, Ends, among, never, reads_as};
 
 use crate::clauses::{consume, policy, within};
 use crate::columns::{columns, timed};
@@ -20,6 +20,9 @@ use sp_syntax::{
 };
 use sqlite_items::Items;
 use std::alloc::Global;
+
+// How many levels of nesting a query may have.
+const MOST_LEVELS: usize = 64;
 
 // [ TIME name ]
 fn time<'a>(alloc: Global, tokens: &'a [Token]) -> Result<(Option<Ident>, &'a [Token]), Stop>
@@ -138,6 +141,17 @@ pub(crate) fn query<'a>(
     Ok((query, rest))
 }
 
+// What was read, where no token is behind it.
+fn ended<'a, T: Drop>(read: Result<(T, &'a [Token]), Stop>) -> Result<T, Stop>
+    ensures { Ends read.entry result }
+{
+    let (item, rest) = read?;
+    if !rest.is_empty() {
+        return Err(Stop::Unexpected(rest.len()));
+    }
+    Ok(item)
+}
+
 // The query that the tokens are.
 pub(crate) fn parse_tokens(alloc: Global, tokens: &[Token]) -> Result<Query, Stop>
     ensures found { IfOk result (λ query. g.Derives 64 tokens.now query) }
@@ -145,9 +159,5 @@ pub(crate) fn parse_tokens(alloc: Global, tokens: &[Token]) -> Result<Query, Sto
     ensures all { (query : Query) → g.Derives 64 tokens.now query → IsFrom query result }
     ensures halts { IfErr result (λ stop. Halts tokens.now stop) }
 {
-    let (found, rest) = query(alloc, tokens, 64)?;
-    if !rest.is_empty() {
-        return Err(Stop::Unexpected(rest.len()));
-    }
-    Ok(found)
+    ended(query(alloc, tokens, MOST_LEVELS))
 }

@@ -15,14 +15,8 @@ use Rattle.sp_parse.proofs.expression.+factor.Goals as goal
 pub enclosed-returns-in_err-rest : goal.enclosed-returns-in_err-rest
 enclosed-returns-in_err-rest t c = exit _ _ _ _ _ _ _ c.from_residual.ensures.1 (o.between_first_stops m.LeftRound Sum m.RightRound after_sum f.sum_some f.round_out c.args.room _ _ c.in_err-rest.ensures)
 
-pub enclosed-returns-in_err-tree : goal.enclosed-returns-in_err-tree
-enclosed-returns-in_err-tree t c = exit _ _ _ _ _ _ _ c.from_residual-in_err-tree.ensures.1 (o.between_stops m.LeftRound Sum m.RightRound after_sum f.sum_some f.round_out c.args.room _ _ _ c.in_ok-rest.ensures c.in_err-tree.ensures)
-
-pub enclosed-returns-in_err-rest-2 : goal.enclosed-returns-in_err-rest-2
-enclosed-returns-in_err-rest-2 t c = exit _ _ _ _ _ _ _ c.from_residual-in_err-rest-2.ensures.1 (o.between_last_stops m.LeftRound Sum m.RightRound after_sum f.sum_some f.round_out c.args.room _ _ _ _ _ c.in_ok-rest.ensures c.in_ok-tree.ensures c.in_err-rest-2.ensures)
-
 pub enclosed-returns : goal.enclosed-returns
-enclosed-returns t c = o.between_found m.LeftRound Sum m.RightRound after_sum f.sum_some f.round_out c.args.room _ _ _ _ _ c.in_ok-rest.ensures c.in_ok-tree.ensures c.in_ok-rest-2.ensures
+enclosed-returns t c = o.between_closes m.LeftRound Sum m.RightRound after_sum f.sum_some f.round_out c.args.room _ _ _ _ c.in_ok-rest.ensures c.sum.ensures c.closed.ensures
 
 pub factor-returns-then-room-eq0 : goal.factor-returns-then-room-eq0
 factor-returns-then-room-eq0 t c = f.full_minus _ _ c.if-room-eq0.true (sym c.begins.ensures ∙ c.if-begins.true)

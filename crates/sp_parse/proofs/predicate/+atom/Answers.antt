@@ -15,14 +15,8 @@ use Rattle.sp_parse.proofs.predicate.+atom.Goals as goal
 pub squared-returns-in_err-rest : goal.squared-returns-in_err-rest
 squared-returns-in_err-rest t c = exit _ _ _ _ _ _ _ c.from_residual.ensures.1 (o.between_first_stops m.LeftSquare Pred m.RightSquare after_pred f.pred_some f.square_out c.args.room _ _ c.in_err-rest.ensures)
 
-pub squared-returns-in_err-tree : goal.squared-returns-in_err-tree
-squared-returns-in_err-tree t c = exit _ _ _ _ _ _ _ c.from_residual-in_err-tree.ensures.1 (o.between_stops m.LeftSquare Pred m.RightSquare after_pred f.pred_some f.square_out c.args.room _ _ _ c.in_ok-rest.ensures c.in_err-tree.ensures)
-
-pub squared-returns-in_err-rest-2 : goal.squared-returns-in_err-rest-2
-squared-returns-in_err-rest-2 t c = exit _ _ _ _ _ _ _ c.from_residual-in_err-rest-2.ensures.1 (o.between_last_stops m.LeftSquare Pred m.RightSquare after_pred f.pred_some f.square_out c.args.room _ _ _ _ _ c.in_ok-rest.ensures c.in_ok-tree.ensures c.in_err-rest-2.ensures)
-
 pub squared-returns : goal.squared-returns
-squared-returns t c = o.between_found m.LeftSquare Pred m.RightSquare after_pred f.pred_some f.square_out c.args.room _ _ _ _ _ c.in_ok-rest.ensures c.in_ok-tree.ensures c.in_ok-rest-2.ensures
+squared-returns t c = o.between_closes m.LeftSquare Pred m.RightSquare after_pred f.pred_some f.square_out c.args.room _ _ _ _ c.in_ok-rest.ensures c.pred.ensures c.closed.ensures
 
 pub atom-returns-then-room-eq0 : goal.atom-returns-then-room-eq0
 atom-returns-then-room-eq0 t c = f.full_not _ _ c.if-room-eq0.true (sym c.begins.ensures ∙ c.if-begins.true)
