@@ -14,3 +14,4 @@ mod Predicates
 pub mod Naming
 pub mod Opened
 pub mod Staged
+pub mod Sums

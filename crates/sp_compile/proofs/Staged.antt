@@ -1,8 +1,9 @@
 -- The checks of a whole query, one part after the other, and the plan of all parts.
-use Rattle.std.proofs.Common.{◌≡◌, ℕ, suc, inl, inr, ◌≤◌, List, [], ◌∷◌, length, map, Option, Some, None, Result, Ok, Err, refl, sym, ◌∙◌, ap, subst}
+use Rattle.std.proofs.Common.{◌≡◌, ℕ, suc, inl, inr, ◌≤◌, List, [], ◌∷◌, length, Option, Some, None, Result, Ok, Err, IsErrAnd, refl, sym, ◌∙◌, ap, subst}
 use Rattle.std.specs.Prelude.{IfOk, IfErr}
 use Rattle.std.specs.List.{last_or, range_with_len}
 use Rattle.std.proofs.lemmas.List.{length-map}
+use Rattle.std.proofs.lemmas.Result.{err_from_is_err_and}
 use Rattle.sp_plan.specs.declared.plan.Name.{Name}
 use Rattle.sp_plan.specs.declared.plan.Opening.{Opening}
 use Rattle.sp_plan.specs.declared.plan.Plan.{Plan}
@@ -17,8 +18,8 @@ use Rattle.sp_compile.specs.Gathers.{Gathers}
 use Rattle.sp_compile.specs.Naming.{AreNames, Misdefines}
 use Rattle.sp_compile.specs.Scopes.{pattern_names}
 use Rattle.sp_compile.specs.Sorts.{first}
-use Rattle.sp_compile.specs.Stages.{NamesPass, OpeningPasses, Misopens}
-use Rattle.sp_compile.specs.Stands.{plan_column, time_place, plan_elements, plan_select, plan_length, all_trees, StandForNames, Stands}
+use Rattle.sp_compile.specs.Stages.{NamesPass, Misopens, EndPasses, Misends, plan_of}
+use Rattle.sp_compile.specs.Stands.{plan_column, all_trees, StandForNames, Stands}
 use Rattle.sp_compile.specs.Told.{IsPlanOf, Refuses, IsFound}
 use Rattle.sp_compile.proofs.Limits.{neither, is_named}
 use Rattle.sp_compile.proofs.OneFault.{one_fault}
@@ -30,6 +31,17 @@ use Rattle.sp_compile.proofs.WindowLimits.{length_keeps, fine_length}
 refuses : (query : Query) (fault : CompileFault) → Checks query (Some fault) → Refuses query fault
 refuses query f.Memory d = tt
 refuses query _ d = d
+
+-- the exit of a `?`, where something is said of the fault
+pub exit : {Y : Type 0} (P : CompileFault → Type 0) (y : Result Y CompileFault) (fault : CompileFault) → IsErrAnd y (λ z. z ≡ fault) → P fault → IfErr y P
+exit P y fault h p =
+    let e = err_from_is_err_and y h in
+    subst (λ r. IfErr r P) (sym e.1) (subst P (sym e.2) p)
+
+-- what is said of a fault says more
+pub err_says : {Y : Type 0} (P Q : CompileFault → Type 0) (y : Result Y CompileFault) → ((fault : CompileFault) → P fault → Q fault) → IfErr y P → IfErr y Q
+err_says P Q (Ok a) f h = tt
+err_says P Q (Err fault) f h = f fault h
 
 -- ---- columns, time and elements
 
@@ -66,20 +78,30 @@ module _ (query : Query) (listed : List (Ident × ℕ)) (named : NamesPass query
   defines_refuse fault d = after_names (Some fault) (stops fault d)
 
   module _ (defines : Defines query [] query.defines None) where
-    pub length_refuse : (fault : CompileFault) → length_fault query ≡ Some fault → Refuses query fault
-    length_refuse fault e = refuses query fault (after_names (Some fault) (goes (Some fault) defines (stops fault (sym e))))
+    pub ending_refuses : (fault : CompileFault) → Misends query fault → Refuses query fault
+    ending_refuses f.Memory d = tt
+    ending_refuses fault d = after_names (Some fault) (goes (Some fault) defines d)
 
-    module _ (fits : length_fault query ≡ None) where
-      pub opening_refuse : (fault : CompileFault) → Misopens query fault → Refuses query fault
-      opening_refuse f.Memory d = tt
-      opening_refuse fault d = after_names (Some fault) (goes (Some fault) defines (goes (Some fault) (sym fits) (stops fault d)))
+    all_pass : length_fault query ≡ None → OpeningFault query query.opening None → consume_fault query query.consume ≡ None → Checks query None
+    all_pass fits opens e = after_names None (goes None defines (goes None (sym fits) (goes None opens (sym e))))
 
-      module _ (opens : OpeningFault query query.opening None) where
-        pub consume_refuse : (fault : CompileFault) → consume_fault query query.consume ≡ Some fault → Refuses query fault
-        consume_refuse fault e = refuses query fault (after_names (Some fault) (goes (Some fault) defines (goes (Some fault) (sym fits) (goes (Some fault) opens (sym e)))))
+-- ---- behind the definitions
 
-        all_pass : consume_fault query query.consume ≡ None → Checks query None
-        all_pass e = after_names None (goes None defines (goes None (sym fits) (goes None opens (sym e))))
+module _ (query : Query) where
+  ending_found : (fault : CompileFault) → Then (Finds (length_fault query)) (Then (OpeningFault query query.opening) (Finds (consume_fault query query.consume))) (Some fault) → Misends query fault
+  ending_found f.Memory d = tt
+  ending_found _ d = d
+
+  pub length_ends : (fault : CompileFault) → length_fault query ≡ Some fault → Misends query fault
+  length_ends fault e = ending_found fault (stops fault (sym e))
+
+  module _ (fits : length_fault query ≡ None) where
+    pub opening_ends : (fault : CompileFault) → Misopens query fault → Misends query fault
+    opening_ends f.Memory d = tt
+    opening_ends fault d = goes (Some fault) (sym fits) (stops fault d)
+
+    pub consume_ends : OpeningFault query query.opening None → (fault : CompileFault) → consume_fault query query.consume ≡ Some fault → Misends query fault
+    consume_ends opens fault e = ending_found fault (goes (Some fault) (sym fits) (goes (Some fault) opens (sym e)))
 
 -- ---- the plan
 
@@ -90,22 +112,9 @@ as_many query texts [] (p ∷ planned) s = absurd s
 as_many query texts (name ∷ names) [] s = absurd s
 as_many query texts (name ∷ names) (p ∷ planned) s = ap (λ (n : ℕ). suc n) (as_many query texts names planned s.1)
 
-module _ (query : Query) (listed : List (Ident × ℕ)) (texts : List (List ℕ)) (planned : List Name) (opening : Opening) (named : NamesPass query listed) (names : AreNames query texts planned)
-    (fits : length_fault query ≡ None) (opens : OpeningPasses query texts opening) where
-  -- the plan of these parts
-  abbrev pub plan_of : Plan
-  plan_of = record {
-    schema = record { columns = map plan_column query.columns; time = time_place query.columns query.time };
-    names = planned;
-    elements = plan_elements 0 query.elements;
-    select = plan_select query.select;
-    length = plan_length query.length.0 query.length.1;
-    opening = opening;
-    texts = texts;
-  }
-
-  -- it stands for the query
-  plan_stands : Gathers (all_trees query) [] texts → Stands plan_of query
+module _ (query : Query) (listed : List (Ident × ℕ)) (texts : List (List ℕ)) (planned : List Name) (opening : Opening) (named : NamesPass query listed) (names : AreNames query texts planned) (ends : EndPasses query texts opening) where
+  -- the plan stands for the query
+  plan_stands : Gathers (all_trees query) [] texts → Stands (plan_of query planned opening texts) query
   plan_stands gathers = record {
     columns = refl;
     time = refl;
@@ -116,11 +125,11 @@ module _ (query : Query) (listed : List (Ident × ℕ)) (texts : List (List ℕ)
     elements = refl;
     select = refl;
     length = refl;
-    opening = opens.stands;
+    opening = ends.opens.stands;
   }
 
   -- and keeps the limits
-  plan_compiled : IsCompiled plan_of
+  plan_compiled : IsCompiled (plan_of query planned opening texts)
   plan_compiled =
       let known = names_known query listed named in
       let many : length planned ≡ length (pattern_names query) = as_many query texts (pattern_names query) planned names.stand in
@@ -130,17 +139,17 @@ module _ (query : Query) (listed : List (Ident × ℕ)) (texts : List (List ℕ)
         names = subst (λ (n : ℕ). n ≤ 32) (sym many) known.names;
         elements = numbers_in_order query.elements 0 ∙ ap (λ (n : ℕ). range_with_len 0 n) (sym many);
         preds = names.within;
-        opening = opens.within;
+        opening = ends.opens.within;
         windowed = record {
-          length_is = length_keeps query.time query.length.0 query.length.1 (fine_length query fits);
-          opening_is = opens.opens;
+          length_is = length_keeps query.time query.length.0 query.length.1 (fine_length query ends.fits);
+          opening_is = ends.opens.opens;
         };
       }
 
   -- it is the query's
-  pub is_plan : (q : Plan) → Gathers (all_trees query) [] texts → consume_fault query query.consume ≡ None → q ≡ plan_of → IsPlanOf q query
-  is_plan q gathers consumed is = subst (λ p. IsPlanOf p query) (sym is) (record {
-    checks = all_pass query listed named names.checks fits opens.checks consumed;
+  pub is_plan : (q : Plan) → Gathers (all_trees query) [] texts → q ≡ plan_of query planned opening texts → IsPlanOf q query
+  is_plan q gathers is = subst (λ p. IsPlanOf p query) (sym is) (record {
+    checks = all_pass query listed named names.checks ends.fits ends.opens.checks ends.consumed;
     stands = plan_stands gathers;
     compiled = plan_compiled;
   })

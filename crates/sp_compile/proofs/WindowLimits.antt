@@ -1,5 +1,5 @@
 -- The numbers of windows keep their limits.
-use Rattle.std.proofs.Common.{◌≡◌, ℕ, ◌+◌, ◌-◌, ◌/◌, ◌%◌, ◌<◌, ◌≤◌, min, Bool, true, false, Some, None, refl, arith}
+use Rattle.std.proofs.Common.{◌≡◌, ℕ, ◌+◌, ◌-◌, ◌/◌, ◌%◌, ◌<◌, ◌≤◌, min, Bool, true, false, Some, None, refl, subst, arith}
 use Rattle.std.specs.Prelude.{Option, nat_le, is_some, if◌then◌else◌}
 use Rattle.std.proofs.lemmas.Int.{ints}
 use Rattle.std.proofs.lemmas.Nat.{div_below, le-div}
@@ -25,11 +25,11 @@ rounded_up size step some =
     omega arith
 
 -- what is 1 up to a limit
-within_limits : (number limit : ℕ) → is_within number limit ≡ true → (0 < number) × (number ≤ limit)
+pub within_limits : (number limit : ℕ) → is_within number limit ≡ true → (0 < number) × (number ≤ limit)
 within_limits number limit is = (grind (arith, nat_tests), grind (arith, nat_tests))
 
 -- a check that finds nothing
-true_where : (fine : Bool) (fault : CompileFault) → (if fine then None else Some fault) ≡ None → fine ≡ true
+pub true_where : (fine : Bool) (fault : CompileFault) → (if fine then None else Some fault) ≡ None → fine ≡ true
 true_where true fault none = refl
 true_where false fault none = absurd (cc none)
 
@@ -60,3 +60,16 @@ step_keeps size _ step _ fine =
     let both = and_parts (is_within step 1048576) (nat_le (windows_per_event size step) 64) fine in
     let limits = within_limits step 1048576 both.0 in
     (limits.0, limits.1, few size step both.1)
+
+-- how great such a step is, of time and of events
+timed : (size : ℕ) (of : Word) (step : ℕ) → step_is_fine size of step w.Time ≡ true → step ≤ 1000000000000000
+timed size w.Time step fine = (within_limits step 1000000000000000 ((and_parts (is_within step 1000000000000000) (nat_le (windows_per_event size step) 64) fine).0)).1
+timed size _ step fine = absurd (cc fine)
+
+pub step_of_time : (size : ℕ) (of : Word) (step : ℕ) (unit : Word) → step_is_fine size of step unit ≡ true → unit ≡ w.Time → step ≤ 1000000000000000
+step_of_time size of step unit fine is = timed size of step (subst (λ u. step_is_fine size of step u ≡ true) is fine)
+
+pub step_of_events : (size : ℕ) (of : Word) (step : ℕ) (unit : Word) → step_is_fine size of step unit ≡ true → (unit ≡ w.Time → ⊥) → is_within step 1048576 ≡ true
+step_of_events size of step w.Time fine out = absurd (out refl)
+step_of_events size w.Time step _ fine out = fine
+step_of_events size _ step _ fine out = (and_parts (is_within step 1048576) (nat_le (windows_per_event size step) 64) fine).0

@@ -1,5 +1,5 @@
 -- What the compiler's functions answer of the parts of an expression or a predicate.
-use Rattle.std.specs.Prelude.{◌≡◌, ◌≢◌, ℕ, ℤ, ◌+◌, ◌*◌, ◌^◌, ◌<◌, ◌≤◌, ◌+ℤ◌, ◌-ℤ◌, ◌*ℤ◌, pos, Bool, ◌&&◌, ◌||◌, not, List, Option, Some, None, Result, Ok, Err, slice_get, nat_le, if◌then◌else◌}
+use Rattle.std.specs.Prelude.{◌≡◌, ◌≢◌, ℕ, ℤ, ◌+◌, ◌-◌, ◌*◌, max, ◌^◌, ◌<◌, ◌≤◌, ◌+ℤ◌, ◌-ℤ◌, ◌*ℤ◌, pos, Bool, ◌&&◌, ◌||◌, not, List, Option, Some, None, Result, Ok, Err, slice_get, nat_le, if◌then◌else◌}
 use Rattle.sp_lex.specs.declared.token.Span.{Span}
 use Rattle.sp_plan.specs.declared.event.Event.{Event}
 use Rattle.sp_plan.specs.declared.plan.Expr.{Expr}
@@ -28,6 +28,16 @@ within_limit n = if nat_le n greatest then Some n else None
 abbrev pub limit_of_sum : Option ℕ → Option ℕ → Option ℕ
 limit_of_sum (Some bound) (Some more) = within_limit (bound + more)
 limit_of_sum _ _ = None
+
+-- a number of at most 36 decimals, or a text
+abbrev pub IsScaled : Sort → Type 0
+IsScaled s.Text = Unit {0}
+IsScaled (s.Number scale bound) = scale ≤ 36
+
+-- how many decimals more two numbers get for a sum
+abbrev pub raises : Sort → Sort → ℕ × ℕ
+raises (s.Number scale bound) (s.Number other more) = (max scale other - scale, max scale other - other)
+raises _ _ = (0, 0)
 
 -- An expression that has this sort, and stays within bounds.
 pub record IsSound (p : Expr × Sort) : Type 0 where
@@ -59,6 +69,11 @@ pub record IsRaised (expr : Expr) (by : ℕ) (raised : Expr) : Type 0 where
   pub within : StaysWithin raised
   pub bounded : bound raised ≡ bound expr * 10 ^ by
   pub raises : (event : Event) (bound : BoundEvents) → value raised event bound ≡ value expr event bound *ℤ pos (10 ^ by)
+
+-- a number with more decimals, or want of memory
+abbrev pub RaisedAnswer : Expr → ℕ → Result Expr CompileFault → Type 0
+RaisedAnswer expr by (Ok raised) = IsRaised expr by raised
+RaisedAnswer expr by (Err fault) = fault ≡ f.Memory
 
 -- a number of this scale and this bound
 abbrev pub IsNumber : ℕ → ℕ → Sort → Type 0

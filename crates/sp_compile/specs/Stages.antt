@@ -1,6 +1,9 @@
 -- What stands after each part of the compiler.
-use Rattle.std.specs.Prelude.{◌≡◌, ℕ, List, [], Some, None}
+use Rattle.std.specs.Prelude.{◌≡◌, ℕ, List, [], map, Some, None}
+use Rattle.sp_plan.specs.declared.plan.Name.{Name}
 use Rattle.sp_plan.specs.declared.plan.Opening.{Opening}
+use Rattle.sp_plan.specs.declared.plan.Plan.{Plan}
+use Rattle.sp_plan.specs.declared.plan.Schema.{Schema}
 use Rattle.sp_plan.specs.Compiled.{OpeningWithin}
 use Rattle.sp_plan.specs.Windows.{IsOpening}
 use Rattle.sp_syntax.specs.declared.query.Ident.{Ident}
@@ -8,8 +11,8 @@ use Rattle.sp_syntax.specs.declared.query.Query.{Query}
 use Rattle.sp_compile.specs.declared.fault.CompileFault.{CompileFault}
 use Rattle.sp_compile.specs.declared.fault.CompileFault.TheVariants as f
 use Rattle.sp_compile.specs.Scopes.{pattern_names}
-use Rattle.sp_compile.specs.Checks.{columns_fault, time_fault, elements_fault, OpeningFault}
-use Rattle.sp_compile.specs.Stands.{plan_length, StandsForOpening}
+use Rattle.sp_compile.specs.Checks.{columns_fault, time_fault, elements_fault, length_fault, consume_fault, OpeningFault, Then, Finds}
+use Rattle.sp_compile.specs.Stands.{plan_column, time_place, plan_elements, plan_select, plan_length, StandsForOpening}
 
 -- The columns, the time and the elements have no fault, and these are the names of the pattern.
 pub record NamesPass (query : Query) (listed : List (Ident × ℕ)) : Type 0 where
@@ -29,3 +32,30 @@ pub record OpeningPasses (query : Query) (texts : List (List ℕ)) (opening : Op
 abbrev pub Misopens : Query → CompileFault → Type 0
 Misopens query f.Memory = Unit {0}
 Misopens query fault = OpeningFault query query.opening (Some fault)
+
+-- The window's length, the opening and the consumed names have no fault, and this opening stands for the query's.
+pub record EndPasses (query : Query) (texts : List (List ℕ)) (opening : Opening) : Type 0 where
+  pub fits : length_fault query ≡ None
+  pub opens : OpeningPasses query texts opening
+  pub consumed : consume_fault query query.consume ≡ None
+
+-- what a fault says of the window's length, the opening and the consumed names
+abbrev pub Misends : Query → CompileFault → Type 0
+Misends query f.Memory = Unit {0}
+Misends query fault = Then (Finds (length_fault query)) (Then (OpeningFault query query.opening) (Finds (consume_fault query query.consume))) (Some fault)
+
+-- the columns of the plan, and which of them is the time's
+abbrev pub plan_schema : Query → Schema
+plan_schema query = record { columns = map plan_column query.columns; time = time_place query.columns query.time }
+
+-- the plan of a query with these names, this opening and these texts
+abbrev pub plan_of : Query → List Name → Opening → List (List ℕ) → Plan
+plan_of query names opening texts = record {
+  schema = plan_schema query;
+  names = names;
+  elements = plan_elements 0 query.elements;
+  select = plan_select query.select;
+  length = plan_length query.length.0 query.length.1;
+  opening = opening;
+  texts = texts;
+}

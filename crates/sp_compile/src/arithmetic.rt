@@ -1,16 +1,17 @@
 // Operators of expressions. Numbers are raised to one scale before they are added or compared.
-ghost use Rattle.std.specs.Prelude.{◌≡◌, ◌≤◌, ◌*◌, ◌^◌, true, IfOk};
+ghost use Rattle.std.specs.Prelude.{◌≡◌, ◌≤◌, ◌*◌, ◌^◌, true, Ok, Err, IfOk, MatchResult};
 ghost use Rattle.sp_plan.specs.Bounds.{bound, greatest, StaysWithin};
 ghost use Rattle.sp_syntax.specs.declared.tree.Node.TheVariants as n;
 ghost use Rattle.sp_compile.specs.Sorts.{is_arithmetic, operator_sort, negative_sort, product_sort, sum_sort};
 ghost use Rattle.sp_compile.specs.Meaning.{combined, negative};
-ghost use Rattle.sp_compile.specs.Parts.{within_limit, limit_of_sum, IsSound, comes_to, MadeAnswer, IsRaised, AlignedAnswer};
+ghost use Rattle.sp_compile.specs.Parts.{within_limit, limit_of_sum, raises, IsScaled, IsSound, comes_to, MadeAnswer, RaisedAnswer, AlignedAnswer};
 
-use crate::boxed::boxed;
+use crate::boxed::{boxed, boxed_pair};
+use crate::expression::both;
 use crate::{CompileFault, Sort};
 use sp_plan::Expr;
 use sp_syntax::{Node, Span};
-use std::alloc::{AllocError, Global};
+use std::alloc::Global;
 
 // The greatest magnitude that a value may have.
 const GREATEST: u128 = 1_000_000_000_000_000_000_000_000_000_000_000_000;
@@ -41,11 +42,11 @@ pub(crate) fn raised_bound(bound: u128, by: u8) -> Option<u128>
 }
 
 // The same number with more decimals.
-pub(crate) fn raise(alloc: Global, expr: Expr, by: u8) -> Result<Expr, AllocError>
+pub(crate) fn raise(alloc: Global, expr: Expr, by: u8) -> Result<Expr, CompileFault>
     requires by { by ≤ 36 }
     requires within { StaysWithin expr }
     requires bounded { bound expr * 10 ^ by ≤ greatest }
-    ensures { IfOk result (λ raised. IsRaised expr by raised) }
+    ensures { RaisedAnswer expr by result }
 {
     if by == 0 {
         return Ok(expr);
@@ -73,6 +74,29 @@ pub(crate) fn minus(
     }
 }
 
+// What the product of two numbers is.
+fn sort_of_product(span: Span, left: Sort, right: Sort) -> Result<Sort, CompileFault>
+    requires left { IsScaled left }
+    requires right { IsScaled right }
+    ensures { result ≡ product_sort span left right }
+{
+    let (
+        Sort::Number { scale, bound },
+        Sort::Number {
+            scale: other,
+            bound: more,
+        },
+    ) = (left, right)
+    else {
+        return Err(CompileFault::WrongKind(span));
+    };
+    let scale = scale + other;
+    match product_bound(bound, more) {
+        Some(bound) if scale <= MOST_DECIMALS => Ok(Sort::Number { scale, bound }),
+        _ => Err(CompileFault::TooWide(span)),
+    }
+}
+
 // The product of two numbers.
 fn product(
     alloc: Global,
@@ -86,25 +110,9 @@ fn product(
         (λ event bound. combined n.Mul (comes_to left event bound) (comes_to right event bound))
         result }
 {
-    let (
-        Sort::Number { scale, bound },
-        Sort::Number {
-            scale: other,
-            bound: more,
-        },
-    ) = (left.1, right.1)
-    else {
-        return Err(CompileFault::WrongKind(span));
-    };
-    let scale = scale + other;
-    let Some(bound) = product_bound(bound, more) else {
-        return Err(CompileFault::TooWide(span));
-    };
-    if scale > MOST_DECIMALS {
-        return Err(CompileFault::TooWide(span));
-    }
-    let expr = Expr::Mul(boxed(alloc, left.0)?, boxed(alloc, right.0)?);
-    Ok((expr, Sort::Number { scale, bound }))
+    let sort = sort_of_product(span, left.1, right.1)?;
+    let (one, other) = boxed_pair(alloc, left.0, right.0)?;
+    Ok((Expr::Mul(one, other), sort))
 }
 
 // The bound of a sum, if no value may be greater.
@@ -112,6 +120,43 @@ fn sum_bound(bound: Option<u128>, more: Option<u128>) -> Option<u128>
     ensures { result ≡ limit_of_sum bound more }
 {
     limited(bound?.checked_add(more?)?)
+}
+
+// How many decimals more the sides of a sum get, and what the sum is.
+#[derive(Clone, Copy, Drop)]
+struct Alignment {
+    left: u8,
+    right: u8,
+    sort: Sort,
+}
+
+// How two numbers come to the greater of their scales.
+fn alignment_of(span: Span, left: Sort, right: Sort) -> Result<Alignment, CompileFault>
+    requires left { IsScaled left }
+    requires right { IsScaled right }
+    ensures sort { MatchResult result (λ a. sum_sort span left right ≡ Ok a.sort) (λ fault. sum_sort span left right ≡ Err fault) }
+    ensures raises { IfOk result (λ a. (a.left, a.right) ≡ raises left right) }
+{
+    let (
+        Sort::Number { scale, bound },
+        Sort::Number {
+            scale: other,
+            bound: more,
+        },
+    ) = (left, right)
+    else {
+        return Err(CompileFault::WrongKind(span));
+    };
+    let to = scale.max(other);
+    let (left, right) = (to - scale, to - other);
+    match sum_bound(raised_bound(bound, left), raised_bound(more, right)) {
+        Some(bound) => Ok(Alignment {
+            left,
+            right,
+            sort: Sort::Number { scale: to, bound },
+        }),
+        None => Err(CompileFault::TooWide(span)),
+    }
 }
 
 // Two numbers at the greater of their scales, with what their sum is.
@@ -125,26 +170,11 @@ fn aligned(
     requires right { IsSound right }
     ensures { AlignedAnswer span left right result }
 {
-    let (
-        Sort::Number { scale, bound },
-        Sort::Number {
-            scale: other,
-            bound: more,
-        },
-    ) = (left.1, right.1)
-    else {
-        return Err(CompileFault::WrongKind(span));
-    };
-    let to = scale.max(other);
-    let Some(bound) = sum_bound(
-        raised_bound(bound, to - scale),
-        raised_bound(more, to - other),
-    ) else {
-        return Err(CompileFault::TooWide(span));
-    };
-    let one = raise(alloc, left.0, to - scale)?;
-    let two = raise(alloc, right.0, to - other)?;
-    Ok((one, two, Sort::Number { scale: to, bound }))
+    let alignment = alignment_of(span, left.1, right.1)?;
+    let one = raise(alloc, left.0, alignment.left);
+    let two = raise(alloc, right.0, alignment.right);
+    let (one, two) = both(one, two)?;
+    Ok((one, two, alignment.sort))
 }
 
 // The sum of two numbers.
@@ -161,7 +191,8 @@ fn sum(
         result }
 {
     let (one, other, sort) = aligned(alloc, span, left, right)?;
-    Ok((Expr::Add(boxed(alloc, one)?, boxed(alloc, other)?), sort))
+    let (one, other) = boxed_pair(alloc, one, other)?;
+    Ok((Expr::Add(one, other), sort))
 }
 
 // The difference of two numbers.
@@ -178,7 +209,8 @@ fn difference(
         result }
 {
     let (one, other, sort) = aligned(alloc, span, left, right)?;
-    Ok((Expr::Sub(boxed(alloc, one)?, boxed(alloc, other)?), sort))
+    let (one, other) = boxed_pair(alloc, one, other)?;
+    Ok((Expr::Sub(one, other), sort))
 }
 
 // A sum, a difference or a product.

@@ -9,3 +9,16 @@ pub(crate) fn boxed<T: Drop>(alloc: Global, value: T) -> Result<Box<T>, AllocErr
 {
     Ok(Box::new(alloc, value)?)
 }
+
+// These values in boxes.
+pub(crate) fn boxed_pair<T: Drop>(
+    alloc: Global,
+    left: T,
+    right: T,
+) -> Result<(Box<T>, Box<T>), AllocError>
+    ensures { IfOk result (λ p. (p.0.value ≡ left) × (p.1.value ≡ right)) }
+{
+    let left = boxed(alloc, left)?;
+    let right = boxed(alloc, right)?;
+    Ok((left, right))
+}

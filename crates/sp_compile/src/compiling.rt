@@ -1,11 +1,10 @@
 // A whole query to its plan.
-ghost use Rattle.std.specs.Prelude.{◌≡◌, map, None, IfOk, IfErr, Option};
-ghost use Rattle.sp_plan.specs.declared.plan.Schema.{Schema};
+ghost use Rattle.std.specs.Prelude.{◌≡◌, None, IfOk, IfErr, Option};
 ghost use Rattle.sp_compile.specs.declared.fault.CompileFault.{CompileFault};
 ghost use Rattle.sp_compile.specs.Answers.{IsNamed};
 ghost use Rattle.sp_compile.specs.Checks as checks;
 ghost use Rattle.sp_compile.specs.Checks.{Checks};
-ghost use Rattle.sp_compile.specs.Stages.{NamesPass};
+ghost use Rattle.sp_compile.specs.Stages.{NamesPass, EndPasses, Misends, plan_of, plan_schema};
 ghost use Rattle.sp_compile.specs.Stands as stands;
 ghost use Rattle.sp_compile.specs.Told.{IsPlanOf, Refuses, IsFound};
 
@@ -14,13 +13,13 @@ use crate::columns::{columns_fault, schema, time_fault};
 use crate::consume::consume_fault;
 use crate::definitions::definitions;
 use crate::elements::{Named, last_fault, names_fault, pattern_names, plan_elements};
-use crate::fault::pass;
+use crate::fault::{checked, pass};
 use crate::opening::opening;
 use crate::texts::texts;
 use crate::window::{length_fault, plan_length};
-use sp_plan::{Listed, Memory, Name, Opening, Plan, Select, Text};
+use sp_plan::{Element, Listed, Name, Opening, Plan, Schema, Select, Text};
 use sp_syntax::{Query, Word};
-use std::alloc::Global;
+use std::alloc::{AllocError, Global};
 
 // The names of the pattern, where columns and elements have no fault.
 fn named(alloc: Global, query: &Query) -> Result<Vec<Named>, CompileFault>
@@ -46,35 +45,54 @@ fn plan_select(select: Word) -> Select
     }
 }
 
-// The plan of these parts.
-fn joined(
-    alloc: Global,
-    query: &Query,
-    names: Listed<Name>,
-    opening: Opening,
-    texts: Vec<Text>,
-) -> Result<Plan, Memory>
-    requires named { IsNamed query.now }
-    requires length { checks.length_fault query.now ≡ None }
-    ensures schema { IfOk result (λ plan. plan.schema ≡ record { columns = map stands.plan_column query.now.columns; time = stands.time_place query.now.columns query.now.time }) }
-    ensures names { IfOk result (λ plan. plan.names ≡ names) }
-    ensures elements { IfOk result (λ plan. plan.elements ≡ stands.plan_elements 0 query.now.elements) }
-    ensures select { IfOk result (λ plan. plan.select ≡ stands.plan_select query.now.select) }
-    ensures length { IfOk result (λ plan. plan.length ≡ stands.plan_length query.now.length.0 query.now.length.1) }
-    ensures opening { IfOk result (λ plan. plan.opening ≡ opening) }
-    ensures texts { IfOk result (λ plan. plan.texts ≡ texts.items) }
+// The columns of the plan, and its elements.
+fn shape(alloc: Global, query: &Query) -> Result<(Schema, Listed<Element>), AllocError>
+    requires { IsNamed query.now }
+    ensures { IfOk result (λ shape. (shape.0 ≡ plan_schema query.now) × (shape.1 ≡ stands.plan_elements 0 query.now.elements)) }
 {
     let schema = schema(alloc, query)?;
     let elements = plan_elements(alloc, query.elements.as_slice())?;
-    Ok(Plan {
+    Ok((schema, Listed::of(elements)))
+}
+
+// The plan of these parts.
+fn joined(
+    query: &Query,
+    shape: (Schema, Listed<Element>),
+    names: Listed<Name>,
+    opening: Opening,
+    texts: Vec<Text>,
+) -> Plan
+    requires length { checks.length_fault query.now ≡ None }
+    requires shape { (shape.0 ≡ plan_schema query.now) × (shape.1 ≡ stands.plan_elements 0 query.now.elements) }
+    ensures { result ≡ plan_of query.now names opening texts.items }
+{
+    let (schema, elements) = shape;
+    Plan {
         schema,
         names,
-        elements: Listed::of(elements),
+        elements,
         select: plan_select(query.select),
         length: plan_length(query.length.0, query.length.1),
         opening,
         texts: Listed::of(texts),
-    })
+    }
+}
+
+// The opening of the plan, or the first fault behind the definitions.
+fn opened(
+    alloc: Global,
+    query: &Query,
+    names: &[Named],
+    texts: &[Text],
+) -> Result<Opening, CompileFault>
+    requires { NamesPass query.now names.now }
+    ensures passes { IfOk result (λ opening. EndPasses query.now texts.now opening) }
+    ensures refused { IfErr result (λ fault. Misends query.now fault) }
+{
+    pass(length_fault(query))?;
+    let opening = opening(alloc, query, names, texts)?;
+    checked(opening, consume_fault(query, names))
 }
 
 // The plan of a query whose columns and elements have no fault, or its first fault.
@@ -85,10 +103,9 @@ fn planned(alloc: Global, query: &Query, names: &[Named]) -> Result<Plan, Compil
 {
     let texts = texts(alloc, query)?;
     let planned = definitions(alloc, query, names, &texts)?;
-    pass(length_fault(query))?;
-    let opening = opening(alloc, query, names, &texts)?;
-    pass(consume_fault(query, names))?;
-    Ok(joined(alloc, query, planned, opening, texts)?)
+    let shape = shape(alloc, query)?;
+    let opening = opened(alloc, query, names, &texts)?;
+    Ok(joined(query, shape, planned, opening, texts))
 }
 
 /// The plan of a query that a text has, or the query's first fault, in the order of the checks. Want of

@@ -4,29 +4,40 @@ ghost use Rattle.sp_compile.specs.Codes.{code_of, place_of};
 
 use sp_syntax::Span;
 use std::alloc::AllocError;
+use std::error::Error;
+use std::fmt;
 
-/// Why a query can't be meant, with the part of its text where the first fault is.
-#[derive(Debug, Drop, thiserror::Error)]
+/// Why a query can't be meant, with the part of its text where the first fault is; to be told by its code
+/// and its place.
+#[derive(Debug, Drop)]
 pub enum CompileFault {
-    #[error("no such column or name of the pattern")]
+    /// No such column or name of the pattern.
     Unknown(Span),
-    #[error("a name that stands twice")]
+    /// A name that stands twice.
     Twice(Span),
-    #[error("texts and numbers, or their kinds, do not go together")]
+    /// Texts and numbers, or their kinds, do not go together.
     WrongKind(Span),
-    #[error("one or more events at the end of the pattern")]
+    /// One or more events at the end of the pattern.
     PlusLast(Span),
-    #[error("a name that is not bound earlier")]
+    /// A name that is not bound earlier.
     LateReference(Span),
-    #[error("numbers that may be too great")]
+    /// Numbers that may be too great.
     TooWide(Span),
-    #[error("a window past its limits")]
+    /// A window past its limits.
     BadWindow(Span),
-    #[error("more columns than 64, or names than 32")]
+    /// More columns than 64, or names than 32.
     TooMany(Span),
-    #[error("out of memory")]
+    /// Out of memory.
     Memory,
 }
+
+impl fmt::Display for CompileFault {
+    fn fmt<W: fmt::Write>(&self, f: &mut fmt::Formatter<W>) -> fmt::Result {
+        f.write_str("the query has no plan")
+    }
+}
+
+impl Error for CompileFault {}
 
 /// Goes on where a check found no fault.
 pub(crate) fn pass(found: Option<CompileFault>) -> Result<(), CompileFault>
@@ -35,6 +46,17 @@ pub(crate) fn pass(found: Option<CompileFault>) -> Result<(), CompileFault>
 {
     match found {
         None => Ok(()),
+        Some(fault) => Err(fault),
+    }
+}
+
+/// The value, where a check behind it found no fault.
+pub(crate) fn checked<T: Drop>(value: T, found: Option<CompileFault>) -> Result<T, CompileFault>
+    ensures passes { IfOk result (λ same. (same ≡ value) × (found ≡ None)) }
+    ensures refused { IfErr result (λ fault. found ≡ Some fault) }
+{
+    match found {
+        None => Ok(value),
         Some(fault) => Err(fault),
     }
 }

@@ -89,11 +89,9 @@ pub(crate) fn earlier(
     let Some(here) = scope.here else {
         return Err(CompileFault::LateReference(span));
     };
-    let Some(number) = name_place(scope.names, name) else {
-        return Err(CompileFault::Unknown(span));
-    };
     let columns = scope.query.columns.as_slice();
-    let Some(place) = column_place(columns, text) else {
+    let (Some(number), Some(place)) = (name_place(scope.names, name), column_place(columns, text))
+    else {
         return Err(CompileFault::Unknown(span));
     };
     let named = &scope.names[number];

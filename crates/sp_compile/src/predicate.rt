@@ -10,7 +10,7 @@ ghost use Rattle.sp_compile.specs.Scopes.{pattern_names};
 ghost use Rattle.sp_compile.specs.Parts.{MadePredAnswer, JointAnswer, NegationAnswer, joined};
 
 use crate::CompileFault;
-use crate::boxed::boxed;
+use crate::boxed::{boxed, boxed_pair};
 use crate::comparison::{Spans, comparison};
 use crate::expression::{both, expression};
 use crate::scope::Scope;
@@ -55,8 +55,7 @@ fn junction(alloc: Global, node: &Node, left: Pred, right: Pred) -> Result<Pred,
         (λ event bound. Some (joined node.now (holds left event bound) (holds right event bound)))
         result }
 {
-    let left = boxed(alloc, left)?;
-    let right = boxed(alloc, right)?;
+    let (left, right) = boxed_pair(alloc, left, right)?;
     match node {
         Node::Or => Ok(Pred::Or(left, right)),
         _ => Ok(Pred::And(left, right)),

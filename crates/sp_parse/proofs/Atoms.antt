@@ -1,5 +1,5 @@
 -- Tests, atoms and predicates.
-use Rattle.std.proofs.Common.{◌≡◌, ◌≢◌, ◌++◌, ◌-◌, ℕ, zero, suc, Bool, true, false, List, [], ◌∷◌, length, Some, is_some, Result, refl, ap, subst}
+use Rattle.std.proofs.Common.{◌≡◌, ◌≢◌, ◌++◌, ◌-◌, ℕ, zero, suc, Bool, true, false, List, [], ◌∷◌, ◌<◌, ◌≤◌, length, length-append, arith, Some, is_some, Result, Ok, Err, IfOk, Bor, refl, ap, subst}
 use Rattle.sp_lex.specs.declared.token.Token.{Token}
 use Rattle.sp_lex.specs.declared.token.Word.TheVariants as w
 use Rattle.sp_lex.specs.declared.token.Kernel.{Kernel}
@@ -13,7 +13,7 @@ use Rattle.sp_syntax.specs.Phrase.{One, Both, Either, left, right}
 use Rattle.sp_syntax.specs.Grammar.{tree, kernel, mark, compare, both_hold, one_holds, joined, Applied, Between, Sum, TestOf, ConjOf, Atom, Pred}
 use Rattle.sp_parse.specs.declared.stop.Stop.{Stop}
 use Rattle.sp_parse.specs.Follow.{after_sum, after_conj, after_pred, after_definitions}
-use Rattle.sp_parse.specs.Reads.{Deeper, heads, never, reads_as, among, Found, Fault, deep, Stuck, Stops, Answers, TakesNone, head_as}
+use Rattle.sp_parse.specs.Reads.{Deeper, heads, never, reads_as, among, Found, Fault, deep, Stuck, Stops, Answers, TakesNone, Joins, head_as}
 use Rattle.sp_parse.proofs.Reading as r
 use Rattle.sp_parse.proofs.Reading.{Begins}
 use Rattle.sp_parse.proofs.Repeats as e
@@ -113,6 +113,19 @@ module _ (room : ℕ) (s : List Token) where
   test_found m_ behind rest a b t o x i y e = r.built_as test_of (λ n. Both (Sum n) (Compared n)) after_sum room s rest (a, (o, b)) t e
       (r.both_found Sum Compared after_sum after_sum room compared_apart s m_ rest a (o, b) x
       (r.both_found (λ _. One (kernel compare)) Sum never after_sum room sum_apart m_ behind rest o b (one_found compare room m_ behind o i) y))
+
+  pub test_shortens : (m_ behind : List Token) (a : Tree) (o : Node) (read : Result (Tree × Bor (List Token)) Stop) → Found Sum after_sum room s a m_ → IsOne compare m_ o behind
+      → Answers Sum after_sum room behind (λ p. (p.0, p.1.now)) read → IfOk read (λ p. length p.1.now < length s)
+  test_shortens m_ behind a o (Ok p) x i h =
+      let one : length behind < length m_ = omega (arith, ap length i.1) in
+      let two : length p.1.now ≤ length behind = omega (arith, ap length h.cut, length-append h.front p.1.now) in
+      omega (arith, ap length x.cut, length-append x.front m_)
+  test_shortens m_ behind a o (Err e) x i h = tt
+
+  pub test_answers : (m_ behind : List Token) (a : Tree) (o : Node) (read y : Result (Tree × Bor (List Token)) Stop) → Found Sum after_sum room s a m_ → IsOne compare m_ o behind
+      → Answers Sum after_sum room behind (λ p. (p.0, p.1.now)) read → Joins s a o read y → Answers Test after_sum room s (λ p. (p.0, p.1.now)) y
+  test_answers m_ behind a o read (Ok p) x i h j = test_found m_ behind p.1.now a j.0 p.0 o x i (r.read_found Sum after_sum room behind read j.0 p.1 h j.1) j.2
+  test_answers m_ behind a o read (Err e) x i h j = test_second_stops m_ behind a o e x i (r.read_stops Sum after_sum room behind read e h j)
 
 -- ---- sum compare sum | NOT atom | "[" pred "]"
 

@@ -1,5 +1,5 @@
 -- The window's length, the policy and what a match consumes.
-use Rattle.std.proofs.Common.{◌≡◌, ◌<◌, ◌++◌, ℕ, true, false, List, length, is_some, Result, refl, ◌∙◌, ap}
+use Rattle.std.proofs.Common.{◌≡◌, ◌<◌, ◌++◌, ℕ, true, false, List, length, is_some, Result, Bor, refl, ◌∙◌, ap}
 use Rattle.sp_lex.specs.declared.token.Token.{Token}
 use Rattle.sp_lex.specs.declared.token.Span.{Span}
 use Rattle.sp_lex.specs.declared.token.Kernel.{Kernel}
@@ -13,7 +13,7 @@ use Rattle.sp_syntax.specs.declared.query.QueryConsume.TheVariants as u
 use Rattle.sp_syntax.specs.Phrase.{One, Either, Built}
 use Rattle.sp_syntax.specs.Grammar.{span, kernel, mark, whole, unit, policy, all_or_none, Between, ListOf, Name, Amount, Within, Policy, Consume}
 use Rattle.sp_parse.specs.declared.stop.Stop.{Stop}
-use Rattle.sp_parse.specs.Reads.{never, reads_as, head_as, Found, Stops, Answers, Takes, TakesNone}
+use Rattle.sp_parse.specs.Reads.{never, reads_as, head_as, Found, Stops, Answers, Takes, TakesNone, Closes}
 use Rattle.sp_parse.proofs.Reading as r
 use Rattle.sp_parse.proofs.Reading.{Begins}
 use Rattle.sp_parse.proofs.Marks as one
@@ -109,16 +109,9 @@ module _ (room : ℕ) (s : List Token) where
   pub consumed_left_stops : (x : Stop) → TakesNone (kernel (mark m.LeftRound)) s x → Stops Consumed never room s x
   consumed_left_stops x h = f.between_first_stops m.LeftRound (λ _. ListOf Name) m.RightRound after_list list_some list_out room s x h
 
-  pub consumed_stops : (m_ : List Token) (x : Stop) → IsOne (mark m.LeftRound) s tt m_ → Stops (λ _. ListOf Name) after_list room m_ x → Stops Consumed never room s x
-  consumed_stops m_ x i h = f.between_stops m.LeftRound (λ _. ListOf Name) m.RightRound after_list list_some list_out room s m_ x i h
-
-  pub consumed_right_stops : (m_ o : List Token) (names : List Ident) (x : Stop) → IsOne (mark m.LeftRound) s tt m_ → Found (λ _. ListOf Name) after_list room m_ names o → TakesNone (kernel (mark m.RightRound)) o x
-      → Stops Consumed never room s x
-  consumed_right_stops m_ o names x i y h = f.between_last_stops m.LeftRound (λ _. ListOf Name) m.RightRound after_list list_some list_out room s m_ o names x i y h
-
-  pub consumed_found : (m_ o rest : List Token) (names : List Ident) → IsOne (mark m.LeftRound) s tt m_ → Found (λ _. ListOf Name) after_list room m_ names o → IsOne (mark m.RightRound) o tt rest
-      → Found Consumed never room s names rest
-  consumed_found m_ o rest names i y j = f.between_found m.LeftRound (λ _. ListOf Name) m.RightRound after_list list_some list_out room s m_ o rest names i y j
+  pub consumed_closes : (m_ : List Token) (read y : Result (List Ident × Bor (List Token)) Stop) → IsOne (mark m.LeftRound) s tt m_ → Answers (λ _. ListOf Name) after_list room m_ (λ p. (p.0, p.1.now)) read
+      → Closes (kernel (mark m.RightRound)) read y → Answers Consumed never room s (λ p. (p.0, p.1.now)) y
+  consumed_closes m_ read y i a h = f.between_closes m.LeftRound (λ _. ListOf Name) m.RightRound after_list list_some list_out room s m_ read y i a h
 
 abbrev names_of : List Token → List Ident → QueryConsume
 names_of tokens names = u.Names names

@@ -1,5 +1,5 @@
 -- The forms of productions, each once: one token, a mark and then a phrase, a phrase between two marks, two phrases, a choice, and lists.
-use Rattle.std.proofs.Common.{◌≡◌, ◌<◌, ◌++◌, ℕ, Bool, true, false, List, [], ◌∷◌, length, Option, Some, None, is_some, Result, Ok, Err, refl, sym, ◌∙◌, ap, subst, append-nil}
+use Rattle.std.proofs.Common.{◌≡◌, ◌<◌, ◌++◌, ℕ, Bool, true, false, List, [], ◌∷◌, length, Option, Some, None, is_some, Result, Ok, Err, Bor, inl, inr, refl, sym, ◌∙◌, ap, subst, append-nil}
 use Rattle.sp_lex.specs.declared.token.Token.{Token}
 use Rattle.sp_lex.specs.declared.token.Kernel.{Kernel}
 use Rattle.sp_syntax.specs.declared.mark.Mark.{Mark}
@@ -7,7 +7,7 @@ use Rattle.sp_syntax.specs.declared.mark.Mark.TheVariants as m
 use Rattle.sp_parse.specs.declared.stop.Stop.{Stop}
 use Rattle.sp_syntax.specs.Phrase.{One, Both, Either, left, Built, ends}
 use Rattle.sp_syntax.specs.Grammar.{kernel, mark, After, Between, Alone, ListOf, MoreOf}
-use Rattle.sp_parse.specs.Reads.{heads, never, reads_as, among, head_as, Found, Stops, Answers, Takes, TakesNone}
+use Rattle.sp_parse.specs.Reads.{heads, never, reads_as, among, head_as, Found, Stops, Answers, Takes, TakesNone, Closes}
 use Rattle.sp_parse.proofs.Reading as r
 use Rattle.sp_parse.proofs.Reading.{Begins}
 use Rattle.sp_parse.proofs.Repeats as e
@@ -140,6 +140,15 @@ module _ {A : Type 0} (first : Mark) (L : ℕ → List Token → A → Type 0) (
     between_found m_ after rest a i y j = d.prefix_found first (λ n. Both (L n) (One (kernel (mark last)))) never closed_some (λ tokens p. p.1.0) room s m_ rest (a, tt) a i
         (d.closed_found last L C some out room m_ after rest a y j) (λ front cut. refl)
 
+    -- the last mark is read behind whatever was read
+    pub between_closes : (m_ : List Token) (read y : Result (A × Bor (List Token)) Stop) → IsOne (mark first) s tt m_ → Answers L C room m_ (λ p. (p.0, p.1.now)) read → Closes (kernel (mark last)) read y
+        → Answers (λ n. Between first (L n) last) never room s (λ p. (p.0, p.1.now)) y
+    between_closes m_ read (Ok p) i a h = between_found m_ h.0.now p.1.now p.0 i (r.read_found L C room m_ read p.0 h.0 a h.1) h.2
+    between_closes m_ read (Err x) i a h = elim h as (λ _. Stops (λ n. Between first (L n) last) never room s x) [
+      | inl g ↦ between_stops m_ x i (r.read_stops L C room m_ read x a g)
+      | inr g ↦ between_last_stops m_ g.1.now g.0 x i (r.read_found L C room m_ read g.0 g.1 a g.2) g.3
+    ]
+
 -- ---- a mark, and then a phrase in round brackets
 
 module _ {A : Type 0} (which : Mark) (L : ℕ → List Token → A → Type 0) (C : Token → Bool) (some : Some_of L) (out : (t : Token) → is_some (mark m.RightRound t.kernel) ≡ true → C t ≡ false) where
@@ -165,18 +174,11 @@ module _ {A : Type 0} (which : Mark) (L : ℕ → List Token → A → Type 0) (
     pub clause_left_stops : (m_ : List Token) (x : Stop) → IsOne (mark which) s tt m_ → TakesNone (kernel (mark m.LeftRound)) m_ x → Stops (λ n. After which (Between m.LeftRound (L n) m.RightRound)) never room s x
     clause_left_stops m_ x i h = behind_stops m_ x i (between_first_stops m.LeftRound L m.RightRound C some out room m_ x h)
 
-    -- the phrase inside isn't
-    pub clause_stops : (m_ o : List Token) (x : Stop) → IsOne (mark which) s tt m_ → IsOne (mark m.LeftRound) m_ tt o → Stops L C room o x → Stops (λ n. After which (Between m.LeftRound (L n) m.RightRound)) never room s x
-    clause_stops m_ o x i j h = behind_stops m_ x i (between_stops m.LeftRound L m.RightRound C some out room m_ o x j h)
-
-    -- the last bracket isn't
-    pub clause_right_stops : (m_ o l : List Token) (a : A) (x : Stop) → IsOne (mark which) s tt m_ → IsOne (mark m.LeftRound) m_ tt o → Found L C room o a l → TakesNone (kernel (mark m.RightRound)) l x
-        → Stops (λ n. After which (Between m.LeftRound (L n) m.RightRound)) never room s x
-    clause_right_stops m_ o l a x i j y h = behind_stops m_ x i (between_last_stops m.LeftRound L m.RightRound C some out room m_ o l a x j y h)
-
-    pub clause_found : (m_ o l rest : List Token) (a : A) → IsOne (mark which) s tt m_ → IsOne (mark m.LeftRound) m_ tt o → Found L C room o a l → IsOne (mark m.RightRound) l tt rest
-        → Found (λ n. After which (Between m.LeftRound (L n) m.RightRound)) never room s a rest
-    clause_found m_ o l rest a i j y h = after_found which (λ n. Between m.LeftRound (L n) m.RightRound) never inside_some room s m_ rest a i (between_found m.LeftRound L m.RightRound C some out room m_ o l rest a j y h)
+    -- the last bracket is read behind whatever was read inside
+    pub clause_closes : (m_ o : List Token) (read y : Result (A × Bor (List Token)) Stop) → IsOne (mark which) s tt m_ → IsOne (mark m.LeftRound) m_ tt o → Answers L C room o (λ p. (p.0, p.1.now)) read
+        → Closes (kernel (mark m.RightRound)) read y → Answers (λ n. After which (Between m.LeftRound (L n) m.RightRound)) never room s (λ p. (p.0, p.1.now)) y
+    clause_closes m_ o read y i j a h =
+        after_answers which (λ n. Between m.LeftRound (L n) m.RightRound) never inside_some room s m_ (λ p. (p.0, p.1.now)) y i (between_closes m.LeftRound L m.RightRound C some out room m_ o read y j a h)
 
 -- ---- one phrase or another, told apart by the first token
 

@@ -1,7 +1,6 @@
 -- The whole query, and what its tokens answer.
-use Rattle.std.proofs.Common.{◌≡◌, ◌≢◌, ◌++◌, ◌||◌, ◌==◌, ℕ, Bool, true, false, List, [], ◌∷◌, length, Option, Some, None, is_some, Result, IsErrAnd, IfErr, refl, sym, ◌∙◌, ap, subst, append_assoc, append-nil, length-append, arith}
+use Rattle.std.proofs.Common.{◌≡◌, ◌≢◌, ◌++◌, ◌||◌, ◌==◌, ℕ, Bool, true, false, List, [], ◌∷◌, length, Option, Some, None, is_some, Result, Ok, Err, Bor, IfOk, IfErr, inl, inr, refl, sym, ◌∙◌, ap, subst, append_assoc, append-nil, length-append, arith}
 use Rattle.std.proofs.lemmas.Bool.Decides.{nat_tests}
-use Rattle.std.proofs.lemmas.Result.{err_from_is_err_and}
 use Rattle.sp_lex.specs.declared.token.Token.{Token}
 use Rattle.sp_lex.specs.declared.token.Span.{Span}
 use Rattle.sp_lex.specs.declared.token.Kernel.{Kernel}
@@ -21,19 +20,22 @@ use Rattle.sp_syntax.specs.Grammar as g
 use Rattle.sp_syntax.specs.Grammar.{kernel, mark, times, plus, both_hold, one_holds, Derives}
 use Rattle.sp_parse.specs.declared.stop.Stop.{Stop}
 use Rattle.sp_parse.specs.declared.stop.Stop.TheVariants as stop
+use Rattle.sp_parse.specs.Clauses.{Ending, EndingValue, Body, BodyValue}
 use Rattle.sp_parse.specs.Follow.{after_pred, after_definitions}
-use Rattle.sp_parse.specs.Reads.{heads, never, reads_as, among, head_as, Found, Fault, wrong, deep, Within, Opens, Stuck, Stops}
+use Rattle.sp_parse.specs.Reads.{heads, never, reads_as, among, head_as, Found, Fault, wrong, deep, Within, Opens, Stuck, Stops, Answers, Ends}
 use Rattle.sp_parse.specs.Parses.{NotWith, NeedsMore, IsUnexpected, Halts, IsFrom}
 use Rattle.sp_parse.proofs.Reading as r
 use Rattle.sp_parse.proofs.Reading.{Begins}
 use Rattle.sp_parse.proofs.Nested.{Some_of}
 use Rattle.sp_parse.proofs.Sequence as q
-use Rattle.sp_parse.proofs.Sequence.{Leads}
 use Rattle.sp_parse.proofs.Forms as f
 use Rattle.sp_parse.proofs.EventClause.{timed_begins}
 use Rattle.sp_parse.proofs.PatternClause.{elements_begins, elements_some}
 use Rattle.sp_parse.proofs.EndClauses.{within_begins, within_some, policy_begins, policy_some, consume_some}
 use Rattle.sp_parse.proofs.Defines.{definitions_begins, opening_some}
+
+abbrev Window : Type 0
+Window = ℕ × Word × Span
 
 -- ---- a clause or nothing
 
@@ -71,31 +73,19 @@ module _ (room : ℕ) (s : List Token) where
 
 -- ---- the clauses behind each clause
 
-abbrev pub Window : Type 0
-Window = ℕ × Word × Span
-
-abbrev pub Ending : Type 0
-Ending = Word × QueryConsume
-
-abbrev pub BehindOpening : ℕ → List Token → Ending → Type 0
+abbrev BehindOpening : ℕ → List Token → Word × QueryConsume → Type 0
 BehindOpening = λ n. Both g.Policy g.Consume
 
-abbrev pub BehindWithin : ℕ → List Token → QueryOpening × Ending → Type 0
+abbrev BehindWithin : ℕ → List Token → QueryOpening × (Word × QueryConsume) → Type 0
 BehindWithin = λ n. Both (g.Opening n) (BehindOpening n)
 
-abbrev pub BehindDefined : ℕ → List Token → Window × (QueryOpening × Ending) → Type 0
-BehindDefined = λ n. Both g.Within (BehindWithin n)
+abbrev BehindElements : ℕ → List Token → Option (List (Ident × Tree)) × EndingValue → Type 0
+BehindElements = λ n. Both (Defined n) (Ending n)
 
-abbrev pub BehindElements : ℕ → List Token → Option (List (Ident × Tree)) × (Window × (QueryOpening × Ending)) → Type 0
-BehindElements = λ n. Both (Defined n) (BehindDefined n)
+abbrev BehindColumns : ℕ → List Token → Option Ident × BodyValue → Type 0
+BehindColumns = λ n. Both (Time n) (Body n)
 
-abbrev pub BehindTime : ℕ → List Token → List QueryElement × (Option (List (Ident × Tree)) × (Window × (QueryOpening × Ending))) → Type 0
-BehindTime = λ n. Both g.Elements (BehindElements n)
-
-abbrev pub BehindColumns : ℕ → List Token → Option Ident × (List QueryElement × (Option (List (Ident × Tree)) × (Window × (QueryOpening × Ending)))) → Type 0
-BehindColumns = λ n. Both (Time n) (BehindTime n)
-
-abbrev pub Parts : ℕ → List Token → g.Clauses → Type 0
+abbrev Parts : ℕ → List Token → g.Clauses → Type 0
 Parts = λ n. Both g.Columns (BehindColumns n)
 
 -- ---- some of each
@@ -109,17 +99,17 @@ behind_opening_some = f.pair_some (λ _. g.Policy) (λ _. g.Consume) policy_some
 behind_within_some : Some_of BehindWithin
 behind_within_some = f.pair_some g.Opening BehindOpening opening_some behind_opening_some
 
-behind_defined_some : Some_of BehindDefined
-behind_defined_some = f.pair_some (λ _. g.Within) BehindWithin within_some behind_within_some
+ending_some : Some_of Ending
+ending_some = f.pair_some (λ _. g.Within) BehindWithin within_some behind_within_some
 
 behind_elements_some : Some_of BehindElements
-behind_elements_some = f.pair_some Defined BehindDefined (none_some g.Definitions) behind_defined_some
+behind_elements_some = f.pair_some Defined Ending (none_some g.Definitions) ending_some
 
-behind_time_some : Some_of BehindTime
-behind_time_some = f.pair_some (λ _. g.Elements) BehindElements elements_some behind_elements_some
+body_some : Some_of Body
+body_some = f.pair_some (λ _. g.Elements) BehindElements elements_some behind_elements_some
 
 behind_columns_some : Some_of BehindColumns
-behind_columns_some = f.pair_some Time BehindTime (none_some (λ _. g.Timed)) behind_time_some
+behind_columns_some = f.pair_some Time Body (none_some (λ _. g.Timed)) body_some
 
 -- ---- none of them begins with what may go on with the clause before it
 
@@ -134,7 +124,7 @@ pattern_out : (x : Kernel) → is_some (mark m.Pattern x) ≡ true → (is_some 
 pattern_out (k.Word w.Pattern) h = refl
 pattern_out _ h = absurd cc
 
-time_apart : (n : ℕ) (y v : List Token) (b : List QueryElement × (Option (List (Ident × Tree)) × (Window × (QueryOpening × Ending)))) → BehindTime n y b → heads never v ≡ false → heads (among begins_time never) (y ++ v) ≡ false
+time_apart : (n : ℕ) (y v : List Token) (b : BodyValue) → Body n y b → heads never v ≡ false → heads (among begins_time never) (y ++ v) ≡ false
 time_apart n y v b d h = out_heads (reads_as (kernel (mark m.Pattern))) (among begins_time never) (λ t. pattern_out t.kernel) y v
     (r.both_begins (reads_as (kernel (mark m.Pattern))) (λ _. g.Elements) BehindElements elements_begins n y b d)
 
@@ -143,7 +133,7 @@ within_out : (x : Kernel) → is_some (mark m.Within x) ≡ true
 within_out (k.Word w.Within) h = refl
 within_out _ h = absurd cc
 
-defined_apart : (n : ℕ) (y v : List Token) (b : Window × (QueryOpening × Ending)) → BehindDefined n y b → heads never v ≡ false → heads (among begins_define after_definitions) (y ++ v) ≡ false
+defined_apart : (n : ℕ) (y v : List Token) (b : EndingValue) → Ending n y b → heads never v ≡ false → heads (among begins_define after_definitions) (y ++ v) ≡ false
 defined_apart n y v b d h = out_heads (reads_as (kernel (mark m.Within))) (among begins_define after_definitions) (λ t. within_out t.kernel) y v
     (r.both_begins (reads_as (kernel (mark m.Within))) (λ _. g.Within) BehindWithin within_begins n y b d)
 
@@ -151,75 +141,75 @@ select_out : (x : Kernel) → is_some (mark m.Select x) ≡ true → ((((is_some
 select_out (k.Word w.Select) h = refl
 select_out _ h = absurd cc
 
-opening_apart : (n : ℕ) (y v : List Token) (b : Ending) → BehindOpening n y b → heads never v ≡ false → heads after_pred (y ++ v) ≡ false
+opening_apart : (n : ℕ) (y v : List Token) (b : Word × QueryConsume) → BehindOpening n y b → heads never v ≡ false → heads after_pred (y ++ v) ≡ false
 opening_apart n y v b d h = out_heads (reads_as (kernel (mark m.Select))) after_pred (λ t. select_out t.kernel) y v
     (r.both_begins (reads_as (kernel (mark m.Select))) (λ _. g.Policy) (λ _. g.Consume) policy_begins n y b d)
 
--- ---- what leads to the query: a line for each clause that is read, and one for each that isn't there
+-- ---- from WITHIN on
 
 module _ (room : ℕ) (s : List Token) where
-  -- the clauses that are read lead from the rest to the whole
-  abbrev pub Path : {B : Type 0} → (ℕ → List Token → B → Type 0) → List Token → (B → g.Clauses) → Type 0
-  Path M m_ value = Leads Parts never s M never m_ room value
+  pub within_stops : (x : Stop) → Stops (λ _. g.Within) never room s x → Stops Ending never room s x
+  within_stops x h = q.first_stops (λ _. g.Within) BehindWithin never (never_apart BehindWithin) room s behind_within_some x h
 
-  whole_stops : (e : Stop) → Stops Parts never room s e → Stops Derives never room s e
-  whole_stops e h = r.stops_as Parts Derives never never room room s s e (λ f rest x. r.built_stuck g.query Parts never room s rest f x) h
+  pub opening_stops : (m_ : List Token) (a : Window) (x : Stop) → Found (λ _. g.Within) never room s a m_ → Stops g.Opening after_pred room m_ x → Stops Ending never room s x
+  opening_stops m_ a x i h = q.next_stops (λ _. g.Within) BehindWithin never (never_apart BehindWithin) room s m_ a x i (q.first_stops g.Opening BehindOpening after_pred opening_apart room m_ behind_opening_some x h)
 
-  pub columns_stop : (e : Stop) → Stops (λ _. g.Columns) never room s e → Stops Derives never room s e
-  columns_stop e h = whole_stops e (q.leads_stop Parts never s (λ _. g.Columns) BehindColumns never never (never_apart BehindColumns) s room (λ p. p) e behind_columns_some (q.leads_self Parts never room s) h)
+  behind_opening_stops : (m_ o : List Token) (a : Window) (b : QueryOpening) (x : Stop) → Found (λ _. g.Within) never room s a m_ → Found g.Opening after_pred room m_ b o → Stops BehindOpening never room o x → Stops Ending never room s x
+  behind_opening_stops m_ o a b x i j h = q.next_stops (λ _. g.Within) BehindWithin never (never_apart BehindWithin) room s m_ a x i (q.next_stops g.Opening BehindOpening after_pred opening_apart room m_ o b x j h)
 
-  pub columns_lead : (m_ : List Token) (b : List QueryColumn) → Found (λ _. g.Columns) never room s b m_ → Path BehindColumns m_ (λ e. (b, e))
-  columns_lead m_ b x = q.leads_on Parts never s (λ _. g.Columns) BehindColumns never never (never_apart BehindColumns) s room (λ p. p) m_ b (q.leads_self Parts never room s) x
+  pub policy_stops : (m_ o : List Token) (a : Window) (b : QueryOpening) (x : Stop) → Found (λ _. g.Within) never room s a m_ → Found g.Opening after_pred room m_ b o → Stops (λ _. g.Policy) never room o x → Stops Ending never room s x
+  policy_stops m_ o a b x i j h = behind_opening_stops m_ o a b x i j (q.first_stops (λ _. g.Policy) (λ _. g.Consume) never (never_apart (λ _. g.Consume)) room o consume_some x h)
 
-  module _ (m_ : List Token) where
-    module _ (value : Option Ident × (List QueryElement × (Option (List (Ident × Tree)) × (Window × (QueryOpening × Ending)))) → g.Clauses) (l : Path BehindColumns m_ value) where
-      pub time_stop : (e : Stop) → Stops Time (among begins_time never) room m_ e → Stops Derives never room s e
-      time_stop e h = whole_stops e (q.leads_stop Parts never s Time BehindTime (among begins_time never) never time_apart m_ room value e behind_time_some l h)
+  pub consume_stops : (m_ o p : List Token) (a : Window) (b : QueryOpening) (c : Word) (x : Stop) → Found (λ _. g.Within) never room s a m_ → Found g.Opening after_pred room m_ b o → Found (λ _. g.Policy) never room o c p
+      → Stops (λ _. g.Consume) never room p x → Stops Ending never room s x
+  consume_stops m_ o p a b c x i j k_ h = behind_opening_stops m_ o a b x i j (q.next_stops (λ _. g.Policy) (λ _. g.Consume) never (never_apart (λ _. g.Consume)) room o p c x k_ h)
 
-      pub time_lead : (after : List Token) (b : Option Ident) → Found Time (among begins_time never) room m_ b after → Path BehindTime after (λ e. value (b, e))
-      time_lead after b x = q.leads_on Parts never s Time BehindTime (among begins_time never) never time_apart m_ room value after b l x
+  pub ending_found : (m_ o p rest : List Token) (a : Window) (b : QueryOpening) (c : Word) (d : QueryConsume) → Found (λ _. g.Within) never room s a m_ → Found g.Opening after_pred room m_ b o → Found (λ _. g.Policy) never room o c p
+      → Found (λ _. g.Consume) never room p d rest → Found Ending never room s (a, (b, (c, d))) rest
+  ending_found m_ o p rest a b c d i j k_ h =
+      q.both_found (λ _. g.Within) BehindWithin never (never_apart BehindWithin) room s m_ rest a (b, (c, d)) i
+      (q.both_found g.Opening BehindOpening after_pred opening_apart room m_ o rest b (c, d) j
+      (q.both_found (λ _. g.Policy) (λ _. g.Consume) never (never_apart (λ _. g.Consume)) room o p rest c d k_ h))
 
-    module _ (value : List QueryElement × (Option (List (Ident × Tree)) × (Window × (QueryOpening × Ending))) → g.Clauses) (l : Path BehindTime m_ value) where
-      pub elements_stop : (e : Stop) → Stops (λ _. g.Elements) never room m_ e → Stops Derives never room s e
-      elements_stop e h = whole_stops e (q.leads_stop Parts never s (λ _. g.Elements) BehindElements never never (never_apart BehindElements) m_ room value e behind_elements_some l h)
+-- ---- from PATTERN on
 
-      pub elements_lead : (after : List Token) (b : List QueryElement) → Found (λ _. g.Elements) never room m_ b after → Path BehindElements after (λ e. value (b, e))
-      elements_lead after b x = q.leads_on Parts never s (λ _. g.Elements) BehindElements never never (never_apart BehindElements) m_ room value after b l x
+module _ (room : ℕ) (s : List Token) where
+  pub elements_stop : (x : Stop) → Stops (λ _. g.Elements) never room s x → Stops Body never room s x
+  elements_stop x h = q.first_stops (λ _. g.Elements) BehindElements never (never_apart BehindElements) room s behind_elements_some x h
 
-    module _ (value : Option (List (Ident × Tree)) × (Window × (QueryOpening × Ending)) → g.Clauses) (l : Path BehindElements m_ value) where
-      pub defined_stop : (e : Stop) → Stops Defined (among begins_define after_definitions) room m_ e → Stops Derives never room s e
-      defined_stop e h = whole_stops e (q.leads_stop Parts never s Defined BehindDefined (among begins_define after_definitions) never defined_apart m_ room value e behind_defined_some l h)
+  pub defines_stop : (m_ : List Token) (a : List QueryElement) (x : Stop) → Found (λ _. g.Elements) never room s a m_ → Stops Defined (among begins_define after_definitions) room m_ x → Stops Body never room s x
+  defines_stop m_ a x i h = q.next_stops (λ _. g.Elements) BehindElements never (never_apart BehindElements) room s m_ a x i
+      (q.first_stops Defined Ending (among begins_define after_definitions) defined_apart room m_ ending_some x h)
 
-      pub defined_lead : (after : List Token) (b : Option (List (Ident × Tree))) → Found Defined (among begins_define after_definitions) room m_ b after → Path BehindDefined after (λ e. value (b, e))
-      defined_lead after b x = q.leads_on Parts never s Defined BehindDefined (among begins_define after_definitions) never defined_apart m_ room value after b l x
+  pub ending_stops : (m_ o : List Token) (a : List QueryElement) (b : Option (List (Ident × Tree))) (x : Stop) → Found (λ _. g.Elements) never room s a m_ → Found Defined (among begins_define after_definitions) room m_ b o
+      → Stops Ending never room o x → Stops Body never room s x
+  ending_stops m_ o a b x i j h = q.next_stops (λ _. g.Elements) BehindElements never (never_apart BehindElements) room s m_ a x i
+      (q.next_stops Defined Ending (among begins_define after_definitions) defined_apart room m_ o b x j h)
 
-    module _ (value : Window × (QueryOpening × Ending) → g.Clauses) (l : Path BehindDefined m_ value) where
-      pub within_stop : (e : Stop) → Stops (λ _. g.Within) never room m_ e → Stops Derives never room s e
-      within_stop e h = whole_stops e (q.leads_stop Parts never s (λ _. g.Within) BehindWithin never never (never_apart BehindWithin) m_ room value e behind_within_some l h)
+  pub body_found : (m_ o rest : List Token) (a : List QueryElement) (b : Option (List (Ident × Tree))) (c : EndingValue) → Found (λ _. g.Elements) never room s a m_ → Found Defined (among begins_define after_definitions) room m_ b o
+      → Found Ending never room o c rest → Found Body never room s (a, (b, c)) rest
+  body_found m_ o rest a b c i j h = q.both_found (λ _. g.Elements) BehindElements never (never_apart BehindElements) room s m_ rest a (b, c) i
+      (q.both_found Defined Ending (among begins_define after_definitions) defined_apart room m_ o rest b c j h)
 
-      pub within_lead : (after : List Token) (b : Window) → Found (λ _. g.Within) never room m_ b after → Path BehindWithin after (λ e. value (b, e))
-      within_lead after b x = q.leads_on Parts never s (λ _. g.Within) BehindWithin never never (never_apart BehindWithin) m_ room value after b l x
+-- ---- the whole query
 
-    module _ (value : QueryOpening × Ending → g.Clauses) (l : Path BehindWithin m_ value) where
-      pub opening_stop : (e : Stop) → Stops g.Opening after_pred room m_ e → Stops Derives never room s e
-      opening_stop e h = whole_stops e (q.leads_stop Parts never s g.Opening BehindOpening after_pred never opening_apart m_ room value e behind_opening_some l h)
+module _ (room : ℕ) (s : List Token) where
+  whole_stops : (x : Stop) → Stops Parts never room s x → Stops Derives never room s x
+  whole_stops x h = r.stops_as Parts Derives never never room room s s x (λ f rest y. r.built_stuck g.query Parts never room s rest f y) h
 
-      pub opening_lead : (after : List Token) (b : QueryOpening) → Found g.Opening after_pred room m_ b after → Path BehindOpening after (λ e. value (b, e))
-      opening_lead after b x = q.leads_on Parts never s g.Opening BehindOpening after_pred never opening_apart m_ room value after b l x
+  pub columns_stop : (x : Stop) → Stops (λ _. g.Columns) never room s x → Stops Derives never room s x
+  columns_stop x h = whole_stops x (q.first_stops (λ _. g.Columns) BehindColumns never (never_apart BehindColumns) room s behind_columns_some x h)
 
-    module _ (value : Ending → g.Clauses) (l : Path BehindOpening m_ value) where
-      pub policy_stop : (e : Stop) → Stops (λ _. g.Policy) never room m_ e → Stops Derives never room s e
-      policy_stop e h = whole_stops e (q.leads_stop Parts never s (λ _. g.Policy) (λ _. g.Consume) never never (never_apart (λ _. g.Consume)) m_ room value e consume_some l h)
+  pub time_stop : (m_ : List Token) (a : List QueryColumn) (x : Stop) → Found (λ _. g.Columns) never room s a m_ → Stops Time (among begins_time never) room m_ x → Stops Derives never room s x
+  time_stop m_ a x i h = whole_stops x (q.next_stops (λ _. g.Columns) BehindColumns never (never_apart BehindColumns) room s m_ a x i (q.first_stops Time Body (among begins_time never) time_apart room m_ body_some x h))
 
-      pub policy_lead : (after : List Token) (b : Word) → Found (λ _. g.Policy) never room m_ b after → Path (λ _. g.Consume) after (λ e. value (b, e))
-      policy_lead after b x = q.leads_on Parts never s (λ _. g.Policy) (λ _. g.Consume) never never (never_apart (λ _. g.Consume)) m_ room value after b l x
+  pub body_stops : (m_ o : List Token) (a : List QueryColumn) (b : Option Ident) (x : Stop) → Found (λ _. g.Columns) never room s a m_ → Found Time (among begins_time never) room m_ b o → Stops Body never room o x → Stops Derives never room s x
+  body_stops m_ o a b x i j h = whole_stops x (q.next_stops (λ _. g.Columns) BehindColumns never (never_apart BehindColumns) room s m_ a x i (q.next_stops Time Body (among begins_time never) time_apart room m_ o b x j h))
 
-    module _ (value : QueryConsume → g.Clauses) (l : Path (λ _. g.Consume) m_ value) where
-      pub consume_stop : (e : Stop) → Stops (λ _. g.Consume) never room m_ e → Stops Derives never room s e
-      consume_stop e h = whole_stops e (q.leads_last Parts never s (λ _. g.Consume) never m_ room value e l h)
-
-      pub query_found : (x : Query) (rest : List Token) (b : QueryConsume) → ((front : List Token) → s ≡ front ++ rest → x ≡ g.query front (value b)) → Found (λ _. g.Consume) never room m_ b rest → Found Derives never room s x rest
-      query_found x rest b e y = q.leads_built Parts never s (λ _. g.Consume) never m_ room value g.query l x rest b e y
+  pub query_found : (m_ o rest : List Token) (a : List QueryColumn) (b : Option Ident) (c : BodyValue) (x : Query) → Found (λ _. g.Columns) never room s a m_ → Found Time (among begins_time never) room m_ b o → Found Body never room o c rest
+      → ((front : List Token) → s ≡ front ++ rest → x ≡ g.query front (a, (b, c))) → Found Derives never room s x rest
+  query_found m_ o rest a b c x i j h e = r.built_as g.query Parts never room s rest (a, (b, c)) x e
+      (q.both_found (λ _. g.Columns) BehindColumns never (never_apart BehindColumns) room s m_ rest a (b, c) i (q.both_found Time Body (among begins_time never) time_apart room m_ o rest b c j h))
 
 -- ---- what the tokens answer
 
@@ -279,15 +269,31 @@ rest_is_none s rest q_ x h p d =
     let k_ : length s ≡ length x.front = ap length j.0 in
     h (omega (arith, ap length x.cut, length-append x.front rest))
 
-pub exit_halts : (s : List Token) (y : Result Query Stop) (e : Stop) → IsErrAnd y (λ z. z ≡ e) → Stops Derives never 64 s e → IfErr y (λ z. Halts s z)
-exit_halts s y e h g_ =
-    let p = err_from_is_err_and y h in
-    subst (λ l. IfErr l (λ z. Halts s z)) (sym p.1) (subst (λ l. Halts s l) (sym p.2) (halts s e g_))
+module _ (s : List Token) (read : Result (Query × Bor (List Token)) Stop) (a : Answers Derives never 64 s (λ p. (p.0, p.1.now)) read) where
+  read_all : (q_ : Query) (rest : Bor (List Token)) → read ≡ Ok (q_, rest) → Found Derives never 64 s q_ rest.now
+  read_all q_ rest e = r.read_found Derives never 64 s read q_ rest a e
 
-pub exit_all : (s : List Token) (y : Result Query Stop) (e : Stop) (query : Query) → IsErrAnd y (λ z. z ≡ e) → Stops Derives never 64 s e → Derives 64 s query → IsFrom query y
-exit_all s y e query h g_ d =
-    let p = err_from_is_err_and y h in
-    subst (λ l. IsFrom query l) (sym p.1) (p.2 ∙ halted_all s e g_ query d)
+  pub ends_found : (y : Result Query Stop) → Ends read y → IfOk y (λ query. Derives 64 s query)
+  ends_found (Ok q_) h = spells s h.0.now q_ (read_all q_ h.0 h.1) h.2
+  ends_found (Err x) h = tt
+
+  pub ends_only : (y : Result Query Stop) → Ends read y → IfOk y (λ answer. (levels : ℕ) (query : Query) → Derives levels s query → query ≡ answer)
+  ends_only (Ok q_) h = only_query s h.0.now q_ (read_all q_ h.0 h.1) h.2
+  ends_only (Err x) h = tt
+
+  pub ends_all : (y : Result Query Stop) → Ends read y → (query : Query) → Derives 64 s query → IsFrom query y
+  ends_all (Ok q_) h query d = only_query s h.0.now q_ (read_all q_ h.0 h.1) h.2 64 query d
+  ends_all (Err x) h query d = elim h as (λ _. x ≡ stop.Memory) [
+    | inl g ↦ halted_all s x (r.read_stops Derives never 64 s read x a g) query d
+    | inr g ↦ absurd (rest_is_none s g.1.now g.0 (read_all g.0 g.1 g.2) g.3 query d)
+  ]
+
+  pub ends_halts : (y : Result Query Stop) → Ends read y → IfErr y (λ x. Halts s x)
+  ends_halts (Ok q_) h = tt
+  ends_halts (Err x) h = elim h as (λ _. Halts s x) [
+    | inl g ↦ halts s x (r.read_stops Derives never 64 s read x a g)
+    | inr g ↦ subst (λ y. Halts s y) (sym g.4) (g.1.now, refl, halts_behind s g.1.now g.0 (read_all g.0 g.1 g.2) g.3)
+  ]
 
 absurd_of : (b : Bool) → b ≡ (0 == 0) → b ≡ false → ⊥
 absurd_of b e h = grind (arith, nat_tests)

@@ -1,12 +1,12 @@
 -- How phrases are read from their parts.
-use Rattle.std.proofs.Common.{◌≡◌, ℕ, zero, suc, ◌≤◌, Bool, true, false, ◌||◌, List, [], ◌∷◌, ◌++◌, Option, Some, None, is_some, Result, Ok, Err, IsErrAnd, refl, sym, ◌∙◌, ap, subst, arith, append_assoc, length, length-append, ◌<◌}
+use Rattle.std.proofs.Common.{◌≡◌, ℕ, zero, suc, ◌≤◌, Bool, true, false, ◌||◌, List, [], ◌∷◌, ◌++◌, Option, Some, None, is_some, Result, Ok, Err, IsErrAnd, Bor, inl, inr, refl, sym, ◌∙◌, ap, subst, arith, append_assoc, length, length-append, ◌<◌}
 use Rattle.std.proofs.lemmas.Result.{err_from_is_err_and}
 use Rattle.std.proofs.lemmas.List.{append_cancel_left}
 use Rattle.sp_lex.specs.declared.token.Token.{Token}
 use Rattle.sp_parse.specs.declared.stop.Stop.{Stop}
 use Rattle.sp_parse.specs.declared.stop.Stop.TheVariants as stop
 use Rattle.sp_syntax.specs.Phrase.{One, Both, Either, left, right, Built, Optional}
-use Rattle.sp_parse.specs.Reads.{Deeper, heads, look, never, reads_as, among, Found, Fault, wrong, deep, Within, Opens, Stuck, Stops, Answers, TakesNone, head_as}
+use Rattle.sp_parse.specs.Reads.{Deeper, heads, look, never, reads_as, among, Found, Fault, wrong, deep, Within, Opens, Stuck, Stops, Answers, TakesNone, head_as, PassesOn}
 
 pub look_more : (s f m next : List Token) → s ≡ f ++ m → (n : List Token) × (look s n ≡ f ++ look m next)
 look_more s [] m next e = (next, ap (λ l. look l next) e)
@@ -494,3 +494,13 @@ unit_of f t h = unit_in (f t) h
 pub look_self : (s : List Token) → (n : List Token) × (look s n ≡ s)
 look_self [] = ([], refl)
 look_self (t ∷ s) = (s, refl)
+
+-- what was read, where it is known to have been
+pub read_found : {A : Type 0} (M : ℕ → List Token → A → Type 0) (D : Token → Bool) (k : ℕ) (t : List Token) (read : Result (A × Bor (List Token)) Stop) (a : A) (rest : Bor (List Token))
+    → Answers M D k t (λ p. (p.0, p.1.now)) read → read ≡ Ok (a, rest) → Found M D k t a rest.now
+read_found M D k t read a rest h e = subst (λ r. Answers M D k t (λ p. (p.0, p.1.now)) r) e h
+
+-- why nothing was read, where that is passed on
+pub read_stops : {A : Type 0} (M : ℕ → List Token → A → Type 0) (D : Token → Bool) (k : ℕ) (t : List Token) (read : Result (A × Bor (List Token)) Stop) (x : Stop)
+    → Answers M D k t (λ p. (p.0, p.1.now)) read → PassesOn read x → Stops M D k t x
+read_stops M D k t read x h e = elim e as (λ _. Stops M D k t x) [ inl m ↦ subst (λ y. Stops M D k t y) (sym m) tt | inr i ↦ subst (λ r. Answers M D k t (λ p. (p.0, p.1.now)) r) i h ]

@@ -1,10 +1,10 @@
 -- A phrase and then steps: lists with commas or without, and operators that group from the left.
-use Rattle.std.proofs.Common.{length, length-append, is_some, Option, Some, None, ◌<◌, ◌+◌, ◌≡◌, ℕ, suc, ◌≤◌, Bool, true, false, List, [], ◌∷◌, ◌++◌, refl, sym, ◌∙◌, ap, subst, arith, append_assoc, append-nil}
+use Rattle.std.proofs.Common.{length, length-append, is_some, Option, Some, None, Result, Ok, Err, IfOk, Bor, ◌<◌, ◌+◌, ◌≡◌, ℕ, suc, ◌≤◌, Bool, true, false, List, [], ◌∷◌, ◌++◌, refl, sym, ◌∙◌, ap, subst, arith, append_assoc, append-nil}
 use Rattle.std.proofs.lemmas.List.{append_cancel_left}
 use Rattle.sp_lex.specs.declared.token.Token.{Token}
 use Rattle.sp_syntax.specs.Phrase.{One, Both, Steps, ends, steps, Repeat}
 use Rattle.sp_parse.specs.declared.stop.Stop.{Stop}
-use Rattle.sp_parse.specs.Reads.{heads, look, never, reads_as, among, head_as, Found, Fault, Within, Stuck, Stops}
+use Rattle.sp_parse.specs.Reads.{heads, look, never, reads_as, among, head_as, Found, Fault, Within, Stuck, Stops, Answers}
 use Rattle.sp_parse.proofs.Reading as r
 use Rattle.sp_parse.proofs.Reading.{Begins}
 
@@ -183,6 +183,12 @@ module _ {A O : Type 0} (op : Token → Option O) (L : ℕ → List Token → A 
           goes = λ c e. goes_on L (λ n. Both (One op) (L n)) join C (reads_as op) op_begins op_apart room s rest after a (o, b) c (op_heads rest behind o p) g
               (r.both_found (λ _. One op) L never C room item_apart rest behind after o b (r.taken_found op room rest behind o p) y) e;
         }
+
+    -- Whatever is read behind an operator leaves fewer tokens.
+    pub step_shortens : (rest behind : List Token) (a : A) (o : O) (read : Result (A × Bor (List Token)) Stop) → (t : Token) × (rest ≡ t ∷ behind) × (op t ≡ Some o) → Grouping op L join C room s a rest
+        → Answers L C room behind (λ p. (p.0, p.1.now)) read → IfOk read (λ p. length p.1.now < length s)
+    step_shortens rest behind a o (Ok q) p g h = (steps_on rest behind q.1.now a q.0 o p g h).less
+    step_shortens rest behind a o (Err x) p g h = tt
 
     pub group_ends : (rest : List Token) (a : A) → head_as op rest ≡ None → Grouping op L join C room s a rest → Found (λ n. Repeat (L n) (Both (One op) (L n)) join) (among C (reads_as op)) room s a rest
     group_ends rest a out g = arrives L (λ n. Both (One op) (L n)) join C (reads_as op) op_begins op_apart room s rest a (r.head_none op rest out) g

@@ -1,42 +1,26 @@
--- Long sequences: what is read so far leads to the whole.
+-- Long sequences: a clause, and then those behind it.
 use Rattle.std.proofs.Common.{◌≡◌, ℕ, Bool, false, List, ◌++◌, Option, Some, None, true, ap, ◌∙◌}
 use Rattle.sp_lex.specs.declared.token.Token.{Token}
 use Rattle.sp_parse.specs.declared.stop.Stop.{Stop}
-use Rattle.sp_syntax.specs.Phrase.{Both, Built, Optional}
-use Rattle.sp_parse.specs.Reads.{among, heads, Found, Fault, Stuck, Stops}
+use Rattle.sp_syntax.specs.Phrase.{Both, Optional}
+use Rattle.sp_parse.specs.Reads.{among, heads, never, Found, Stops}
 use Rattle.sp_parse.proofs.Reading as r
 use Rattle.sp_parse.proofs.Nested.{Some_of}
 use Rattle.sp_parse.proofs.Reading.{Begins}
 
--- Whatever reading the second from the rest answers, reading the first from the start answers.
-pub record Leads {A B : Type 0} (L : ℕ → List Token → A → Type 0) (C : Token → Bool) (s : List Token) (M : ℕ → List Token → B → Type 0) (D : Token → Bool) (m : List Token) (room : ℕ) (value : B → A) : Type 0 where
-  pub found : (b : B) (rest : List Token) → Found M D room m b rest → Found L C room s (value b) rest
-  pub stuck : (f : Fault) (rest : List Token) → Stuck M D room m f rest → Stuck L C room s f rest
+-- C may go on with the clause, and what is behind it doesn't begin so.
+module _ {A B : Type 0} (L : ℕ → List Token → A → Type 0) (M : ℕ → List Token → B → Type 0) (C : Token → Bool)
+    (apart : (n : ℕ) (y v : List Token) (b : B) → M n y b → heads never v ≡ false → heads C (y ++ v) ≡ false) (room : ℕ) (s : List Token) where
+  -- the clause isn't there
+  pub first_stops : Some_of M → (x : Stop) → Stops L C room s x → Stops (λ n. Both (L n) (M n)) never room s x
+  first_stops some x h = r.stops_as L (λ n. Both (L n) (M n)) C never room room s s x (λ f rest y. r.both_stuck_left L M C never room apart s rest f some y) h
 
-pub leads_self : {A : Type 0} (L : ℕ → List Token → A → Type 0) (C : Token → Bool) (room : ℕ) (s : List Token) → Leads L C s L C s room (λ a. a)
-leads_self L C room s = record { found = λ b rest x. x; stuck = λ f rest x. x }
+  -- what is behind it isn't there
+  pub next_stops : (m : List Token) (a : A) (x : Stop) → Found L C room s a m → Stops M never room m x → Stops (λ n. Both (L n) (M n)) never room s x
+  next_stops m a x i h = r.stops_as M (λ n. Both (L n) (M n)) never never room room m s x (λ f rest y. r.both_stuck_right L M C never room apart s m rest a f i y) h
 
-module _ {A B E : Type 0} (L : ℕ → List Token → A → Type 0) (C : Token → Bool) (s : List Token) (M : ℕ → List Token → B → Type 0) (N : ℕ → List Token → E → Type 0) (D K : Token → Bool)
-    (apart : (n : ℕ) (y v : List Token) (e : E) → N n y e → heads K v ≡ false → heads D (y ++ v) ≡ false) (m : List Token) (room : ℕ) (value : B × E → A) where
-  -- one part more is read
-  pub leads_on : (after : List Token) (b : B) → Leads L C s (λ n. Both (M n) (N n)) K m room value → Found M D room m b after → Leads L C s N K after room (λ e. value (b, e))
-  leads_on after b l x = record {
-    found = λ e rest y. l.found (b, e) rest (r.both_found M N D K room apart m after rest b e x y);
-    stuck = λ f rest y. l.stuck f rest (r.both_stuck_right M N D K room apart m after rest b f x y);
-  }
-
-  -- the next part isn't there
-  pub leads_stop : (e : Stop) → Some_of N → Leads L C s (λ n. Both (M n) (N n)) K m room value → Stops M D room m e → Stops L C room s e
-  leads_stop e some l h = r.stops_as M L D C room room m s e (λ f rest x. l.stuck f rest (r.both_stuck_left M N D K room apart m rest f some x)) h
-
-module _ {A B : Type 0} (L : ℕ → List Token → A → Type 0) (C : Token → Bool) (s : List Token) (M : ℕ → List Token → B → Type 0) (D : Token → Bool) (m : List Token) (room : ℕ) (value : B → A) where
-  -- the last part isn't there
-  pub leads_last : (e : Stop) → Leads L C s M D m room value → Stops M D room m e → Stops L C room s e
-  leads_last e l h = r.stops_as M L D C room room m s e l.stuck h
-
-  -- the value is made of all tokens
-  pub leads_built : {X : Type 0} (g : List Token → A → X) → Leads L C s M D m room value → (x : X) (rest : List Token) (b : B) → ((front : List Token) → s ≡ front ++ rest → x ≡ g front (value b)) → Found M D room m b rest → Found (λ n. Built g (L n)) C room s x rest
-  leads_built g l x rest b e y = r.built_as g L C room s rest (value b) x e (l.found b rest y)
+  pub both_found : (m rest : List Token) (a : A) (b : B) → Found L C room s a m → Found M never room m b rest → Found (λ n. Both (L n) (M n)) never room s (a, b) rest
+  both_found m rest a b i h = r.both_found L M C never room apart s m rest a b i h
 
 -- ---- a phrase or nothing, and then another
 

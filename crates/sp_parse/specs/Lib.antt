@@ -2,3 +2,4 @@ pub mod Reads
 pub mod Follow
 pub mod Parses
 pub mod Codes
+pub mod Clauses

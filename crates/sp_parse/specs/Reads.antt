@@ -1,7 +1,10 @@
 -- What reading a phrase from the front of tokens answers.
-use Rattle.std.specs.Prelude.{◌≡◌, ℕ, suc, ◌≤◌, Bool, true, false, List, [], ◌∷◌, ◌++◌, length, Option, Some, None, is_some, ◌||◌, Result, Ok, Err}
+use Rattle.std.specs.Prelude.{◌≡◌, ◌≢◌, ℕ, suc, ◌≤◌, Bool, true, false, List, [], ◌∷◌, ◌++◌, ◌⊎◌, length, Option, Some, None, is_some, ◌||◌, Result, Ok, Err}
 use Rattle.std.specs.Borrow.{Bor}
 use Rattle.sp_lex.specs.declared.token.Token.{Token}
+use Rattle.sp_syntax.specs.declared.tree.Tree.{Tree}
+use Rattle.sp_syntax.specs.declared.tree.Node.{Node}
+use Rattle.sp_syntax.specs.Grammar.{tree}
 use Rattle.sp_parse.specs.declared.stop.Stop.{Stop}
 use Rattle.sp_parse.specs.declared.stop.Stop.TheVariants as stop
 
@@ -82,6 +85,30 @@ TakesNone f tokens (stop.TooDeep left) = ⊥
 abbrev pub Takes : {Y A : Type 0} → (Token → Option A) → List Token → (Y → A × List Token) → Result Y Stop → Type 0
 Takes f tokens view (Ok y) = (t : Token) × (tokens ≡ t ∷ (view y).1) × (f t ≡ Some (view y).0)
 Takes f tokens view (Err e) = TakesNone f tokens e
+
+-- this is why nothing was read, or want of memory
+abbrev pub PassesOn : {Y : Type 0} → Result Y Stop → Stop → Type 0
+PassesOn read x = (x ≡ stop.Memory) ⊎ (read ≡ Err x)
+
+-- what a function answers that puts what was read behind a list
+abbrev pub Adds : {A : Type 0} → List A → Result (A × Bor (List Token)) Stop → Result (List A × Bor (List Token)) Stop → Type 0
+Adds {A} list read (Ok p) = (item : A) × (read ≡ Ok (item, p.1)) × (p.0 ≡ list ++ item ∷ [])
+Adds list read (Err x) = PassesOn read x
+
+-- what a function answers that reads a token behind what was read
+abbrev pub Closes : {A : Type 0} → (Token → Option (Unit {0})) → Result (A × Bor (List Token)) Stop → Result (A × Bor (List Token)) Stop → Type 0
+Closes f read (Ok p) = (before : Bor (List Token)) × (read ≡ Ok (p.0, before)) × ((t : Token) × (before.now ≡ t ∷ p.1.now) × (f t ≡ Some tt))
+Closes {A} f read (Err x) = PassesOn read x ⊎ ((item : A) × (before : Bor (List Token)) × (read ≡ Ok (item, before)) × TakesNone f before.now x)
+
+-- what a function answers that takes what was read where nothing is behind it
+abbrev pub Ends : {A : Type 0} → Result (A × Bor (List Token)) Stop → Result A Stop → Type 0
+Ends read (Ok item) = (rest : Bor (List Token)) × (read ≡ Ok (item, rest)) × (length rest.now ≡ 0)
+Ends {A} read (Err x) = PassesOn read x ⊎ ((item : A) × (rest : Bor (List Token)) × (read ≡ Ok (item, rest)) × (length rest.now ≢ 0) × (x ≡ stop.Unexpected (length rest.now)))
+
+-- what a function answers that makes a tree of an operand, an operator and the operand that was read behind it
+abbrev pub Joins : List Token → Tree → Node → Result (Tree × Bor (List Token)) Stop → Result (Tree × Bor (List Token)) Stop → Type 0
+Joins tokens left node read (Ok p) = (right : Tree) × (read ≡ Ok (right, p.1)) × ((front : List Token) → tokens ≡ front ++ p.1.now → p.0 ≡ tree node (left ∷ right ∷ []) front)
+Joins tokens left node read (Err x) = PassesOn read x
 
 -- what a function answers that looks for an operator
 abbrev pub Operator : {O : Type 0} → (Token → Option O) → List Token → Option (O × Bor (List Token)) → Type 0

@@ -5,8 +5,9 @@ ghost use Rattle.sp_syntax.specs.Grammar as g;
 ghost use Rattle.sp_parse.specs.Reads.{Answers, Takes, among, never, reads_as};
 
 use crate::columns::ident;
+use crate::list::added;
 use crate::stop::Stop;
-use crate::tokens::{begins, behind, expect, span_of, whole};
+use crate::tokens::{begins, behind, closed, expect, span_of, whole};
 use sp_syntax::{Ident, Kernel, Mark, QueryConsume, Span, Token, Word};
 use sqlite_items::Items;
 use std::alloc::Global;
@@ -88,13 +89,9 @@ fn all_or_none<'a>(tokens: &'a [Token]) -> Result<(QueryConsume, &'a [Token]), S
 fn name_list<'a>(alloc: Global, tokens: &'a [Token]) -> Result<(Items<Ident>, &'a [Token]), Stop>
     ensures { (room : ℕ) → Answers (λ _. g.ListOf g.Name) (among never (reads_as (g.kernel (g.mark m.Comma)))) room tokens.now (λ p. (p.0, p.1.now)) result }
 {
-    let mut list = Items::new(alloc);
-    let (first, mut rest) = ident(alloc, tokens)?;
-    list.push(first)?;
+    let (mut list, mut rest) = added(Items::new(alloc), ident(alloc, tokens))?;
     'each: while let Some(next) = behind(rest, Mark::Comma) {
-        let (name, after) = ident(alloc, next)?;
-        list.push(name)?;
-        rest = after;
+        (list, rest) = added(list, ident(alloc, next))?;
     }
     Ok((list, rest))
 }
@@ -104,9 +101,7 @@ fn consumed<'a>(alloc: Global, tokens: &'a [Token]) -> Result<(Items<Ident>, &'a
     ensures { (room : ℕ) → Answers (λ _. g.Between m.LeftRound (g.ListOf g.Name) m.RightRound) never room tokens.now (λ p. (p.0, p.1.now)) result }
 {
     let rest = expect(tokens, Mark::LeftRound)?;
-    let (names, rest) = name_list(alloc, rest)?;
-    let rest = expect(rest, Mark::RightRound)?;
-    Ok((names, rest))
+    closed(name_list(alloc, rest), Mark::RightRound)
 }
 
 // CONSUME ( ALL | NONE | "(" name { "," name } ")" )

@@ -5,8 +5,9 @@ ghost use Rattle.sp_syntax.specs.Grammar as g;
 ghost use Rattle.sp_syntax.specs.Phrase.{One};
 ghost use Rattle.sp_parse.specs.Reads.{Answers, Takes, among, never, reads_as};
 
+use crate::list::added;
 use crate::stop::Stop;
-use crate::tokens::{begins, behind, expect, name, span_of, whole};
+use crate::tokens::{begins, behind, closed, expect, name, span_of, whole};
 use sp_syntax::{Ident, Kernel, Mark, QueryColumn, Token, Word};
 use sqlite_items::Items;
 use std::alloc::Global;
@@ -77,13 +78,9 @@ fn column_list<'a>(
 ) -> Result<(Items<QueryColumn>, &'a [Token]), Stop>
     ensures { (room : ℕ) → Answers (λ _. g.ListOf g.Column) (among never (reads_as (g.kernel (g.mark m.Comma)))) room tokens.now (λ p. (p.0, p.1.now)) result }
 {
-    let mut list = Items::new(alloc);
-    let (first, mut rest) = column(alloc, tokens)?;
-    list.push(first)?;
+    let (mut list, mut rest) = added(Items::new(alloc), column(alloc, tokens))?;
     'each: while let Some(next) = behind(rest, Mark::Comma) {
-        let (column, after) = column(alloc, next)?;
-        list.push(column)?;
-        rest = after;
+        (list, rest) = added(list, column(alloc, next))?;
     }
     Ok((list, rest))
 }
@@ -97,9 +94,7 @@ pub(crate) fn columns<'a>(
 {
     let rest = expect(tokens, Mark::Event)?;
     let rest = expect(rest, Mark::LeftRound)?;
-    let (list, rest) = column_list(alloc, rest)?;
-    let rest = expect(rest, Mark::RightRound)?;
-    Ok((list, rest))
+    closed(column_list(alloc, rest), Mark::RightRound)
 }
 
 // TIME name

@@ -9,6 +9,7 @@ ghost use Rattle.sp_parse.specs.Reads.{Answers, never};
 
 use crate::clauses::amount;
 use crate::columns::ident;
+use crate::list::added;
 use crate::predicate::pred;
 use crate::stop::Stop;
 use crate::tokens::{begins, behind, expect, span_of};
@@ -38,13 +39,9 @@ fn definition_list<'a>(
 ) -> Result<(Items<(Ident, Tree)>, &'a [Token]), Stop>
     ensures { Answers (λ n. g.ListOf (g.Definition n)) after_definitions room tokens.now (λ p. (p.0, p.1.now)) result }
 {
-    let (first, mut rest) = definition(alloc, tokens, room)?;
-    let mut list = Items::new(alloc);
-    list.push(first)?;
+    let (mut list, mut rest) = added(Items::new(alloc), definition(alloc, tokens, room))?;
     'each: while let Some(next) = behind(rest, Mark::Comma) {
-        let (next, after) = definition(alloc, next, room)?;
-        list.push(next)?;
-        rest = after;
+        (list, rest) = added(list, definition(alloc, next, room))?;
     }
     Ok((list, rest))
 }

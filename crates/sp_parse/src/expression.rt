@@ -5,8 +5,8 @@ ghost use Rattle.sp_parse.specs.Follow.{after_factor, after_term, after_sum};
 ghost use Rattle.sp_parse.specs.Reads.{Answers, Operator, Takes, never};
 
 use crate::stop::Stop;
-use crate::tokens::{begins, begins_name, expect, name, span_of};
-use crate::trees::{binary, leaf, unary};
+use crate::tokens::{begins, begins_name, closed, expect, name, span_of};
+use crate::trees::{joined, leaf, unary};
 use sp_plan::Text;
 use sp_syntax::{Kernel, Mark, Node, Token, Tree};
 use std::alloc::Global;
@@ -117,9 +117,7 @@ fn enclosed<'a>(
     ensures { Answers (λ n. g.Between Mark.LeftRound (g.Sum n) Mark.RightRound) never room tokens.now (λ p. (p.0, p.1.now)) result }
 {
     let rest = expect(tokens, Mark::LeftRound)?;
-    let (tree, rest) = sum(alloc, rest, room)?;
-    let rest = expect(rest, Mark::RightRound)?;
-    Ok((tree, rest))
+    closed(sum(alloc, rest, room), Mark::RightRound)
 }
 
 // "*"
@@ -152,9 +150,7 @@ fn term<'a>(alloc: Global, tokens: &'a [Token], room: usize) -> Result<(Tree, &'
 {
     let (mut tree, mut rest) = factor(alloc, tokens, room)?;
     while let Some((node, behind)) = times(rest) {
-        let (right, after) = factor(alloc, behind, room)?;
-        tree = binary(alloc, node, tree, right, span_of(tokens, after))?;
-        rest = after;
+        (tree, rest) = joined(alloc, tokens, tree, node, factor(alloc, behind, room))?;
     }
     Ok((tree, rest))
 }
@@ -170,9 +166,7 @@ pub(crate) fn sum<'a>(
 {
     let (mut tree, mut rest) = term(alloc, tokens, room)?;
     while let Some((node, behind)) = plus(rest) {
-        let (right, after) = term(alloc, behind, room)?;
-        tree = binary(alloc, node, tree, right, span_of(tokens, after))?;
-        rest = after;
+        (tree, rest) = joined(alloc, tokens, tree, node, term(alloc, behind, room))?;
     }
     Ok((tree, rest))
 }

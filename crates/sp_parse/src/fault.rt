@@ -3,23 +3,30 @@ ghost use Rattle.std.specs.Prelude.{◌≡◌};
 ghost use Rattle.sp_parse.specs.Codes.{code_of, place_of};
 
 use sp_syntax::LexFault;
+use std::error::Error;
+use std::fmt;
 
-/// Why a text is no query. Places are bytes of the text, from 0.
-#[derive(Debug, Drop, thiserror::Error)]
+/// Why a text is no query, to be told by its code and its place. Places are bytes of the text, from 0.
+#[derive(Debug, Drop)]
 pub enum ParseFault {
     /// The text has no tokens; never by want of memory.
-    #[error("no tokens")]
     Lex(LexFault),
     /// The first token up to which the tokens begin no query, or the text's length where it ends too
     /// early.
-    #[error("a token that does not belong here, at byte {at}")]
     Unexpected { at: u32 },
     /// The token that opens level 65 of nesting.
-    #[error("nested deeper than 64 levels, at byte {at}")]
     TooDeep { at: u32 },
-    #[error("out of memory")]
+    /// Want of memory.
     Memory,
 }
+
+impl fmt::Display for ParseFault {
+    fn fmt<W: fmt::Write>(&self, f: &mut fmt::Formatter<W>) -> fmt::Result {
+        f.write_str("the text is no query")
+    }
+}
+
+impl Error for ParseFault {}
 
 impl ParseFault {
     /// The printed code: 1 to 3 for a fault of the tokens, 11 for `Unexpected`, 12 for `TooDeep`.

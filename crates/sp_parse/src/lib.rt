@@ -8,6 +8,7 @@ mod definitions;
 mod expression;
 mod fault;
 mod law;
+mod list;
 mod parsing;
 mod pattern;
 mod predicate;

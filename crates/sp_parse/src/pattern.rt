@@ -5,8 +5,9 @@ ghost use Rattle.sp_syntax.specs.Grammar as g;
 ghost use Rattle.sp_parse.specs.Reads.{Answers, among, heads, never, reads_as};
 
 use crate::columns::ident;
+use crate::list::added;
 use crate::stop::Stop;
-use crate::tokens::{begins, begins_name, behind, expect, span_of};
+use crate::tokens::{begins, begins_name, behind, closed, expect, span_of};
 use sp_syntax::{Ident, Mark, QueryElement, Token};
 use sqlite_items::Items;
 use std::alloc::Global;
@@ -29,15 +30,10 @@ fn single<'a>(alloc: Global, tokens: &'a [Token]) -> Result<(QueryElement, &'a [
 fn names<'a>(alloc: Global, tokens: &'a [Token]) -> Result<(Items<Ident>, &'a [Token]), Stop>
     ensures { (room : ℕ) → Answers (λ _. g.Names) (among never (reads_as (g.kernel g.name))) room tokens.now (λ p. (p.0, p.1.now)) result }
 {
-    let mut list = Items::new(alloc);
-    let (first, rest) = ident(alloc, tokens)?;
-    list.push(first)?;
-    let (second, mut rest) = ident(alloc, rest)?;
-    list.push(second)?;
+    let (list, rest) = added(Items::new(alloc), ident(alloc, tokens))?;
+    let (mut list, mut rest) = added(list, ident(alloc, rest))?;
     'each: while begins_name(rest) {
-        let (name, after) = ident(alloc, rest)?;
-        list.push(name)?;
-        rest = after;
+        (list, rest) = added(list, ident(alloc, rest))?;
     }
     Ok((list, rest))
 }
@@ -48,9 +44,7 @@ fn set<'a>(alloc: Global, tokens: &'a [Token]) -> Result<(Items<Ident>, &'a [Tok
 {
     let rest = expect(tokens, Mark::Set)?;
     let rest = expect(rest, Mark::LeftRound)?;
-    let (list, rest) = names(alloc, rest)?;
-    let rest = expect(rest, Mark::RightRound)?;
-    Ok((list, rest))
+    closed(names(alloc, rest), Mark::RightRound)
 }
 
 // name [ "+" ] | SET "(" name name { name } ")"
@@ -78,13 +72,9 @@ fn element_row<'a>(
 ) -> Result<(Items<QueryElement>, &'a [Token]), Stop>
     ensures { (room : ℕ) → Answers (λ _. g.MoreOf (g.Alone g.Element) g.Element) (among (reads_as (g.kernel (g.mark m.Plus))) (among (reads_as (g.kernel g.name)) (reads_as (g.kernel (g.mark m.Set))))) room tokens.now (λ p. (p.0, p.1.now)) result }
 {
-    let mut list = Items::new(alloc);
-    let (first, mut rest) = element(alloc, tokens)?;
-    list.push(first)?;
+    let (mut list, mut rest) = added(Items::new(alloc), element(alloc, tokens))?;
     'each: while begins_element(rest) {
-        let (element, after) = element(alloc, rest)?;
-        list.push(element)?;
-        rest = after;
+        (list, rest) = added(list, element(alloc, rest))?;
     }
     Ok((list, rest))
 }
@@ -98,7 +88,5 @@ pub(crate) fn elements<'a>(
 {
     let rest = expect(tokens, Mark::Pattern)?;
     let rest = expect(rest, Mark::LeftRound)?;
-    let (list, rest) = element_row(alloc, rest)?;
-    let rest = expect(rest, Mark::RightRound)?;
-    Ok((list, rest))
+    closed(element_row(alloc, rest), Mark::RightRound)
 }

@@ -5,8 +5,8 @@ ghost use Rattle.sp_parse.specs.Reads.{Answers, Operator, Takes, never};
 
 use crate::expression::sum;
 use crate::stop::Stop;
-use crate::tokens::{begins, expect, span_of};
-use crate::trees::{binary, unary};
+use crate::tokens::{begins, closed, expect, span_of};
+use crate::trees::{joined, unary};
 use sp_plan::Compare;
 use sp_syntax::{Kernel, Mark, Node, Token, Tree, Word};
 use std::alloc::Global;
@@ -35,9 +35,7 @@ fn test<'a>(alloc: Global, tokens: &'a [Token], room: usize) -> Result<(Tree, &'
 {
     let (first, rest) = sum(alloc, tokens, room)?;
     let (node, rest) = compare(rest)?;
-    let (second, rest) = sum(alloc, rest, room)?;
-    let tree = binary(alloc, node, first, second, span_of(tokens, rest))?;
-    Ok((tree, rest))
+    joined(alloc, tokens, first, node, sum(alloc, rest, room))
 }
 
 // sum compare sum | NOT atom | "[" pred "]"
@@ -77,9 +75,7 @@ fn squared<'a>(alloc: Global, tokens: &'a [Token], room: usize) -> Result<(Tree,
     ensures { Answers (λ n. g.Between Mark.LeftSquare (g.Pred n) Mark.RightSquare) never room tokens.now (λ p. (p.0, p.1.now)) result }
 {
     let rest = expect(tokens, Mark::LeftSquare)?;
-    let (tree, rest) = pred(alloc, rest, room)?;
-    let rest = expect(rest, Mark::RightSquare)?;
-    Ok((tree, rest))
+    closed(pred(alloc, rest, room), Mark::RightSquare)
 }
 
 // AND
@@ -111,9 +107,7 @@ fn conj<'a>(alloc: Global, tokens: &'a [Token], room: usize) -> Result<(Tree, &'
 {
     let (mut tree, mut rest) = atom(alloc, tokens, room)?;
     while let Some((node, behind)) = both_hold(rest) {
-        let (right, after) = atom(alloc, behind, room)?;
-        tree = binary(alloc, node, tree, right, span_of(tokens, after))?;
-        rest = after;
+        (tree, rest) = joined(alloc, tokens, tree, node, atom(alloc, behind, room))?;
     }
     Ok((tree, rest))
 }
@@ -129,9 +123,7 @@ pub(crate) fn pred<'a>(
 {
     let (mut tree, mut rest) = conj(alloc, tokens, room)?;
     while let Some((node, behind)) = one_holds(rest) {
-        let (right, after) = conj(alloc, behind, room)?;
-        tree = binary(alloc, node, tree, right, span_of(tokens, after))?;
-        rest = after;
+        (tree, rest) = joined(alloc, tokens, tree, node, conj(alloc, behind, room))?;
     }
     Ok((tree, rest))
 }

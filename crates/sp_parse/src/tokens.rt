@@ -2,7 +2,7 @@
 ghost use Rattle.std.specs.Prelude.{◌≡◌, ◌∷◌, ◌++◌, ◌<◌, List, length, is_some, IfOk, MatchOption, Some, None};
 ghost use Rattle.sp_lex.specs.declared.token.Token.{Token};
 ghost use Rattle.sp_syntax.specs.Grammar as g;
-ghost use Rattle.sp_parse.specs.Reads.{Takes, head_as};
+ghost use Rattle.sp_parse.specs.Reads.{Closes, Takes, head_as};
 
 use crate::stop::Stop;
 use sp_plan::Text;
@@ -74,6 +74,18 @@ pub(crate) fn whole<'a>(tokens: &'a [Token]) -> Result<(u64, &'a [Token]), Stop>
         },
         None => Err(Stop::Unexpected(0)),
     }
+}
+
+// What was read, where this mark is behind it, and the rest behind the mark.
+pub(crate) fn closed<'a, T: Drop>(
+    read: Result<(T, &'a [Token]), Stop>,
+    mark: Mark,
+) -> Result<(T, &'a [Token]), Stop>
+    ensures { Closes (g.kernel (g.mark mark)) read.entry result }
+{
+    let (item, rest) = read?;
+    let rest = expect(rest, mark)?;
+    Ok((item, rest))
 }
 
 // The span of the tokens before the rest.

@@ -1,8 +1,11 @@
 // Trees of a node, its parts and a place.
-ghost use Rattle.std.specs.Prelude.{◌≡◌, [], ◌∷◌, IfOk};
+ghost use Rattle.std.specs.Prelude.{◌≡◌, ◌<◌, [], ◌∷◌, length, IfOk};
 ghost use Rattle.sp_syntax.specs.Trees.{tree_at};
+ghost use Rattle.sp_parse.specs.Reads.{Joins};
 
-use sp_syntax::{Node, Span, Tree};
+use crate::stop::Stop;
+use crate::tokens::span_of;
+use sp_syntax::{Node, Span, Token, Tree};
 use sqlite_items::Items;
 use std::alloc::{AllocError, Global};
 
@@ -26,18 +29,30 @@ pub(crate) fn unary(alloc: Global, node: Node, part: Tree, span: Span) -> Result
     Ok(Tree { node, parts, span })
 }
 
-// A tree of two parts.
-pub(crate) fn binary(
-    alloc: Global,
-    node: Node,
-    first: Tree,
-    second: Tree,
-    span: Span,
-) -> Result<Tree, AllocError>
-    ensures { IfOk result (λ tree. tree ≡ tree_at node (first ∷ second ∷ []) span) }
+// Two parts of a tree.
+fn two(alloc: Global, first: Tree, second: Tree) -> Result<Items<Tree>, AllocError>
+    ensures { IfOk result (λ parts. parts ≡ first ∷ second ∷ []) }
 {
     let mut parts = Items::new(alloc);
     parts.push(first)?;
     parts.push(second)?;
-    Ok(Tree { node, parts, span })
+    Ok(parts)
+}
+
+// The tree of an operand, an operator and the operand that was read behind it, and the rest. The tokens are
+// those from the first operand on.
+pub(crate) fn joined<'a>(
+    alloc: Global,
+    tokens: &[Token],
+    left: Tree,
+    node: Node,
+    right: Result<(Tree, &'a [Token]), Stop>,
+) -> Result<(Tree, &'a [Token]), Stop>
+    requires { IfOk right (λ p. length p.1.now < length tokens.now) }
+    ensures { Joins tokens.now left node right.entry result }
+{
+    let (right, rest) = right?;
+    let parts = two(alloc, left, right)?;
+    let span = span_of(tokens, rest);
+    Ok((Tree { node, parts, span }, rest))
 }

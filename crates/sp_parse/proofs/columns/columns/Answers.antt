@@ -11,11 +11,5 @@ returns-in_err-rest c room = exit _ _ room _ _ _ _ c.from_residual.ensures.1 (f.
 pub returns-in_err-rest-2 : goal.returns-in_err-rest-2
 returns-in_err-rest-2 c room = exit _ _ room _ _ _ _ c.from_residual-in_err-rest-2.ensures.1 (f.clause_left_stops m.Event (λ _. ListOf Column) l.after_list l.list_some l.list_out room _ _ _ c.in_ok-rest.ensures c.in_err-rest-2.ensures)
 
-pub returns-in_err-list : goal.returns-in_err-list
-returns-in_err-list c room = exit _ _ room _ _ _ _ c.from_residual-in_err-list.ensures.1 (f.clause_stops m.Event (λ _. ListOf Column) l.after_list l.list_some l.list_out room _ _ _ _ c.in_ok-rest.ensures c.in_ok-rest-2.ensures (c.in_err-list.ensures room))
-
-pub returns-in_err-rest-3 : goal.returns-in_err-rest-3
-returns-in_err-rest-3 c room = exit _ _ room _ _ _ _ c.from_residual-in_err-rest-3.ensures.1 (f.clause_right_stops m.Event (λ _. ListOf Column) l.after_list l.list_some l.list_out room _ _ _ _ _ _ c.in_ok-rest.ensures c.in_ok-rest-2.ensures (c.in_ok-list.ensures room) c.in_err-rest-3.ensures)
-
 pub returns : goal.returns
-returns c room = f.clause_found m.Event (λ _. ListOf Column) l.after_list l.list_some l.list_out room _ _ _ _ _ _ c.in_ok-rest.ensures c.in_ok-rest-2.ensures (c.in_ok-list.ensures room) c.in_ok-rest-3.ensures
+returns c room = f.clause_closes m.Event (λ _. ListOf Column) l.after_list l.list_some l.list_out room _ _ _ _ _ c.in_ok-rest.ensures c.in_ok-rest-2.ensures (c.column_list.ensures room) c.closed.ensures

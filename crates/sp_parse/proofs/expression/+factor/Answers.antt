@@ -8,21 +8,15 @@ use Rattle.sp_parse.proofs.Levels as l
 use Rattle.sp_parse.proofs.Forms as o
 use Rattle.sp_syntax.specs.declared.tree.Node.TheVariants as n
 use Rattle.sp_parse.proofs.Repeats as g
-use Rattle.sp_parse.proofs.Reading.{exit}
+use Rattle.sp_parse.proofs.Reading.{exit, read_found, read_stops}
 use Rattle.sp_parse.proofs.Factors as f
 use Rattle.sp_parse.proofs.expression.+factor.Goals as goal
 
 pub enclosed-returns-in_err-rest : goal.enclosed-returns-in_err-rest
 enclosed-returns-in_err-rest t c = exit _ _ _ _ _ _ _ c.from_residual.ensures.1 (o.between_first_stops m.LeftRound Sum m.RightRound after_sum f.sum_some f.round_out c.args.room _ _ c.in_err-rest.ensures)
 
-pub enclosed-returns-in_err-tree : goal.enclosed-returns-in_err-tree
-enclosed-returns-in_err-tree t c = exit _ _ _ _ _ _ _ c.from_residual-in_err-tree.ensures.1 (o.between_stops m.LeftRound Sum m.RightRound after_sum f.sum_some f.round_out c.args.room _ _ _ c.in_ok-rest.ensures c.in_err-tree.ensures)
-
-pub enclosed-returns-in_err-rest-2 : goal.enclosed-returns-in_err-rest-2
-enclosed-returns-in_err-rest-2 t c = exit _ _ _ _ _ _ _ c.from_residual-in_err-rest-2.ensures.1 (o.between_last_stops m.LeftRound Sum m.RightRound after_sum f.sum_some f.round_out c.args.room _ _ _ _ _ c.in_ok-rest.ensures c.in_ok-tree.ensures c.in_err-rest-2.ensures)
-
 pub enclosed-returns : goal.enclosed-returns
-enclosed-returns t c = o.between_found m.LeftRound Sum m.RightRound after_sum f.sum_some f.round_out c.args.room _ _ _ _ _ c.in_ok-rest.ensures c.in_ok-tree.ensures c.in_ok-rest-2.ensures
+enclosed-returns t c = o.between_closes m.LeftRound Sum m.RightRound after_sum f.sum_some f.round_out c.args.room _ _ _ _ c.in_ok-rest.ensures c.sum.ensures c.closed.ensures
 
 pub factor-returns-then-room-eq0 : goal.factor-returns-then-room-eq0
 factor-returns-then-room-eq0 t c = f.full_minus _ _ c.if-room-eq0.true (sym c.begins.ensures ∙ c.if-begins.true)
@@ -56,14 +50,20 @@ sum-returns-in_err-tree t c = exit _ _ _ _ _ _ _ c.from_residual.ensures.1
 pub sum-loop-node-init : goal.sum-loop-node-init
 sum-loop-node-init t c = g.starts (kernel plus) (λ n. TermOf (Factor n)) joined after_term f.plus_apart c.args.room _ _ _ c.in_ok-tree.ensures
 
-pub sum-returns-in_err-right : goal.sum-returns-in_err-right
-sum-returns-in_err-right t c = exit _ _ _ _ _ _ _ c.from_residual-in_err-right.ensures.1
-    (g.step_stops (kernel plus) (λ n. TermOf (Factor n)) joined after_term f.plus_apart c.args.room _ _ _ _ _ _ c.in-Some.ensures c.loop-node.invariant c.in_err-right.ensures)
+pub sum-joined-requires : goal.sum-joined-requires
+sum-joined-requires t c = g.step_shortens (kernel plus) (λ n. TermOf (Factor n)) joined after_term f.plus_apart c.args.room _ _ _ _ _ _ c.in-Some.ensures c.loop-node.invariant c.term-in-Some.ensures
+
+pub sum-returns-in_err-tree-2 : goal.sum-returns-in_err-tree-2
+sum-returns-in_err-tree-2 t c = exit _ _ _ _ _ _ _ c.from_residual-in_err-tree-2.ensures.1
+    (g.step_stops (kernel plus) (λ n. TermOf (Factor n)) joined after_term f.plus_apart c.args.room _ _ _ _ _ _ c.in-Some.ensures c.loop-node.invariant (read_stops (λ n. TermOf (Factor n)) after_term c.args.room _ _ _ c.term-in-Some.ensures c.in_err-tree-2.ensures))
+
+pub sum-loop-node-smaller : goal.sum-loop-node-smaller
+sum-loop-node-smaller t c = (g.steps_on (kernel plus) (λ n. TermOf (Factor n)) joined after_term f.plus_apart c.args.room _ _ _ _ _ _ _ c.in-Some.ensures c.loop-node.invariant
+    (read_found (λ n. TermOf (Factor n)) after_term c.args.room _ _ _ _ c.term-in-Some.ensures c.in_ok-tree-2.ensures.1)).shorter
 
 pub sum-loop-node-preserved : goal.sum-loop-node-preserved
-sum-loop-node-preserved t c =
-    let s = g.steps_on (kernel plus) (λ n. TermOf (Factor n)) joined after_term f.plus_apart c.args.room _ _ _ _ _ _ _ c.in-Some.ensures c.loop-node.invariant c.in_ok-right.ensures in
-    s.goes _ (λ front e. c.in_ok-tree-2.ensures ∙ ap (tree_at c.in-Some.node (c.loop-node.tree ∷ c.in_ok-right.right ∷ [])) (c.span_of.ensures front e))
+sum-loop-node-preserved t c = (g.steps_on (kernel plus) (λ n. TermOf (Factor n)) joined after_term f.plus_apart c.args.room _ _ _ _ _ _ _ c.in-Some.ensures c.loop-node.invariant
+    (read_found (λ n. TermOf (Factor n)) after_term c.args.room _ _ _ _ c.term-in-Some.ensures c.in_ok-tree-2.ensures.1)).goes _ c.in_ok-tree-2.ensures.2
 
 pub sum-returns : goal.sum-returns
 sum-returns t c = g.group_ends (kernel plus) (λ n. TermOf (Factor n)) joined after_term f.plus_apart c.args.room _ _ _ c.in_default.ensures c.loop-node.invariant
@@ -75,14 +75,20 @@ term-returns-in_err-tree t c = exit _ _ _ _ _ _ _ c.from_residual.ensures.1
 pub term-loop-node-init : goal.term-loop-node-init
 term-loop-node-init t c = g.starts (kernel times) Factor joined after_factor f.times_apart c.args.room _ _ _ c.in_ok-tree.ensures
 
-pub term-returns-in_err-right : goal.term-returns-in_err-right
-term-returns-in_err-right t c = exit _ _ _ _ _ _ _ c.from_residual-in_err-right.ensures.1
-    (g.step_stops (kernel times) Factor joined after_factor f.times_apart c.args.room _ _ _ _ _ _ c.in-Some.ensures c.loop-node.invariant c.in_err-right.ensures)
+pub term-joined-requires : goal.term-joined-requires
+term-joined-requires t c = g.step_shortens (kernel times) Factor joined after_factor f.times_apart c.args.room _ _ _ _ _ _ c.in-Some.ensures c.loop-node.invariant c.factor-in-Some.ensures
+
+pub term-returns-in_err-tree-2 : goal.term-returns-in_err-tree-2
+term-returns-in_err-tree-2 t c = exit _ _ _ _ _ _ _ c.from_residual-in_err-tree-2.ensures.1
+    (g.step_stops (kernel times) Factor joined after_factor f.times_apart c.args.room _ _ _ _ _ _ c.in-Some.ensures c.loop-node.invariant (read_stops Factor after_factor c.args.room _ _ _ c.factor-in-Some.ensures c.in_err-tree-2.ensures))
+
+pub term-loop-node-smaller : goal.term-loop-node-smaller
+term-loop-node-smaller t c = (g.steps_on (kernel times) Factor joined after_factor f.times_apart c.args.room _ _ _ _ _ _ _ c.in-Some.ensures c.loop-node.invariant
+    (read_found Factor after_factor c.args.room _ _ _ _ c.factor-in-Some.ensures c.in_ok-tree-2.ensures.1)).shorter
 
 pub term-loop-node-preserved : goal.term-loop-node-preserved
-term-loop-node-preserved t c =
-    let s = g.steps_on (kernel times) Factor joined after_factor f.times_apart c.args.room _ _ _ _ _ _ _ c.in-Some.ensures c.loop-node.invariant c.in_ok-right.ensures in
-    s.goes _ (λ front e. c.in_ok-tree-2.ensures ∙ ap (tree_at c.in-Some.node (c.loop-node.tree ∷ c.in_ok-right.right ∷ [])) (c.span_of.ensures front e))
+term-loop-node-preserved t c = (g.steps_on (kernel times) Factor joined after_factor f.times_apart c.args.room _ _ _ _ _ _ _ c.in-Some.ensures c.loop-node.invariant
+    (read_found Factor after_factor c.args.room _ _ _ _ c.factor-in-Some.ensures c.in_ok-tree-2.ensures.1)).goes _ c.in_ok-tree-2.ensures.2
 
 pub term-returns : goal.term-returns
 term-returns t c = g.group_ends (kernel times) Factor joined after_factor f.times_apart c.args.room _ _ _ c.in_default.ensures c.loop-node.invariant

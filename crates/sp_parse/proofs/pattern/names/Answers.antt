@@ -1,25 +1,30 @@
 use Rattle.std.proofs.Common.{sym, ◌∙◌}
-use Rattle.sp_parse.proofs.Reading.{exit}
+use Rattle.sp_syntax.specs.Grammar.{Name}
+use Rattle.sp_parse.specs.Reads.{never}
+use Rattle.sp_parse.proofs.Reading.{exit, read_found, read_stops}
 use Rattle.sp_parse.proofs.PatternClause as p
 use Rattle.sp_parse.proofs.pattern.names.Goals as goal
 
-pub returns-in_err-first : goal.returns-in_err-first
-returns-in_err-first c room = exit _ _ room _ _ _ _ c.from_residual.ensures.1 (p.names_first_stops room _ _ (c.in_err-first.ensures room))
+pub returns-in_err-list : goal.returns-in_err-list
+returns-in_err-list c room = exit _ _ room _ _ _ _ c.from_residual.ensures.1 (p.names_first_stops room _ _ (read_stops (λ _. Name) never room _ _ _ (c.ident.ensures room) c.in_err-list.ensures))
 
-pub returns-in_err-second : goal.returns-in_err-second
-returns-in_err-second c room = exit _ _ room _ _ _ _ c.from_residual-in_err-second.ensures.1 (p.names_second_stops room _ _ _ _ (c.in_ok-first.ensures room) (c.in_err-second.ensures room))
+pub returns-in_err-list-2 : goal.returns-in_err-list-2
+returns-in_err-list-2 c room = exit _ _ room _ _ _ _ c.from_residual-in_err-list-2.ensures.1 (p.names_second_stops room _ _ _ _ (read_found (λ _. Name) never room _ _ _ _ (c.ident.ensures room) c.in_ok-list.ensures.1)
+    (read_stops (λ _. Name) never room _ _ _ (c.ident-2.ensures room) c.in_err-list-2.ensures))
 
 pub each-init : goal.each-init
-each-init c room = p.names_set_out room _ _ _ _ _ _ _ _ c.new-list.ensures c.in_ok-push.ensures.ok c.in_ok-push-2.ensures.ok (c.in_ok-first.ensures room) (c.in_ok-second.ensures room)
+each-init c room = p.names_set_out room _ _ _ _ _ _ _ _ c.new.ensures c.in_ok-list.ensures.2 c.in_ok-list-2.ensures.2 (read_found (λ _. Name) never room _ _ _ _ (c.ident.ensures room) c.in_ok-list.ensures.1)
+    (read_found (λ _. Name) never room _ _ _ _ (c.ident-2.ensures room) c.in_ok-list-2.ensures.1)
 
-pub returns-in_err-name : goal.returns-in_err-name
-returns-in_err-name c room = exit _ _ room _ _ _ _ c.from_residual-in_err-name.ensures.1 (p.names_next_stops room _ _ _ _ (sym c.begins_name.ensures ∙ c.each-test.true) (c.each.invariant room) (c.in_err-name.ensures room))
+pub returns-in_err-list-3 : goal.returns-in_err-list-3
+returns-in_err-list-3 c room = exit _ _ room _ _ _ _ c.from_residual-in_err-list-3.ensures.1 (p.names_next_stops room _ _ _ _ (sym c.begins_name.ensures ∙ c.each-test.true) (c.each.invariant room)
+    (read_stops (λ _. Name) never room _ _ _ (c.ident-in-each.ensures room) c.in_err-list-3.ensures))
 
 pub each-smaller : goal.each-smaller
-each-smaller c = p.name_shorter 0 _ _ _ (c.in_ok-name.ensures 0)
+each-smaller c = p.name_shorter 0 _ _ _ (read_found (λ _. Name) never 0 _ _ _ _ (c.ident-in-each.ensures 0) c.in_ok-list-3.ensures.1)
 
 pub each-preserved : goal.each-preserved
-each-preserved c room = p.names_go_on room _ _ _ _ _ _ c.in_ok-push-3.ensures.ok (sym c.begins_name.ensures ∙ c.each-test.true) (c.each.invariant room) (c.in_ok-name.ensures room)
+each-preserved c room = p.names_go_on room _ _ _ _ _ _ c.in_ok-list-3.ensures.2 (sym c.begins_name.ensures ∙ c.each-test.true) (c.each.invariant room) (read_found (λ _. Name) never room _ _ _ _ (c.ident-in-each.ensures room) c.in_ok-list-3.ensures.1)
 
 pub returns : goal.returns
 returns c room = p.names_arrive room _ _ _ (sym c.begins_name.ensures ∙ c.each-test.false) (c.each.invariant room)

@@ -8,21 +8,15 @@ use Rattle.sp_parse.proofs.Levels as l
 use Rattle.sp_parse.proofs.Forms as o
 use Rattle.sp_syntax.specs.declared.tree.Node.TheVariants as n
 use Rattle.sp_parse.proofs.Repeats as g
-use Rattle.sp_parse.proofs.Reading.{exit}
+use Rattle.sp_parse.proofs.Reading.{exit, read_found, read_stops}
 use Rattle.sp_parse.proofs.Atoms as f
 use Rattle.sp_parse.proofs.predicate.+atom.Goals as goal
 
 pub squared-returns-in_err-rest : goal.squared-returns-in_err-rest
 squared-returns-in_err-rest t c = exit _ _ _ _ _ _ _ c.from_residual.ensures.1 (o.between_first_stops m.LeftSquare Pred m.RightSquare after_pred f.pred_some f.square_out c.args.room _ _ c.in_err-rest.ensures)
 
-pub squared-returns-in_err-tree : goal.squared-returns-in_err-tree
-squared-returns-in_err-tree t c = exit _ _ _ _ _ _ _ c.from_residual-in_err-tree.ensures.1 (o.between_stops m.LeftSquare Pred m.RightSquare after_pred f.pred_some f.square_out c.args.room _ _ _ c.in_ok-rest.ensures c.in_err-tree.ensures)
-
-pub squared-returns-in_err-rest-2 : goal.squared-returns-in_err-rest-2
-squared-returns-in_err-rest-2 t c = exit _ _ _ _ _ _ _ c.from_residual-in_err-rest-2.ensures.1 (o.between_last_stops m.LeftSquare Pred m.RightSquare after_pred f.pred_some f.square_out c.args.room _ _ _ _ _ c.in_ok-rest.ensures c.in_ok-tree.ensures c.in_err-rest-2.ensures)
-
 pub squared-returns : goal.squared-returns
-squared-returns t c = o.between_found m.LeftSquare Pred m.RightSquare after_pred f.pred_some f.square_out c.args.room _ _ _ _ _ c.in_ok-rest.ensures c.in_ok-tree.ensures c.in_ok-rest-2.ensures
+squared-returns t c = o.between_closes m.LeftSquare Pred m.RightSquare after_pred f.pred_some f.square_out c.args.room _ _ _ _ c.in_ok-rest.ensures c.pred.ensures c.closed.ensures
 
 pub atom-returns-then-room-eq0 : goal.atom-returns-then-room-eq0
 atom-returns-then-room-eq0 t c = f.full_not _ _ c.if-room-eq0.true (sym c.begins.ensures ∙ c.if-begins.true)
@@ -56,14 +50,20 @@ pred-returns-in_err-tree t c = exit _ _ _ _ _ _ _ c.from_residual.ensures.1
 pub pred-loop-node-init : goal.pred-loop-node-init
 pred-loop-node-init t c = g.starts (kernel one_holds) (λ n. ConjOf (Atom n)) joined after_conj f.one_apart c.args.room _ _ _ c.in_ok-tree.ensures
 
-pub pred-returns-in_err-right : goal.pred-returns-in_err-right
-pred-returns-in_err-right t c = exit _ _ _ _ _ _ _ c.from_residual-in_err-right.ensures.1
-    (g.step_stops (kernel one_holds) (λ n. ConjOf (Atom n)) joined after_conj f.one_apart c.args.room _ _ _ _ _ _ c.in-Some.ensures c.loop-node.invariant c.in_err-right.ensures)
+pub pred-joined-requires : goal.pred-joined-requires
+pred-joined-requires t c = g.step_shortens (kernel one_holds) (λ n. ConjOf (Atom n)) joined after_conj f.one_apart c.args.room _ _ _ _ _ _ c.in-Some.ensures c.loop-node.invariant c.conj-in-Some.ensures
+
+pub pred-returns-in_err-tree-2 : goal.pred-returns-in_err-tree-2
+pred-returns-in_err-tree-2 t c = exit _ _ _ _ _ _ _ c.from_residual-in_err-tree-2.ensures.1
+    (g.step_stops (kernel one_holds) (λ n. ConjOf (Atom n)) joined after_conj f.one_apart c.args.room _ _ _ _ _ _ c.in-Some.ensures c.loop-node.invariant (read_stops (λ n. ConjOf (Atom n)) after_conj c.args.room _ _ _ c.conj-in-Some.ensures c.in_err-tree-2.ensures))
+
+pub pred-loop-node-smaller : goal.pred-loop-node-smaller
+pred-loop-node-smaller t c = (g.steps_on (kernel one_holds) (λ n. ConjOf (Atom n)) joined after_conj f.one_apart c.args.room _ _ _ _ _ _ _ c.in-Some.ensures c.loop-node.invariant
+    (read_found (λ n. ConjOf (Atom n)) after_conj c.args.room _ _ _ _ c.conj-in-Some.ensures c.in_ok-tree-2.ensures.1)).shorter
 
 pub pred-loop-node-preserved : goal.pred-loop-node-preserved
-pred-loop-node-preserved t c =
-    let s = g.steps_on (kernel one_holds) (λ n. ConjOf (Atom n)) joined after_conj f.one_apart c.args.room _ _ _ _ _ _ _ c.in-Some.ensures c.loop-node.invariant c.in_ok-right.ensures in
-    s.goes _ (λ front e. c.in_ok-tree-2.ensures ∙ ap (tree_at c.in-Some.node (c.loop-node.tree ∷ c.in_ok-right.right ∷ [])) (c.span_of.ensures front e))
+pred-loop-node-preserved t c = (g.steps_on (kernel one_holds) (λ n. ConjOf (Atom n)) joined after_conj f.one_apart c.args.room _ _ _ _ _ _ _ c.in-Some.ensures c.loop-node.invariant
+    (read_found (λ n. ConjOf (Atom n)) after_conj c.args.room _ _ _ _ c.conj-in-Some.ensures c.in_ok-tree-2.ensures.1)).goes _ c.in_ok-tree-2.ensures.2
 
 pub pred-returns : goal.pred-returns
 pred-returns t c = g.group_ends (kernel one_holds) (λ n. ConjOf (Atom n)) joined after_conj f.one_apart c.args.room _ _ _ c.in_default.ensures c.loop-node.invariant
@@ -75,14 +75,20 @@ conj-returns-in_err-tree t c = exit _ _ _ _ _ _ _ c.from_residual.ensures.1
 pub conj-loop-node-init : goal.conj-loop-node-init
 conj-loop-node-init t c = g.starts (kernel both_hold) Atom joined after_sum f.both_apart c.args.room _ _ _ c.in_ok-tree.ensures
 
-pub conj-returns-in_err-right : goal.conj-returns-in_err-right
-conj-returns-in_err-right t c = exit _ _ _ _ _ _ _ c.from_residual-in_err-right.ensures.1
-    (g.step_stops (kernel both_hold) Atom joined after_sum f.both_apart c.args.room _ _ _ _ _ _ c.in-Some.ensures c.loop-node.invariant c.in_err-right.ensures)
+pub conj-joined-requires : goal.conj-joined-requires
+conj-joined-requires t c = g.step_shortens (kernel both_hold) Atom joined after_sum f.both_apart c.args.room _ _ _ _ _ _ c.in-Some.ensures c.loop-node.invariant c.atom-in-Some.ensures
+
+pub conj-returns-in_err-tree-2 : goal.conj-returns-in_err-tree-2
+conj-returns-in_err-tree-2 t c = exit _ _ _ _ _ _ _ c.from_residual-in_err-tree-2.ensures.1
+    (g.step_stops (kernel both_hold) Atom joined after_sum f.both_apart c.args.room _ _ _ _ _ _ c.in-Some.ensures c.loop-node.invariant (read_stops Atom after_sum c.args.room _ _ _ c.atom-in-Some.ensures c.in_err-tree-2.ensures))
+
+pub conj-loop-node-smaller : goal.conj-loop-node-smaller
+conj-loop-node-smaller t c = (g.steps_on (kernel both_hold) Atom joined after_sum f.both_apart c.args.room _ _ _ _ _ _ _ c.in-Some.ensures c.loop-node.invariant
+    (read_found Atom after_sum c.args.room _ _ _ _ c.atom-in-Some.ensures c.in_ok-tree-2.ensures.1)).shorter
 
 pub conj-loop-node-preserved : goal.conj-loop-node-preserved
-conj-loop-node-preserved t c =
-    let s = g.steps_on (kernel both_hold) Atom joined after_sum f.both_apart c.args.room _ _ _ _ _ _ _ c.in-Some.ensures c.loop-node.invariant c.in_ok-right.ensures in
-    s.goes _ (λ front e. c.in_ok-tree-2.ensures ∙ ap (tree_at c.in-Some.node (c.loop-node.tree ∷ c.in_ok-right.right ∷ [])) (c.span_of.ensures front e))
+conj-loop-node-preserved t c = (g.steps_on (kernel both_hold) Atom joined after_sum f.both_apart c.args.room _ _ _ _ _ _ _ c.in-Some.ensures c.loop-node.invariant
+    (read_found Atom after_sum c.args.room _ _ _ _ c.atom-in-Some.ensures c.in_ok-tree-2.ensures.1)).goes _ c.in_ok-tree-2.ensures.2
 
 pub conj-returns : goal.conj-returns
 conj-returns t c = g.group_ends (kernel both_hold) Atom joined after_sum f.both_apart c.args.room _ _ _ c.in_default.ensures c.loop-node.invariant

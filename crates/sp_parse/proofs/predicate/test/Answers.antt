@@ -1,5 +1,3 @@
-use Rattle.std.proofs.Common.{[], ◌∷◌, ◌∙◌, ap}
-use Rattle.sp_syntax.specs.Trees.{tree_at}
 use Rattle.sp_parse.proofs.Reading.{exit}
 use Rattle.sp_parse.proofs.Atoms as f
 use Rattle.sp_parse.proofs.predicate.test.Goals as goal
@@ -10,9 +8,8 @@ returns-in_err-first c = exit _ _ _ _ _ _ _ c.from_residual.ensures.1 (f.test_fi
 pub returns-in_err-node : goal.returns-in_err-node
 returns-in_err-node c = exit _ _ _ _ _ _ _ c.from_residual-in_err-node.ensures.1 (f.test_by_stops c.args.room _ _ _ _ c.in_ok-first.ensures c.in_err-node.ensures)
 
-pub returns-in_err-second : goal.returns-in_err-second
-returns-in_err-second c = exit _ _ _ _ _ _ _ c.from_residual-in_err-second.ensures.1 (f.test_second_stops c.args.room _ _ _ _ _ _ c.in_ok-first.ensures c.in_ok-node.ensures c.in_err-second.ensures)
+pub joined-requires : goal.joined-requires
+joined-requires c = f.test_shortens c.args.room _ _ _ _ _ _ c.in_ok-first.ensures c.in_ok-node.ensures c.sum-2.ensures
 
 pub returns : goal.returns
-returns c = f.test_found c.args.room _ _ _ _ _ _ _ _ c.in_ok-first.ensures c.in_ok-node.ensures c.in_ok-second.ensures
-    (λ front e. c.in_ok-tree.ensures ∙ ap (tree_at c.in_ok-node.node (c.in_ok-first.first ∷ c.in_ok-second.second ∷ [])) (c.span_of.ensures front e))
+returns c = f.test_answers c.args.room _ _ _ _ _ _ _ c.in_ok-first.ensures c.in_ok-node.ensures c.sum-2.ensures c.joined.ensures
