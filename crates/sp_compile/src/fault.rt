@@ -2,7 +2,7 @@
 ghost use Rattle.std.specs.Prelude.{◌≡◌, Some, None, IfOk, IfErr};
 ghost use Rattle.sp_compile.specs.Codes.{code_of, place_of};
 
-use sp_syntax::Span;
+use sp_query::Span;
 use std::alloc::AllocError;
 
 /// Why a query can't be meant, with the part of its text where the first fault is.

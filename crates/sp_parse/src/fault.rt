@@ -2,7 +2,7 @@
 ghost use Rattle.std.specs.Prelude.{◌≡◌};
 ghost use Rattle.sp_parse.specs.Codes.{code_of, place_of};
 
-use sp_syntax::LexFault;
+use sp_query::LexFault;
 
 /// Why a text is no query. Places are bytes of the text, from 0.
 #[derive(Debug, Drop, thiserror::Error)]

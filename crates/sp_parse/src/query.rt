@@ -1,9 +1,9 @@
 // A whole query from tokens.
 ghost use Rattle.std.specs.Prelude.{◌≡◌, ℕ, IfOk, IfErr};
-ghost use Rattle.sp_syntax.specs.declared.mark.Mark.TheVariants as m;
-ghost use Rattle.sp_syntax.specs.declared.query.Query.{Query};
-ghost use Rattle.sp_syntax.specs.Grammar as g;
-ghost use Rattle.sp_syntax.specs.Phrase.{Optional};
+ghost use Rattle.sp_query.specs.declared.mark.Mark.TheVariants as m;
+ghost use Rattle.sp_query.specs.declared.query.Query.{Query};
+ghost use Rattle.sp_query.specs.Grammar as g;
+ghost use Rattle.sp_query.specs.Phrase.{Optional};
 ghost use Rattle.sp_parse.specs.Follow.{after_definitions};
 ghost use Rattle.sp_parse.specs.Parses.{Halts, IsFrom};
 ghost use Rattle.sp_parse.specs.Reads.{Answers, among, never, reads_as};
@@ -14,7 +14,7 @@ use crate::definitions::{definitions, opening};
 use crate::pattern::elements;
 use crate::stop::Stop;
 use crate::tokens::begins;
-use sp_syntax::{Ident, Mark, Query, Token, Tree};
+use sp_query::{Ident, Mark, Query, Token, Tree};
 use sqlite_items::Items;
 use std::alloc::Global;
 

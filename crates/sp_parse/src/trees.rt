@@ -1,8 +1,8 @@
 // Trees of a node, its parts and a place.
 ghost use Rattle.std.specs.Prelude.{◌≡◌, [], ◌∷◌, IfOk};
-ghost use Rattle.sp_syntax.specs.Trees.{tree_at};
+ghost use Rattle.sp_query.specs.Trees.{tree_at};
 
-use sp_syntax::{Node, Span, Tree};
+use sp_query::{Node, Span, Tree};
 use sqlite_items::Items;
 use std::alloc::{AllocError, Global};
 
