@@ -9,11 +9,11 @@ use Rattle.std.proofs.lemmas.List.Folds.{list_any_at}
 use Rattle.std.proofs.lemmas.Slice.Eq.{bytes_eq-Decides}
 use Rattle.sp_lex.specs.declared.token.Word.{Word}
 use Rattle.sp_lex.specs.declared.token.Word.TheVariants as w
-use Rattle.sp_syntax.specs.declared.query.Ident.{Ident}
-use Rattle.sp_syntax.specs.declared.query.QueryColumn.{QueryColumn}
+use Rattle.sp_query.specs.declared.query.Ident.{Ident}
+use Rattle.sp_query.specs.declared.query.QueryColumn.{QueryColumn}
 use Rattle.sp_compile.specs.declared.fault.CompileFault.{CompileFault}
 use Rattle.sp_compile.specs.declared.fault.CompileFault.TheVariants as f
-use Rattle.sp_syntax.specs.declared.query.Query.{Query}
+use Rattle.sp_query.specs.declared.query.Query.{Query}
 use Rattle.sp_compile.specs.Scopes.{pattern_names}
 use Rattle.sp_compile.specs.Answers.{IsNamed}
 use Rattle.sp_compile.specs.Sorts.{first}

@@ -2,9 +2,9 @@
 use Rattle.std.proofs.Common.{◌≡◌, ℕ, Bool, List, Some, refl, sym, ap, subst, arith}
 use Rattle.sp_plan.specs.declared.event.Event.{Event}
 use Rattle.sp_plan.specs.Values.{BoundEvents}
-use Rattle.sp_syntax.specs.declared.tree.Tree.{Tree, out-Tree}
-use Rattle.sp_syntax.specs.declared.tree.Node.{Node}
-use Rattle.sp_syntax.specs.declared.tree.Node.TheVariants as n
+use Rattle.sp_query.specs.declared.tree.Tree.{Tree, out-Tree}
+use Rattle.sp_query.specs.declared.tree.Node.{Node}
+use Rattle.sp_query.specs.declared.tree.Node.TheVariants as n
 use Rattle.sp_compile.specs.Scopes.{Scope}
 use Rattle.sp_compile.specs.Meaning.{Datum, constant_datum, combined, Means, constant, own, earlier, minus, binary, Truth, test, both, either, denied}
 use Rattle.sp_compile.proofs.OneFault.{kind}

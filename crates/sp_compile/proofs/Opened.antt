@@ -6,8 +6,8 @@ use Rattle.sp_lex.specs.declared.token.Word.{Word}
 use Rattle.sp_lex.specs.declared.token.Word.TheVariants as w
 use Rattle.sp_plan.specs.declared.plan.Opening.{Opening}
 use Rattle.sp_plan.specs.Compiled.{OpeningWithin}
-use Rattle.sp_syntax.specs.declared.query.Query.{Query}
-use Rattle.sp_syntax.specs.declared.query.QueryOpening.TheVariants as o
+use Rattle.sp_query.specs.declared.query.Query.{Query}
+use Rattle.sp_query.specs.declared.query.QueryOpening.TheVariants as o
 use Rattle.sp_compile.specs.declared.fault.CompileFault.{CompileFault}
 use Rattle.sp_compile.specs.declared.fault.CompileFault.TheVariants as f
 use Rattle.sp_compile.specs.Checks.{step_is_fine, OpeningFault}

@@ -6,9 +6,9 @@ use Rattle.sp_plan.specs.declared.plan.Expr.{Expr}
 use Rattle.sp_plan.specs.declared.plan.Pred.{Pred}
 use Rattle.sp_plan.specs.Bounds.{PredWithin}
 use Rattle.sp_plan.specs.Values.{BoundEvents, holds}
-use Rattle.sp_syntax.specs.declared.tree.Tree.{Tree, out-Tree}
-use Rattle.sp_syntax.specs.declared.tree.Node.{Node}
-use Rattle.sp_syntax.specs.declared.tree.Node.TheVariants as n
+use Rattle.sp_query.specs.declared.tree.Tree.{Tree, out-Tree}
+use Rattle.sp_query.specs.declared.tree.Node.{Node}
+use Rattle.sp_query.specs.declared.tree.Node.TheVariants as n
 use Rattle.sp_compile.specs.declared.fault.CompileFault.{CompileFault}
 use Rattle.sp_compile.specs.declared.fault.CompileFault.TheVariants as f
 use Rattle.sp_compile.specs.declared.sort.Sort.{Sort}

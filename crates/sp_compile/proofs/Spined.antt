@@ -1,7 +1,7 @@
 -- The left operands of a tree, and the parts of each.
 use Rattle.std.proofs.Common.{◌≡◌, ◌≤◌, ◌<◌, List, [], ◌∷◌, ◌++◌, length, get_or, Bor, refl, sym, ap, ◌∙◌, subst, arith}
-use Rattle.sp_syntax.specs.declared.tree.Tree.{Tree, out-Tree, size-Tree}
-use Rattle.sp_syntax.specs.declared.tree.Tree.TheViews.{size_is-Tree}
+use Rattle.sp_query.specs.declared.tree.Tree.{Tree, out-Tree, size-Tree}
+use Rattle.sp_query.specs.declared.tree.Tree.TheViews.{size_is-Tree}
 use Rattle.sp_compile.specs.Spines.{Spine, ends, goes}
 
 -- of two parts the first, and another

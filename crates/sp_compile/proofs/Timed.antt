@@ -6,8 +6,8 @@ use Rattle.sp_lex.specs.declared.token.Word.TheVariants as w
 use Rattle.sp_plan.specs.declared.plan.Column.{Column}
 use Rattle.sp_plan.specs.declared.plan.Kind.TheVariants.{Int}
 use Rattle.sp_plan.specs.Compiled.{IsTimeOf}
-use Rattle.sp_syntax.specs.declared.query.Ident.{Ident}
-use Rattle.sp_syntax.specs.declared.query.QueryColumn.{QueryColumn}
+use Rattle.sp_query.specs.declared.query.Ident.{Ident}
+use Rattle.sp_query.specs.declared.query.QueryColumn.{QueryColumn}
 use Rattle.sp_compile.specs.Scopes.{column_place}
 use Rattle.sp_compile.specs.Sorts.{column_there}
 use Rattle.sp_compile.specs.Checks.{is_whole, time_column_fault, time_fault}

@@ -7,8 +7,8 @@ use Rattle.sp_plan.specs.declared.plan.Expr.{Expr}
 use Rattle.sp_plan.specs.declared.plan.Pred.{Pred}
 use Rattle.sp_plan.specs.Bounds.{bound, StaysWithin, PredWithin}
 use Rattle.sp_plan.specs.Values.{BoundEvents, value, holds}
-use Rattle.sp_syntax.specs.declared.tree.Tree.{Tree}
-use Rattle.sp_syntax.specs.declared.query.Query.{Query}
+use Rattle.sp_query.specs.declared.tree.Tree.{Tree}
+use Rattle.sp_query.specs.declared.query.Query.{Query}
 use Rattle.sp_compile.specs.declared.fault.CompileFault.{CompileFault}
 use Rattle.sp_compile.specs.declared.fault.CompileFault.TheVariants as f
 use Rattle.sp_compile.specs.declared.sort.Sort.{Sort}

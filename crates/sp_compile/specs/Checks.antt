@@ -7,18 +7,18 @@ use Rattle.sp_lex.specs.declared.token.Word.{Word}
 use Rattle.sp_lex.specs.declared.token.Word.TheVariants as w
 use Rattle.sp_plan.specs.declared.plan.Compare.{Compare}
 use Rattle.sp_plan.specs.Windows.{windows_per_event}
-use Rattle.sp_syntax.specs.declared.tree.Tree.{Tree, out-Tree}
-use Rattle.sp_syntax.specs.declared.tree.Node.{Node}
-use Rattle.sp_syntax.specs.declared.tree.Node.TheVariants as n
-use Rattle.sp_syntax.specs.declared.query.Ident.{Ident}
-use Rattle.sp_syntax.specs.declared.query.Query.{Query}
-use Rattle.sp_syntax.specs.declared.query.QueryColumn.{QueryColumn}
-use Rattle.sp_syntax.specs.declared.query.QueryElement.{QueryElement}
-use Rattle.sp_syntax.specs.declared.query.QueryElement.TheVariants as e
-use Rattle.sp_syntax.specs.declared.query.QueryOpening.{QueryOpening}
-use Rattle.sp_syntax.specs.declared.query.QueryOpening.TheVariants as o
-use Rattle.sp_syntax.specs.declared.query.QueryConsume.{QueryConsume}
-use Rattle.sp_syntax.specs.declared.query.QueryConsume.TheVariants as u
+use Rattle.sp_query.specs.declared.tree.Tree.{Tree, out-Tree}
+use Rattle.sp_query.specs.declared.tree.Node.{Node}
+use Rattle.sp_query.specs.declared.tree.Node.TheVariants as n
+use Rattle.sp_query.specs.declared.query.Ident.{Ident}
+use Rattle.sp_query.specs.declared.query.Query.{Query}
+use Rattle.sp_query.specs.declared.query.QueryColumn.{QueryColumn}
+use Rattle.sp_query.specs.declared.query.QueryElement.{QueryElement}
+use Rattle.sp_query.specs.declared.query.QueryElement.TheVariants as e
+use Rattle.sp_query.specs.declared.query.QueryOpening.{QueryOpening}
+use Rattle.sp_query.specs.declared.query.QueryOpening.TheVariants as o
+use Rattle.sp_query.specs.declared.query.QueryConsume.{QueryConsume}
+use Rattle.sp_query.specs.declared.query.QueryConsume.TheVariants as u
 use Rattle.sp_compile.specs.declared.fault.CompileFault.{CompileFault}
 use Rattle.sp_compile.specs.declared.fault.CompileFault.TheVariants as f
 use Rattle.sp_compile.specs.declared.sort.Sort.{Sort}

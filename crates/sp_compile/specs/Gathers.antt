@@ -1,7 +1,7 @@
 -- The texts of trees, put behind those so far.
 use Rattle.std.specs.Prelude.{◌≡◌, ℕ, List, fold}
 use Rattle.sp_plan.specs.Texts.{with_text}
-use Rattle.sp_syntax.specs.declared.tree.Tree.{Tree}
+use Rattle.sp_query.specs.declared.tree.Tree.{Tree}
 use Rattle.sp_compile.specs.Stands.{Literals}
 
 -- The texts of these trees were put, each that was new, behind those before.

@@ -4,9 +4,9 @@ use Rattle.std.specs.List.{All, AllZip}
 use Rattle.std.specs.Str.{bytes_eq}
 use Rattle.sp_plan.specs.declared.plan.Name.{Name}
 use Rattle.sp_plan.specs.Bounds.{PredWithin}
-use Rattle.sp_syntax.specs.declared.tree.Tree.{Tree}
-use Rattle.sp_syntax.specs.declared.query.Ident.{Ident}
-use Rattle.sp_syntax.specs.declared.query.Query.{Query}
+use Rattle.sp_query.specs.declared.tree.Tree.{Tree}
+use Rattle.sp_query.specs.declared.query.Ident.{Ident}
+use Rattle.sp_query.specs.declared.query.Query.{Query}
 use Rattle.sp_compile.specs.declared.fault.CompileFault.{CompileFault}
 use Rattle.sp_compile.specs.declared.fault.CompileFault.TheVariants as f
 use Rattle.sp_compile.specs.Scopes.{pattern_names, name_place}

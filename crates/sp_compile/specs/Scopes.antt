@@ -2,11 +2,11 @@
 use Rattle.std.specs.Prelude.{ℕ, suc, List, [], ◌∷◌, ◌++◌, map, Option}
 use Rattle.std.specs.List.{position}
 use Rattle.std.specs.Str.{bytes_eq}
-use Rattle.sp_syntax.specs.declared.query.Ident.{Ident}
-use Rattle.sp_syntax.specs.declared.query.Query.{Query}
-use Rattle.sp_syntax.specs.declared.query.QueryColumn.{QueryColumn}
-use Rattle.sp_syntax.specs.declared.query.QueryElement.{QueryElement}
-use Rattle.sp_syntax.specs.declared.query.QueryElement.TheVariants as e
+use Rattle.sp_query.specs.declared.query.Ident.{Ident}
+use Rattle.sp_query.specs.declared.query.Query.{Query}
+use Rattle.sp_query.specs.declared.query.QueryColumn.{QueryColumn}
+use Rattle.sp_query.specs.declared.query.QueryElement.{QueryElement}
+use Rattle.sp_query.specs.declared.query.QueryElement.TheVariants as e
 
 -- the names of an element
 abbrev pub names_in : QueryElement → List Ident

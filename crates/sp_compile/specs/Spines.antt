@@ -1,7 +1,7 @@
 -- The left operands of a tree.
 use Rattle.std.specs.Prelude.{◌≡◌, List, [], ◌∷◌, ◌++◌}
 use Rattle.std.specs.Borrow.{Bor}
-use Rattle.sp_syntax.specs.declared.tree.Tree.{Tree, out-Tree}
+use Rattle.sp_query.specs.declared.tree.Tree.{Tree, out-Tree}
 
 -- From the root of a tree to one below it, these are the nodes on the way, each one's left part the next.
 pub data Spine (root : Tree) : List (Bor Tree) → Tree → Type 0 where

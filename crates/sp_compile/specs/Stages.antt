@@ -6,8 +6,8 @@ use Rattle.sp_plan.specs.declared.plan.Plan.{Plan}
 use Rattle.sp_plan.specs.declared.plan.Schema.{Schema}
 use Rattle.sp_plan.specs.Compiled.{OpeningWithin}
 use Rattle.sp_plan.specs.Windows.{IsOpening}
-use Rattle.sp_syntax.specs.declared.query.Ident.{Ident}
-use Rattle.sp_syntax.specs.declared.query.Query.{Query}
+use Rattle.sp_query.specs.declared.query.Ident.{Ident}
+use Rattle.sp_query.specs.declared.query.Query.{Query}
 use Rattle.sp_compile.specs.declared.fault.CompileFault.{CompileFault}
 use Rattle.sp_compile.specs.declared.fault.CompileFault.TheVariants as f
 use Rattle.sp_compile.specs.Scopes.{pattern_names}

@@ -1,7 +1,7 @@
 // Operators of expressions. Numbers are raised to one scale before they are added or compared.
 ghost use Rattle.std.specs.Prelude.{◌≡◌, ◌≤◌, ◌*◌, ◌^◌, true, Ok, Err, IfOk, MatchResult};
 ghost use Rattle.sp_plan.specs.Bounds.{bound, greatest, StaysWithin};
-ghost use Rattle.sp_syntax.specs.declared.tree.Node.TheVariants as n;
+ghost use Rattle.sp_query.specs.declared.tree.Node.TheVariants as n;
 ghost use Rattle.sp_compile.specs.Sorts.{is_arithmetic, operator_sort, negative_sort, product_sort, sum_sort};
 ghost use Rattle.sp_compile.specs.Meaning.{combined, negative};
 ghost use Rattle.sp_compile.specs.Parts.{within_limit, limit_of_sum, raises, IsScaled, IsSound, comes_to, MadeAnswer, RaisedAnswer, AlignedAnswer};
@@ -10,7 +10,7 @@ use crate::boxed::{boxed, boxed_pair};
 use crate::expression::both;
 use crate::{CompileFault, Sort};
 use sp_plan::Expr;
-use sp_syntax::{Node, Span};
+use sp_query::{Node, Span};
 use std::alloc::Global;
 
 // The greatest magnitude that a value may have.

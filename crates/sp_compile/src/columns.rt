@@ -9,7 +9,7 @@ ghost use Rattle.sp_compile.specs.Stands as stands;
 use crate::CompileFault;
 use crate::lookup::column_place;
 use sp_plan::{Column, Kind, Listed, Schema, Text};
-use sp_syntax::{Ident, Query, QueryColumn, Word};
+use sp_query::{Ident, Query, QueryColumn, Word};
 use std::alloc::{AllocError, Global};
 
 /// How many columns a query may have.

@@ -8,7 +8,7 @@ ghost use Rattle.sp_compile.specs.Parts.{IsSound, comes_to, MadePredAnswer, Side
 use crate::arithmetic::{raise, raised_bound};
 use crate::{CompileFault, Sort};
 use sp_plan::{Compare, Expr, Pred};
-use sp_syntax::Span;
+use sp_query::Span;
 use std::alloc::Global;
 
 // Where a comparison and its sides stand.

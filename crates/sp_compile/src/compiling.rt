@@ -18,7 +18,7 @@ use crate::opening::opening;
 use crate::texts::texts;
 use crate::window::{length_fault, plan_length};
 use sp_plan::{Element, Listed, Name, Opening, Plan, Schema, Select, Text};
-use sp_syntax::{Query, Word};
+use sp_query::{Query, Word};
 use std::alloc::{AllocError, Global};
 
 // The names of the pattern, where columns and elements have no fault.

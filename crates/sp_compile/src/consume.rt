@@ -2,7 +2,7 @@
 ghost use Rattle.std.specs.Prelude.{◌≡◌, [], map};
 ghost use Rattle.std.specs.List.{list_any};
 ghost use Rattle.std.specs.Str.{bytes_eq};
-ghost use Rattle.sp_syntax.specs.declared.query.Query.{Query};
+ghost use Rattle.sp_query.specs.declared.query.Query.{Query};
 ghost use Rattle.sp_compile.specs.Checks as checks;
 ghost use Rattle.sp_compile.specs.Scopes as scopes;
 ghost use Rattle.sp_compile.specs.Stands as stands;
@@ -11,7 +11,7 @@ use crate::CompileFault;
 use crate::elements::Named;
 use crate::lookup::given_place;
 use sp_plan::Text;
-use sp_syntax::{Ident, Query, QueryConsume};
+use sp_query::{Ident, Query, QueryConsume};
 
 // Whether one of these names has the text.
 fn is_among(names: &[Ident], text: &Text) -> bool

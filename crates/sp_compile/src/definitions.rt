@@ -18,7 +18,7 @@ use crate::lookup::given_place;
 use crate::predicate::predicate;
 use crate::scope::Scope;
 use sp_plan::{Listed, Memory, Name, Pred, Text};
-use sp_syntax::{Ident, Query, Tree};
+use sp_query::{Ident, Query, Tree};
 use std::alloc::Global;
 
 // Whether one of these definitions is of a name with the text.

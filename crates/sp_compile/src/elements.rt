@@ -8,7 +8,7 @@ ghost use Rattle.sp_compile.specs.Stands as stands;
 use crate::CompileFault;
 use crate::lookup::name_place;
 use sp_plan::Element;
-use sp_syntax::{Ident, QueryElement};
+use sp_query::{Ident, QueryElement};
 use std::alloc::{AllocError, Global};
 use std::marker::Model;
 
@@ -24,7 +24,7 @@ pub(crate) struct Named<'a> {
 
 impl<'a> Model for Named<'a> {
     ghost use Rattle.std.specs.Prelude.{ℕ};
-    ghost use Rattle.sp_syntax.specs.declared.query.Ident.{Ident};
+    ghost use Rattle.sp_query.specs.declared.query.Ident.{Ident};
 
     ghost Value = { Ident × ℕ };
 

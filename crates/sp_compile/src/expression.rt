@@ -1,6 +1,6 @@
 // From expressions of a query to those of its plan, each with what it is.
 ghost use Rattle.std.specs.Prelude.{◌≡◌, true, IfOk};
-ghost use Rattle.sp_syntax.specs.declared.tree.Tree.{out-Tree};
+ghost use Rattle.sp_query.specs.declared.tree.Tree.{out-Tree};
 ghost use Rattle.sp_compile.specs.Sorts.{is_arithmetic};
 ghost use Rattle.sp_compile.specs.Answers.{scope_in, IsNamed, ExprAnswer};
 ghost use Rattle.sp_compile.specs.Scopes.{pattern_names};
@@ -12,7 +12,7 @@ use crate::scope::Scope;
 use crate::spine::spine;
 use crate::{CompileFault, Sort};
 use sp_plan::{Expr, Text};
-use sp_syntax::{Node, Span, Tree};
+use sp_query::{Node, Span, Tree};
 use std::alloc::Global;
 
 // What both sides of an operator are, or the fault of the first that has one. Want of memory on

@@ -2,14 +2,13 @@
 ghost use Rattle.std.specs.Prelude.{◌≡◌, Some, None, IfOk, IfErr};
 ghost use Rattle.sp_compile.specs.Codes.{code_of, place_of};
 
-use sp_syntax::Span;
+use sp_query::Span;
 use std::alloc::AllocError;
-use std::error::Error;
-use std::fmt;
 
 /// Why a query can't be meant, with the part of its text where the first fault is; to be told by its code
 /// and its place.
-#[derive(Debug, Drop)]
+#[derive(Debug, Drop, thiserror::Error)]
+#[error("the query has no plan")]
 pub enum CompileFault {
     /// No such column or name of the pattern.
     Unknown(Span),
@@ -30,14 +29,6 @@ pub enum CompileFault {
     /// Out of memory.
     Memory,
 }
-
-impl fmt::Display for CompileFault {
-    fn fmt<W: fmt::Write>(&self, f: &mut fmt::Formatter<W>) -> fmt::Result {
-        f.write_str("the query has no plan")
-    }
-}
-
-impl Error for CompileFault {}
 
 /// Goes on where a check found no fault.
 pub(crate) fn pass(found: Option<CompileFault>) -> Result<(), CompileFault>

@@ -2,7 +2,7 @@
 ghost use Rattle.std.specs.Prelude.{◌≡◌, ℕ, List, Bool};
 ghost use Rattle.sp_plan.specs.declared.event.Event.{Event};
 ghost use Rattle.sp_plan.specs.Values.{BoundEvents};
-ghost use Rattle.sp_syntax.specs.declared.tree.Tree.{Tree};
+ghost use Rattle.sp_query.specs.declared.tree.Tree.{Tree};
 ghost use Rattle.sp_compile.specs.Scopes.{Scope};
 ghost use Rattle.sp_compile.specs.Meaning.{Datum, Means, Truth};
 

@@ -10,7 +10,7 @@ use crate::lookup::{column_place, name_place, text_number};
 use crate::scope::Scope;
 use crate::{CompileFault, Sort};
 use sp_plan::{Expr, Text};
-use sp_syntax::{QueryColumn, Span, Word};
+use sp_query::{QueryColumn, Span, Word};
 
 // The greatest magnitude of a number that a query or an event may have.
 const GREATEST_NUMBER: u64 = 1_000_000_000_000_000;

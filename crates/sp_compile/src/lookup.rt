@@ -10,7 +10,7 @@ ghost use Rattle.sp_compile.specs.Scopes as scopes;
 use crate::CompileFault;
 use crate::elements::Named;
 use sp_plan::Text;
-use sp_syntax::{Ident, QueryColumn};
+use sp_query::{Ident, QueryColumn};
 
 // Whether a name has this text.
 fn is_called(name: &Ident, text: &Text) -> bool

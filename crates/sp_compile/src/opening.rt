@@ -14,7 +14,7 @@ use crate::predicate::predicate;
 use crate::scope::Scope;
 use crate::window::{plan_step, step_fault};
 use sp_plan::{Opening, Pred, Text};
-use sp_syntax::{Query, QueryOpening, Span, Tree, Word};
+use sp_query::{Query, QueryOpening, Span, Tree, Word};
 use std::alloc::Global;
 
 // The plan's step between windows, or its fault.

@@ -1,7 +1,7 @@
 // From predicates of a query to those of its plan.
 ghost use Rattle.sp_compile.specs.Answers.{scope_in, IsNamed, PredAnswer};
-ghost use Rattle.sp_syntax.specs.declared.tree.Tree.{out-Tree};
-ghost use Rattle.sp_syntax.specs.declared.tree.Node.TheVariants as n;
+ghost use Rattle.sp_query.specs.declared.tree.Tree.{out-Tree};
+ghost use Rattle.sp_query.specs.declared.tree.Node.TheVariants as n;
 ghost use Rattle.std.specs.Prelude.{◌≡◌, ◌∷◌, [], true, Some, None, IfOk};
 ghost use Rattle.sp_plan.specs.Bounds.{PredWithin};
 ghost use Rattle.sp_plan.specs.Values.{holds};
@@ -16,7 +16,7 @@ use crate::expression::{both, expression};
 use crate::scope::Scope;
 use crate::spine::spine;
 use sp_plan::{Compare, Pred, Text};
-use sp_syntax::{Node, Tree};
+use sp_query::{Node, Tree};
 use std::alloc::Global;
 
 // The predicate of a comparison, or its first fault.

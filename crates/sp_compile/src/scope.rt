@@ -2,7 +2,7 @@
 ghost use Rattle.std.specs.Prelude.{◌≡◌};
 
 use crate::elements::Named;
-use sp_syntax::Query;
+use sp_query::Query;
 
 /// A query with the names of its pattern, and the number of the element whose predicate it is: the names of
 /// the elements before it are bound earlier. In the predicate of WHEN there is no such element.

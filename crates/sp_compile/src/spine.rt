@@ -2,7 +2,7 @@
 ghost use Rattle.std.specs.Prelude.{◌≡◌, IfOk};
 ghost use Rattle.sp_compile.specs.Spines.{Spine};
 
-use sp_syntax::{Node, Tree};
+use sp_query::{Node, Tree};
 use std::alloc::{AllocError, Global};
 
 // The operators from the root of a tree down its left operands, and what stands below them.

@@ -7,7 +7,7 @@ ghost use Rattle.sp_compile.specs.Gathers.{Gathers};
 ghost use Rattle.sp_compile.specs.Stands.{all_trees, opening_trees};
 
 use sp_plan::{Memory, Text};
-use sp_syntax::{Node, Query, QueryOpening, Tree};
+use sp_query::{Node, Query, QueryOpening, Tree};
 use std::alloc::Global;
 
 // Whether a text is among those so far.

@@ -8,7 +8,7 @@ ghost use Rattle.sp_compile.specs.Stands as stands;
 
 use crate::CompileFault;
 use sp_plan::{Length, Opening};
-use sp_syntax::{Query, Span, Word};
+use sp_query::{Query, Span, Word};
 
 /// The greatest length and step in time.
 const MOST_TIME: u64 = 1_000_000_000_000_000;

@@ -2,7 +2,7 @@
 use Rattle.std.proofs.Common.{◌≡◌, Bool, true, false, List, [], ◌∷◌, ◌++◌, Option, Some, None, refl, sym, ◌∙◌, ap, subst, append_assoc}
 use Rattle.std.proofs.lemmas.List.{append_cancel_left}
 use Rattle.sp_lex.specs.declared.token.Token.{Token}
-use Rattle.sp_syntax.specs.Phrase.{One, Both, Either, left, right, Built, Optional, Steps, ends, steps, Repeat}
+use Rattle.sp_query.specs.Phrase.{One, Both, Either, left, right, Built, Optional, Steps, ends, steps, Repeat}
 use Rattle.sp_parse.specs.Reads.{heads, never, among}
 use Rattle.sp_parse.proofs.Reading as r
 

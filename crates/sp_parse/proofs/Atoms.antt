@@ -5,12 +5,12 @@ use Rattle.sp_lex.specs.declared.token.Word.TheVariants as w
 use Rattle.sp_lex.specs.declared.token.Kernel.{Kernel}
 use Rattle.sp_lex.specs.declared.token.Kernel.TheVariants as k
 use Rattle.sp_plan.specs.declared.plan.Compare.TheVariants as c
-use Rattle.sp_syntax.specs.declared.mark.Mark.TheVariants as m
-use Rattle.sp_syntax.specs.declared.tree.Tree.{Tree}
-use Rattle.sp_syntax.specs.declared.tree.Node.{Node}
-use Rattle.sp_syntax.specs.declared.tree.Node.TheVariants as n
-use Rattle.sp_syntax.specs.Phrase.{One, Both, Either, left, right}
-use Rattle.sp_syntax.specs.Grammar.{tree, kernel, mark, compare, both_hold, one_holds, joined, Applied, Between, Sum, TestOf, ConjOf, Atom, Pred}
+use Rattle.sp_query.specs.declared.mark.Mark.TheVariants as m
+use Rattle.sp_query.specs.declared.tree.Tree.{Tree}
+use Rattle.sp_query.specs.declared.tree.Node.{Node}
+use Rattle.sp_query.specs.declared.tree.Node.TheVariants as n
+use Rattle.sp_query.specs.Phrase.{One, Both, Either, left, right}
+use Rattle.sp_query.specs.Grammar.{tree, kernel, mark, compare, both_hold, one_holds, joined, Applied, Between, Sum, TestOf, ConjOf, Atom, Pred}
 use Rattle.sp_parse.specs.declared.stop.Stop.{Stop}
 use Rattle.sp_parse.specs.Follow.{after_sum, after_conj, after_pred, after_definitions}
 use Rattle.sp_parse.specs.Reads.{Deeper, heads, never, reads_as, among, Found, Fault, deep, Stuck, Stops, Answers, TakesNone, Joins, head_as}

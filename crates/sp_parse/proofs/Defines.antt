@@ -6,14 +6,14 @@ use Rattle.sp_lex.specs.declared.token.Kernel.{Kernel}
 use Rattle.sp_lex.specs.declared.token.Kernel.TheVariants as k
 use Rattle.sp_lex.specs.declared.token.Word.{Word}
 use Rattle.sp_lex.specs.declared.token.Word.TheVariants as w
-use Rattle.sp_syntax.specs.declared.mark.Mark.TheVariants as m
-use Rattle.sp_syntax.specs.declared.tree.Tree.{Tree}
-use Rattle.sp_syntax.specs.declared.query.Ident.{Ident}
-use Rattle.sp_syntax.specs.declared.query.QueryOpening.{QueryOpening}
-use Rattle.sp_syntax.specs.declared.query.QueryOpening.TheVariants as o
+use Rattle.sp_query.specs.declared.mark.Mark.TheVariants as m
+use Rattle.sp_query.specs.declared.tree.Tree.{Tree}
+use Rattle.sp_query.specs.declared.query.Ident.{Ident}
+use Rattle.sp_query.specs.declared.query.QueryOpening.{QueryOpening}
+use Rattle.sp_query.specs.declared.query.QueryOpening.TheVariants as o
 use Rattle.sp_parse.specs.declared.stop.Stop.{Stop}
-use Rattle.sp_syntax.specs.Phrase.{Either, Built}
-use Rattle.sp_syntax.specs.Grammar.{kernel, mark, times, plus, both_hold, one_holds, span, After, ListOf, Name, Pred, Definition, Definitions, Amount, Every, Opening}
+use Rattle.sp_query.specs.Phrase.{Either, Built}
+use Rattle.sp_query.specs.Grammar.{kernel, mark, times, plus, both_hold, one_holds, span, After, ListOf, Name, Pred, Definition, Definitions, Amount, Every, Opening}
 use Rattle.sp_parse.specs.Follow.{after_pred, after_definitions}
 use Rattle.sp_parse.specs.Reads.{never, reads_as, head_as, Found, Stops, TakesNone, Answers}
 use Rattle.sp_parse.proofs.Reading as r

@@ -6,12 +6,12 @@ use Rattle.sp_lex.specs.declared.token.Kernel.{Kernel}
 use Rattle.sp_lex.specs.declared.token.Kernel.TheVariants as k
 use Rattle.sp_lex.specs.declared.token.Word.{Word}
 use Rattle.sp_lex.specs.declared.token.Word.TheVariants as w
-use Rattle.sp_syntax.specs.declared.mark.Mark.TheVariants as m
-use Rattle.sp_syntax.specs.declared.query.Ident.{Ident}
-use Rattle.sp_syntax.specs.declared.query.QueryConsume.{QueryConsume}
-use Rattle.sp_syntax.specs.declared.query.QueryConsume.TheVariants as u
-use Rattle.sp_syntax.specs.Phrase.{One, Either, Built}
-use Rattle.sp_syntax.specs.Grammar.{span, kernel, mark, whole, unit, policy, all_or_none, Between, ListOf, Name, Amount, Within, Policy, Consume}
+use Rattle.sp_query.specs.declared.mark.Mark.TheVariants as m
+use Rattle.sp_query.specs.declared.query.Ident.{Ident}
+use Rattle.sp_query.specs.declared.query.QueryConsume.{QueryConsume}
+use Rattle.sp_query.specs.declared.query.QueryConsume.TheVariants as u
+use Rattle.sp_query.specs.Phrase.{One, Either, Built}
+use Rattle.sp_query.specs.Grammar.{span, kernel, mark, whole, unit, policy, all_or_none, Between, ListOf, Name, Amount, Within, Policy, Consume}
 use Rattle.sp_parse.specs.declared.stop.Stop.{Stop}
 use Rattle.sp_parse.specs.Reads.{never, reads_as, head_as, Found, Stops, Answers, Takes, TakesNone, Closes}
 use Rattle.sp_parse.proofs.Reading as r

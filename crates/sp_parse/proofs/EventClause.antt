@@ -6,11 +6,11 @@ use Rattle.sp_lex.specs.declared.token.Kernel.{Kernel}
 use Rattle.sp_lex.specs.declared.token.Kernel.TheVariants as k
 use Rattle.sp_lex.specs.declared.token.Word.{Word}
 use Rattle.sp_lex.specs.declared.token.Word.TheVariants as w
-use Rattle.sp_syntax.specs.declared.mark.Mark.TheVariants as m
-use Rattle.sp_syntax.specs.declared.query.Ident.{Ident}
-use Rattle.sp_syntax.specs.declared.query.QueryColumn.{QueryColumn}
-use Rattle.sp_syntax.specs.Phrase.{One, Both, Built}
-use Rattle.sp_syntax.specs.Grammar.{span, kernel, mark, name, whole, plain_kind, After, ListOf, Name, KindOf, Column, Columns, Timed}
+use Rattle.sp_query.specs.declared.mark.Mark.TheVariants as m
+use Rattle.sp_query.specs.declared.query.Ident.{Ident}
+use Rattle.sp_query.specs.declared.query.QueryColumn.{QueryColumn}
+use Rattle.sp_query.specs.Phrase.{One, Both, Built}
+use Rattle.sp_query.specs.Grammar.{span, kernel, mark, name, whole, plain_kind, After, ListOf, Name, KindOf, Column, Columns, Timed}
 use Rattle.sp_parse.specs.declared.stop.Stop.{Stop}
 use Rattle.sp_parse.specs.Reads.{never, reads_as, among, head_as, Found, Stops, TakesNone}
 use Rattle.sp_parse.proofs.Reading as r

@@ -3,12 +3,12 @@ use Rattle.std.proofs.Common.{◌≡◌, ◌≢◌, ◌-◌, ℕ, zero, suc, Boo
 use Rattle.sp_lex.specs.declared.token.Token.{Token}
 use Rattle.sp_lex.specs.declared.token.Kernel.{Kernel}
 use Rattle.sp_lex.specs.declared.token.Kernel.TheVariants as k
-use Rattle.sp_syntax.specs.declared.mark.Mark.TheVariants as m
-use Rattle.sp_syntax.specs.declared.tree.Tree.{Tree}
-use Rattle.sp_syntax.specs.declared.tree.Node.{Node}
-use Rattle.sp_syntax.specs.declared.tree.Node.TheVariants as n
-use Rattle.sp_syntax.specs.Phrase.{Either, left, right}
-use Rattle.sp_syntax.specs.Grammar.{tree, kernel, mark, times, plus, joined, Applied, Between, Operand, TermOf, Factor, Sum}
+use Rattle.sp_query.specs.declared.mark.Mark.TheVariants as m
+use Rattle.sp_query.specs.declared.tree.Tree.{Tree}
+use Rattle.sp_query.specs.declared.tree.Node.{Node}
+use Rattle.sp_query.specs.declared.tree.Node.TheVariants as n
+use Rattle.sp_query.specs.Phrase.{Either, left, right}
+use Rattle.sp_query.specs.Grammar.{tree, kernel, mark, times, plus, joined, Applied, Between, Operand, TermOf, Factor, Sum}
 use Rattle.sp_parse.specs.declared.stop.Stop.{Stop}
 use Rattle.sp_parse.specs.Follow.{after_factor, after_term, after_sum}
 use Rattle.sp_parse.specs.Reads.{Deeper, never, reads_as, among, deep, Stuck, Answers, head_as}

@@ -2,11 +2,11 @@
 use Rattle.std.proofs.Common.{◌≡◌, ◌<◌, ◌++◌, ℕ, Bool, true, false, List, [], ◌∷◌, length, Option, Some, None, is_some, Result, Ok, Err, Bor, inl, inr, refl, sym, ◌∙◌, ap, subst, append-nil}
 use Rattle.sp_lex.specs.declared.token.Token.{Token}
 use Rattle.sp_lex.specs.declared.token.Kernel.{Kernel}
-use Rattle.sp_syntax.specs.declared.mark.Mark.{Mark}
-use Rattle.sp_syntax.specs.declared.mark.Mark.TheVariants as m
+use Rattle.sp_query.specs.declared.mark.Mark.{Mark}
+use Rattle.sp_query.specs.declared.mark.Mark.TheVariants as m
 use Rattle.sp_parse.specs.declared.stop.Stop.{Stop}
-use Rattle.sp_syntax.specs.Phrase.{One, Both, Either, left, Built, ends}
-use Rattle.sp_syntax.specs.Grammar.{kernel, mark, After, Between, Alone, ListOf, MoreOf}
+use Rattle.sp_query.specs.Phrase.{One, Both, Either, left, Built, ends}
+use Rattle.sp_query.specs.Grammar.{kernel, mark, After, Between, Alone, ListOf, MoreOf}
 use Rattle.sp_parse.specs.Reads.{heads, never, reads_as, among, head_as, Found, Stops, Answers, Takes, TakesNone, Closes}
 use Rattle.sp_parse.proofs.Reading as r
 use Rattle.sp_parse.proofs.Reading.{Begins}

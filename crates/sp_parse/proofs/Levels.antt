@@ -2,11 +2,11 @@
 use Rattle.std.proofs.Common.{◌≡◌, ◌≢◌, ◌-◌, ℕ, Bool, true, false, List, [], ◌∷◌, length, Option, is_some, Result, refl, ◌∙◌}
 use Rattle.sp_lex.specs.declared.token.Token.{Token}
 use Rattle.sp_lex.specs.declared.token.Kernel.{Kernel}
-use Rattle.sp_syntax.specs.declared.mark.Mark.{Mark}
-use Rattle.sp_syntax.specs.declared.tree.Tree.{Tree}
-use Rattle.sp_syntax.specs.declared.tree.Node.{Node}
-use Rattle.sp_syntax.specs.Phrase.{One, Both, Either, left, right}
-use Rattle.sp_syntax.specs.Grammar.{tree, kernel, mark, Applied, Between}
+use Rattle.sp_query.specs.declared.mark.Mark.{Mark}
+use Rattle.sp_query.specs.declared.tree.Tree.{Tree}
+use Rattle.sp_query.specs.declared.tree.Node.{Node}
+use Rattle.sp_query.specs.Phrase.{One, Both, Either, left, right}
+use Rattle.sp_query.specs.Grammar.{tree, kernel, mark, Applied, Between}
 use Rattle.sp_parse.specs.declared.stop.Stop.{Stop}
 use Rattle.sp_parse.specs.Reads.{Deeper, heads, never, reads_as, among, deep, Stuck, Answers, head_as}
 use Rattle.sp_parse.proofs.Reading as r

@@ -4,11 +4,11 @@ use Rattle.sp_lex.specs.declared.token.Token.{Token}
 use Rattle.sp_lex.specs.declared.token.Kernel.{Kernel}
 use Rattle.sp_lex.specs.declared.token.Kernel.TheVariants as k
 use Rattle.sp_lex.specs.declared.token.Word.TheVariants as w
-use Rattle.sp_syntax.specs.declared.mark.Mark.{Mark}
-use Rattle.sp_syntax.specs.declared.mark.Mark.TheVariants as m
+use Rattle.sp_query.specs.declared.mark.Mark.{Mark}
+use Rattle.sp_query.specs.declared.mark.Mark.TheVariants as m
 use Rattle.sp_parse.specs.declared.stop.Stop.{Stop}
-use Rattle.sp_syntax.specs.Phrase.{One}
-use Rattle.sp_syntax.specs.Grammar.{kernel, mark, name}
+use Rattle.sp_query.specs.Phrase.{One}
+use Rattle.sp_query.specs.Grammar.{kernel, mark, name}
 use Rattle.sp_parse.specs.Reads.{heads, never, reads_as, Found, Stops, TakesNone, head_as}
 use Rattle.sp_parse.proofs.Reading as r
 

@@ -1,11 +1,11 @@
 -- Forms that several productions share: a mark before a phrase, a phrase between two marks, and a phrase that holds itself one level deeper.
 use Rattle.std.proofs.Common.{◌≡◌, ◌≢◌, ◌++◌, ◌-◌, ℕ, suc, Bool, true, false, List, [], ◌∷◌, length, is_some, Result, refl, sym, ◌∙◌, ap, subst, arith}
 use Rattle.sp_lex.specs.declared.token.Token.{Token}
-use Rattle.sp_syntax.specs.declared.mark.Mark.{Mark}
+use Rattle.sp_query.specs.declared.mark.Mark.{Mark}
 use Rattle.sp_parse.specs.declared.stop.Stop.{Stop}
-use Rattle.sp_syntax.specs.Phrase.{One, Both, Either, Built}
+use Rattle.sp_query.specs.Phrase.{One, Both, Either, Built}
 use Rattle.sp_parse.specs.Reads.{Deeper, heads, look, never, reads_as, Found, Fault, deep, Stuck, Stops, Answers, TakesNone}
-use Rattle.sp_syntax.specs.Grammar.{kernel, mark}
+use Rattle.sp_query.specs.Grammar.{kernel, mark}
 use Rattle.sp_parse.proofs.Reading as r
 use Rattle.sp_parse.proofs.Reading.{Begins}
 use Rattle.sp_parse.proofs.Marks.{sample, mark_kernel, mark_sample, mark_stops, one_found, IsOne}

@@ -3,12 +3,12 @@ use Rattle.std.proofs.Common.{◌≡◌, ◌++◌, ◌<◌, ℕ, Bool, true, fal
 use Rattle.sp_lex.specs.declared.token.Token.{Token}
 use Rattle.sp_lex.specs.declared.token.Kernel.{Kernel}
 use Rattle.sp_lex.specs.declared.token.Kernel.TheVariants as k
-use Rattle.sp_syntax.specs.declared.mark.Mark.TheVariants as m
-use Rattle.sp_syntax.specs.declared.tree.Tree.{Tree}
-use Rattle.sp_syntax.specs.declared.tree.Node.{Node}
-use Rattle.sp_syntax.specs.declared.tree.Node.TheVariants as n
-use Rattle.sp_syntax.specs.Phrase.{One, Both, Optional}
-use Rattle.sp_syntax.specs.Grammar.{tree, kernel, mark, constant, name, named, Constant, Dotted, Named, Operand}
+use Rattle.sp_query.specs.declared.mark.Mark.TheVariants as m
+use Rattle.sp_query.specs.declared.tree.Tree.{Tree}
+use Rattle.sp_query.specs.declared.tree.Node.{Node}
+use Rattle.sp_query.specs.declared.tree.Node.TheVariants as n
+use Rattle.sp_query.specs.Phrase.{One, Both, Optional}
+use Rattle.sp_query.specs.Grammar.{tree, kernel, mark, constant, name, named, Constant, Dotted, Named, Operand}
 use Rattle.sp_parse.specs.declared.stop.Stop.{Stop}
 use Rattle.sp_parse.specs.Follow.{after_factor}
 use Rattle.sp_parse.specs.Reads.{heads, never, reads_as, among, Found, Stops, Answers, Takes, TakesNone, head_as}

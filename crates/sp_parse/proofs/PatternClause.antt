@@ -5,12 +5,12 @@ use Rattle.sp_lex.specs.declared.token.Span.{Span}
 use Rattle.sp_lex.specs.declared.token.Kernel.{Kernel}
 use Rattle.sp_lex.specs.declared.token.Kernel.TheVariants as k
 use Rattle.sp_lex.specs.declared.token.Word.TheVariants as w
-use Rattle.sp_syntax.specs.declared.mark.Mark.TheVariants as m
-use Rattle.sp_syntax.specs.declared.query.Ident.{Ident}
-use Rattle.sp_syntax.specs.declared.query.QueryElement.{QueryElement}
-use Rattle.sp_syntax.specs.declared.query.QueryElement.TheVariants as e
-use Rattle.sp_syntax.specs.Phrase.{One, Both, Built, Optional}
-use Rattle.sp_syntax.specs.Grammar.{span, kernel, mark, name, After, Between, Alone, MoreOf, Name, single, Single, Names, Element, Elements}
+use Rattle.sp_query.specs.declared.mark.Mark.TheVariants as m
+use Rattle.sp_query.specs.declared.query.Ident.{Ident}
+use Rattle.sp_query.specs.declared.query.QueryElement.{QueryElement}
+use Rattle.sp_query.specs.declared.query.QueryElement.TheVariants as e
+use Rattle.sp_query.specs.Phrase.{One, Both, Built, Optional}
+use Rattle.sp_query.specs.Grammar.{span, kernel, mark, name, After, Between, Alone, MoreOf, Name, single, Single, Names, Element, Elements}
 use Rattle.sp_parse.specs.declared.stop.Stop.{Stop}
 use Rattle.sp_parse.specs.Reads.{heads, never, reads_as, among, head_as, Found, Stops, Answers}
 use Rattle.sp_parse.proofs.Reading as r

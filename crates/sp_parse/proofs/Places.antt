@@ -5,9 +5,9 @@ use Rattle.sp_lex.specs.declared.token.LexFault.{LexFault}
 use Rattle.sp_lex.specs.declared.token.LexFault.TheVariants as l
 use Rattle.sp_lex.specs.Spelling.{Tokens}
 use Rattle.sp_lex.specs.Spelling as s
-use Rattle.sp_syntax.specs.declared.query.Query.{Query}
-use Rattle.sp_syntax.specs.Grammar.{Derives}
-use Rattle.sp_syntax.specs.Queries.{IsQuery}
+use Rattle.sp_query.specs.declared.query.Query.{Query}
+use Rattle.sp_query.specs.Grammar.{Derives}
+use Rattle.sp_query.specs.Queries.{IsQuery}
 use Rattle.sp_parse.specs.declared.stop.Stop.TheVariants as stop
 use Rattle.sp_parse.specs.declared.fault.ParseFault.{ParseFault}
 use Rattle.sp_parse.specs.declared.fault.ParseFault.TheVariants as f

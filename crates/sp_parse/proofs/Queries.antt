@@ -7,17 +7,17 @@ use Rattle.sp_lex.specs.declared.token.Kernel.{Kernel}
 use Rattle.sp_lex.specs.declared.token.Kernel.TheVariants as k
 use Rattle.sp_lex.specs.declared.token.Word.{Word}
 use Rattle.sp_lex.specs.declared.token.Word.TheVariants as w
-use Rattle.sp_syntax.specs.declared.mark.Mark.TheVariants as m
-use Rattle.sp_syntax.specs.declared.tree.Tree.{Tree}
-use Rattle.sp_syntax.specs.declared.query.Ident.{Ident}
-use Rattle.sp_syntax.specs.declared.query.Query.{Query}
-use Rattle.sp_syntax.specs.declared.query.QueryColumn.{QueryColumn}
-use Rattle.sp_syntax.specs.declared.query.QueryElement.{QueryElement}
-use Rattle.sp_syntax.specs.declared.query.QueryOpening.{QueryOpening}
-use Rattle.sp_syntax.specs.declared.query.QueryConsume.{QueryConsume}
-use Rattle.sp_syntax.specs.Phrase.{Both, Optional}
-use Rattle.sp_syntax.specs.Grammar as g
-use Rattle.sp_syntax.specs.Grammar.{kernel, mark, times, plus, both_hold, one_holds, Derives}
+use Rattle.sp_query.specs.declared.mark.Mark.TheVariants as m
+use Rattle.sp_query.specs.declared.tree.Tree.{Tree}
+use Rattle.sp_query.specs.declared.query.Ident.{Ident}
+use Rattle.sp_query.specs.declared.query.Query.{Query}
+use Rattle.sp_query.specs.declared.query.QueryColumn.{QueryColumn}
+use Rattle.sp_query.specs.declared.query.QueryElement.{QueryElement}
+use Rattle.sp_query.specs.declared.query.QueryOpening.{QueryOpening}
+use Rattle.sp_query.specs.declared.query.QueryConsume.{QueryConsume}
+use Rattle.sp_query.specs.Phrase.{Both, Optional}
+use Rattle.sp_query.specs.Grammar as g
+use Rattle.sp_query.specs.Grammar.{kernel, mark, times, plus, both_hold, one_holds, Derives}
 use Rattle.sp_parse.specs.declared.stop.Stop.{Stop}
 use Rattle.sp_parse.specs.declared.stop.Stop.TheVariants as stop
 use Rattle.sp_parse.specs.Clauses.{Ending, EndingValue, Body, BodyValue}

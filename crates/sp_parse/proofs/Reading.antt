@@ -5,7 +5,7 @@ use Rattle.std.proofs.lemmas.List.{append_cancel_left}
 use Rattle.sp_lex.specs.declared.token.Token.{Token}
 use Rattle.sp_parse.specs.declared.stop.Stop.{Stop}
 use Rattle.sp_parse.specs.declared.stop.Stop.TheVariants as stop
-use Rattle.sp_syntax.specs.Phrase.{One, Both, Either, left, right, Built, Optional}
+use Rattle.sp_query.specs.Phrase.{One, Both, Either, left, right, Built, Optional}
 use Rattle.sp_parse.specs.Reads.{Deeper, heads, look, never, reads_as, among, Found, Fault, wrong, deep, Within, Opens, Stuck, Stops, Answers, TakesNone, head_as, PassesOn}
 
 pub look_more : (s f m next : List Token) → s ≡ f ++ m → (n : List Token) × (look s n ≡ f ++ look m next)

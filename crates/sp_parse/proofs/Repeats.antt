@@ -2,7 +2,7 @@
 use Rattle.std.proofs.Common.{length, length-append, is_some, Option, Some, None, Result, Ok, Err, IfOk, Bor, ◌<◌, ◌+◌, ◌≡◌, ℕ, suc, ◌≤◌, Bool, true, false, List, [], ◌∷◌, ◌++◌, refl, sym, ◌∙◌, ap, subst, arith, append_assoc, append-nil}
 use Rattle.std.proofs.lemmas.List.{append_cancel_left}
 use Rattle.sp_lex.specs.declared.token.Token.{Token}
-use Rattle.sp_syntax.specs.Phrase.{One, Both, Steps, ends, steps, Repeat}
+use Rattle.sp_query.specs.Phrase.{One, Both, Steps, ends, steps, Repeat}
 use Rattle.sp_parse.specs.declared.stop.Stop.{Stop}
 use Rattle.sp_parse.specs.Reads.{heads, look, never, reads_as, among, head_as, Found, Fault, Within, Stuck, Stops, Answers}
 use Rattle.sp_parse.proofs.Reading as r

@@ -2,7 +2,7 @@
 use Rattle.std.proofs.Common.{◌≡◌, ℕ, Bool, false, List, ◌++◌, Option, Some, None, true, ap, ◌∙◌}
 use Rattle.sp_lex.specs.declared.token.Token.{Token}
 use Rattle.sp_parse.specs.declared.stop.Stop.{Stop}
-use Rattle.sp_syntax.specs.Phrase.{Both, Optional}
+use Rattle.sp_query.specs.Phrase.{Both, Optional}
 use Rattle.sp_parse.specs.Reads.{among, heads, never, Found, Stops}
 use Rattle.sp_parse.proofs.Reading as r
 use Rattle.sp_parse.proofs.Nested.{Some_of}

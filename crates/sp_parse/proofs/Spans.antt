@@ -2,7 +2,7 @@
 use Rattle.std.proofs.Common.{◌≡◌, ◌++◌, ◌-◌, ◌<◌, List, [], ◌∷◌, length, get_or, refl, ◌∙◌, ap, arith, length-append}
 use Rattle.sp_lex.specs.declared.token.Token.{Token}
 use Rattle.sp_lex.specs.declared.token.Span.{Span}
-use Rattle.sp_syntax.specs.Grammar.{span, last_to}
+use Rattle.sp_query.specs.Grammar.{span, last_to}
 
 last_at : (t : Token) (front rest : List Token) (d : Token) → (get_or (t ∷ (front ++ rest)) (length front) d).span.to ≡ last_to (t ∷ front)
 last_at t [] rest d = refl

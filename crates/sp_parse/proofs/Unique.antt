@@ -2,13 +2,13 @@
 use Rattle.std.proofs.Common.{◌≡◌, ℕ, zero, suc, Bool, List, ◌∷◌, [], ◌++◌, Option, sym, subst}
 use Rattle.sp_lex.specs.declared.token.Token.{Token}
 use Rattle.sp_lex.specs.declared.token.Kernel.{Kernel}
-use Rattle.sp_syntax.specs.declared.mark.Mark.{Mark}
-use Rattle.sp_syntax.specs.declared.mark.Mark.TheVariants as m
-use Rattle.sp_syntax.specs.declared.tree.Tree.{Tree}
-use Rattle.sp_syntax.specs.declared.tree.Node.{Node}
-use Rattle.sp_syntax.specs.declared.tree.Node.TheVariants as n
-use Rattle.sp_syntax.specs.Phrase.{One, Both, Either, Built, Optional}
-use Rattle.sp_syntax.specs.Grammar.{kernel, mark, name, constant, times, plus, compare, both_hold, one_holds, tree, joined, named, After, Between, Alone, ListOf, MoreOf, Grouped, Applied, Constant, Dotted, Named, Operand, TermOf, Factor, Sum, TestOf, ConjOf, Atom, Pred}
+use Rattle.sp_query.specs.declared.mark.Mark.{Mark}
+use Rattle.sp_query.specs.declared.mark.Mark.TheVariants as m
+use Rattle.sp_query.specs.declared.tree.Tree.{Tree}
+use Rattle.sp_query.specs.declared.tree.Node.{Node}
+use Rattle.sp_query.specs.declared.tree.Node.TheVariants as n
+use Rattle.sp_query.specs.Phrase.{One, Both, Either, Built, Optional}
+use Rattle.sp_query.specs.Grammar.{kernel, mark, name, constant, times, plus, compare, both_hold, one_holds, tree, joined, named, After, Between, Alone, ListOf, MoreOf, Grouped, Applied, Constant, Dotted, Named, Operand, TermOf, Factor, Sum, TestOf, ConjOf, Atom, Pred}
 use Rattle.sp_parse.specs.Follow.{after_factor, after_term, after_sum, after_conj, after_pred}
 use Rattle.sp_parse.specs.Reads.{Deeper, never, reads_as, among}
 use Rattle.sp_parse.proofs.Reading as r

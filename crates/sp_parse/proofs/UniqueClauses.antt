@@ -8,19 +8,19 @@ use Rattle.sp_lex.specs.declared.token.Kernel.{Kernel}
 use Rattle.sp_lex.specs.declared.token.Kernel.TheVariants as k
 use Rattle.sp_lex.specs.Spelling.{Tokens}
 use Rattle.sp_lex.proofs.Lexing.{split}
-use Rattle.sp_syntax.specs.declared.mark.Mark.TheVariants as m
-use Rattle.sp_syntax.specs.declared.query.Ident.{Ident}
-use Rattle.sp_syntax.specs.declared.query.Query.{Query}
-use Rattle.sp_syntax.specs.declared.tree.Tree.{Tree}
-use Rattle.sp_syntax.specs.declared.query.QueryElement.{QueryElement}
-use Rattle.sp_syntax.specs.declared.query.QueryElement.TheVariants as e
-use Rattle.sp_syntax.specs.declared.query.QueryOpening.{QueryOpening}
-use Rattle.sp_syntax.specs.declared.query.QueryOpening.TheVariants as o
-use Rattle.sp_syntax.specs.declared.query.QueryConsume.{QueryConsume}
-use Rattle.sp_syntax.specs.declared.query.QueryConsume.TheVariants as u
-use Rattle.sp_syntax.specs.Phrase.{One, Both, Either, Built, Optional}
-use Rattle.sp_syntax.specs.Grammar.{span, kernel, mark, name, whole, plain_kind, unit, policy, all_or_none, single, query, After, Between, Alone, ListOf, MoreOf, Name, KindOf, Column, Columns, Timed, Single, Names, Element, Elements, Pred, Definition, Definitions, Amount, Within, Every, Opening, Policy, Consume, Derives}
-use Rattle.sp_syntax.specs.Queries.{IsQuery}
+use Rattle.sp_query.specs.declared.mark.Mark.TheVariants as m
+use Rattle.sp_query.specs.declared.query.Ident.{Ident}
+use Rattle.sp_query.specs.declared.query.Query.{Query}
+use Rattle.sp_query.specs.declared.tree.Tree.{Tree}
+use Rattle.sp_query.specs.declared.query.QueryElement.{QueryElement}
+use Rattle.sp_query.specs.declared.query.QueryElement.TheVariants as e
+use Rattle.sp_query.specs.declared.query.QueryOpening.{QueryOpening}
+use Rattle.sp_query.specs.declared.query.QueryOpening.TheVariants as o
+use Rattle.sp_query.specs.declared.query.QueryConsume.{QueryConsume}
+use Rattle.sp_query.specs.declared.query.QueryConsume.TheVariants as u
+use Rattle.sp_query.specs.Phrase.{One, Both, Either, Built, Optional}
+use Rattle.sp_query.specs.Grammar.{span, kernel, mark, name, whole, plain_kind, unit, policy, all_or_none, single, query, After, Between, Alone, ListOf, MoreOf, Name, KindOf, Column, Columns, Timed, Single, Names, Element, Elements, Pred, Definition, Definitions, Amount, Within, Every, Opening, Policy, Consume, Derives}
+use Rattle.sp_query.specs.Queries.{IsQuery}
 use Rattle.sp_parse.specs.Follow.{after_pred, after_definitions}
 use Rattle.sp_parse.specs.Reads.{never, reads_as, among}
 use Rattle.sp_parse.proofs.Reading as r

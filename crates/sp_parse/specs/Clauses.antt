@@ -3,13 +3,13 @@ use Rattle.std.specs.Prelude.{ℕ, List, Option}
 use Rattle.sp_lex.specs.declared.token.Span.{Span}
 use Rattle.sp_lex.specs.declared.token.Token.{Token}
 use Rattle.sp_lex.specs.declared.token.Word.{Word}
-use Rattle.sp_syntax.specs.declared.tree.Tree.{Tree}
-use Rattle.sp_syntax.specs.declared.query.Ident.{Ident}
-use Rattle.sp_syntax.specs.declared.query.QueryConsume.{QueryConsume}
-use Rattle.sp_syntax.specs.declared.query.QueryElement.{QueryElement}
-use Rattle.sp_syntax.specs.declared.query.QueryOpening.{QueryOpening}
-use Rattle.sp_syntax.specs.Phrase.{Both, Optional}
-use Rattle.sp_syntax.specs.Grammar.{Elements, Definitions, Within, Opening, Policy, Consume}
+use Rattle.sp_query.specs.declared.tree.Tree.{Tree}
+use Rattle.sp_query.specs.declared.query.Ident.{Ident}
+use Rattle.sp_query.specs.declared.query.QueryConsume.{QueryConsume}
+use Rattle.sp_query.specs.declared.query.QueryElement.{QueryElement}
+use Rattle.sp_query.specs.declared.query.QueryOpening.{QueryOpening}
+use Rattle.sp_query.specs.Phrase.{Both, Optional}
+use Rattle.sp_query.specs.Grammar.{Elements, Definitions, Within, Opening, Policy, Consume}
 
 abbrev pub EndingValue : Type 0
 EndingValue = (ℕ × Word × Span) × (QueryOpening × (Word × QueryConsume))

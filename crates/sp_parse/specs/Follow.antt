@@ -1,8 +1,8 @@
 -- Which tokens may go on with a phrase that could end before them.
 use Rattle.std.specs.Prelude.{Bool}
 use Rattle.sp_lex.specs.declared.token.Token.{Token}
-use Rattle.sp_syntax.specs.declared.mark.Mark.TheVariants as m
-use Rattle.sp_syntax.specs.Grammar.{kernel, mark, times, plus, both_hold, one_holds}
+use Rattle.sp_query.specs.declared.mark.Mark.TheVariants as m
+use Rattle.sp_query.specs.Grammar.{kernel, mark, times, plus, both_hold, one_holds}
 use Rattle.sp_parse.specs.Reads.{reads_as, among}
 
 -- a point, behind a name

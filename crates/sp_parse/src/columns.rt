@@ -1,14 +1,14 @@
 // The columns of a query, and its time.
 ghost use Rattle.std.specs.Prelude.{ℕ};
-ghost use Rattle.sp_syntax.specs.declared.mark.Mark.TheVariants as m;
-ghost use Rattle.sp_syntax.specs.Grammar as g;
-ghost use Rattle.sp_syntax.specs.Phrase.{One};
+ghost use Rattle.sp_query.specs.declared.mark.Mark.TheVariants as m;
+ghost use Rattle.sp_query.specs.Grammar as g;
+ghost use Rattle.sp_query.specs.Phrase.{One};
 ghost use Rattle.sp_parse.specs.Reads.{Answers, Takes, among, never, reads_as};
 
 use crate::list::added;
 use crate::stop::Stop;
 use crate::tokens::{begins, behind, closed, expect, name, span_of, whole};
-use sp_syntax::{Ident, Kernel, Mark, QueryColumn, Token, Word};
+use sp_query::{Ident, Kernel, Mark, QueryColumn, Token, Word};
 use sqlite_items::Items;
 use std::alloc::Global;
 

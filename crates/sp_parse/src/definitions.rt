@@ -1,9 +1,9 @@
 // What the names of the pattern are, and what opens a window: the clauses that hold predicates.
 ghost use Rattle.std.specs.Prelude.{ℕ};
-ghost use Rattle.sp_syntax.specs.declared.mark.Mark.TheVariants as m;
-ghost use Rattle.sp_syntax.specs.declared.query.QueryOpening.TheVariants as o;
-ghost use Rattle.sp_syntax.specs.Grammar as g;
-ghost use Rattle.sp_syntax.specs.Phrase.{Built, Either};
+ghost use Rattle.sp_query.specs.declared.mark.Mark.TheVariants as m;
+ghost use Rattle.sp_query.specs.declared.query.QueryOpening.TheVariants as o;
+ghost use Rattle.sp_query.specs.Grammar as g;
+ghost use Rattle.sp_query.specs.Phrase.{Built, Either};
 ghost use Rattle.sp_parse.specs.Follow.{after_pred, after_definitions};
 ghost use Rattle.sp_parse.specs.Reads.{Answers, never};
 
@@ -13,7 +13,7 @@ use crate::list::added;
 use crate::predicate::pred;
 use crate::stop::Stop;
 use crate::tokens::{begins, behind, expect, span_of};
-use sp_syntax::{Ident, Mark, QueryOpening, Token, Tree};
+use sp_query::{Ident, Mark, QueryOpening, Token, Tree};
 use sqlite_items::Items;
 use std::alloc::Global;
 

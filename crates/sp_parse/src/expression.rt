@@ -1,6 +1,6 @@
 // Expressions.
 ghost use Rattle.std.specs.Prelude.{ℕ};
-ghost use Rattle.sp_syntax.specs.Grammar as g;
+ghost use Rattle.sp_query.specs.Grammar as g;
 ghost use Rattle.sp_parse.specs.Follow.{after_factor, after_term, after_sum};
 ghost use Rattle.sp_parse.specs.Reads.{Answers, Operator, Takes, never};
 
@@ -8,7 +8,7 @@ use crate::stop::Stop;
 use crate::tokens::{begins, begins_name, closed, expect, name, span_of};
 use crate::trees::{joined, leaf, unary};
 use sp_plan::Text;
-use sp_syntax::{Kernel, Mark, Node, Token, Tree};
+use sp_query::{Kernel, Mark, Node, Token, Tree};
 use std::alloc::Global;
 
 // What a constant is, and the rest behind it.

@@ -2,12 +2,11 @@
 ghost use Rattle.std.specs.Prelude.{◌≡◌};
 ghost use Rattle.sp_parse.specs.Codes.{code_of, place_of};
 
-use sp_syntax::LexFault;
-use std::error::Error;
-use std::fmt;
+use sp_query::LexFault;
 
 /// Why a text is no query, to be told by its code and its place. Places are bytes of the text, from 0.
-#[derive(Debug, Drop)]
+#[derive(Debug, Drop, thiserror::Error)]
+#[error("the text is no query")]
 pub enum ParseFault {
     /// The text has no tokens; never by want of memory.
     Lex(LexFault),
@@ -19,14 +18,6 @@ pub enum ParseFault {
     /// Want of memory.
     Memory,
 }
-
-impl fmt::Display for ParseFault {
-    fn fmt<W: fmt::Write>(&self, f: &mut fmt::Formatter<W>) -> fmt::Result {
-        f.write_str("the text is no query")
-    }
-}
-
-impl Error for ParseFault {}
 
 impl ParseFault {
     /// The printed code: 1 to 3 for a fault of the tokens, 11 for `Unexpected`, 12 for `TooDeep`.

@@ -1,7 +1,7 @@
 // What holds of every text.
 ghost use Rattle.std.specs.Prelude.{◌≡◌, ℕ, List};
-ghost use Rattle.sp_syntax.specs.declared.query.Query.{Query};
-ghost use Rattle.sp_syntax.specs.Queries.{IsQuery};
+ghost use Rattle.sp_query.specs.declared.query.Query.{Query};
+ghost use Rattle.sp_query.specs.Queries.{IsQuery};
 
 /// A text is at most one query.
 pub fn one_query()

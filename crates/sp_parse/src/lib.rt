@@ -1,4 +1,4 @@
-//! Reading a query from its text. What the grammar is stands in `sp_syntax`; which query a text has,
+//! Reading a query from its text. What the grammar is stands in `sp_query`; which query a text has,
 //! and why it has none, in `specs/Parses.antt`.
 #![tactic(auto)]
 

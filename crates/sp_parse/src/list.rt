@@ -2,7 +2,7 @@
 ghost use Rattle.sp_parse.specs.Reads.{Adds};
 
 use crate::stop::Stop;
-use sp_syntax::Token;
+use sp_query::Token;
 use sqlite_items::Items;
 
 // The list with what was read behind it, and the rest.

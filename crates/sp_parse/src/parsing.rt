@@ -2,15 +2,15 @@
 ghost use Rattle.std.specs.Prelude.{◌≡◌, ◌≢◌, ◌⊎◌, ◌++◌, ◌<◌, ◌≤◌, ◌^◌, List, length, IfOk, IfErr, MatchResult};
 ghost use Rattle.sp_lex.specs.declared.token.LexFault.{LexFault};
 ghost use Rattle.sp_lex.specs.declared.token.Token.{Token};
-ghost use Rattle.sp_syntax.specs.declared.query.Query.{Query};
-ghost use Rattle.sp_syntax.specs.Queries.{IsQuery};
+ghost use Rattle.sp_query.specs.declared.query.Query.{Query};
+ghost use Rattle.sp_query.specs.Queries.{IsQuery};
 ghost use Rattle.sp_parse.specs.declared.fault.ParseFault.{ParseFault};
 ghost use Rattle.sp_parse.specs.Parses.{Refuses, IsAll, place};
 
 use crate::ParseFault;
 use crate::query::parse_tokens;
 use crate::stop::Stop;
-use sp_syntax::{LexFault, Query, Token, lex};
+use sp_query::{LexFault, Query, Token, lex};
 use std::alloc::Global;
 
 // The fault of a text that has no tokens.

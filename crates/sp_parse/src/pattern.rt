@@ -1,14 +1,14 @@
 // The pattern.
 ghost use Rattle.std.specs.Prelude.{◌≡◌, ℕ};
-ghost use Rattle.sp_syntax.specs.declared.mark.Mark.TheVariants as m;
-ghost use Rattle.sp_syntax.specs.Grammar as g;
+ghost use Rattle.sp_query.specs.declared.mark.Mark.TheVariants as m;
+ghost use Rattle.sp_query.specs.Grammar as g;
 ghost use Rattle.sp_parse.specs.Reads.{Answers, among, heads, never, reads_as};
 
 use crate::columns::ident;
 use crate::list::added;
 use crate::stop::Stop;
 use crate::tokens::{begins, begins_name, behind, closed, expect, span_of};
-use sp_syntax::{Ident, Mark, QueryElement, Token};
+use sp_query::{Ident, Mark, QueryElement, Token};
 use sqlite_items::Items;
 use std::alloc::Global;
 

@@ -1,5 +1,5 @@
 // Predicates.
-ghost use Rattle.sp_syntax.specs.Grammar as g;
+ghost use Rattle.sp_query.specs.Grammar as g;
 ghost use Rattle.sp_parse.specs.Follow.{after_sum, after_conj, after_pred};
 ghost use Rattle.sp_parse.specs.Reads.{Answers, Operator, Takes, never};
 
@@ -8,7 +8,7 @@ use crate::stop::Stop;
 use crate::tokens::{begins, closed, expect, span_of};
 use crate::trees::{joined, unary};
 use sp_plan::Compare;
-use sp_syntax::{Kernel, Mark, Node, Token, Tree, Word};
+use sp_query::{Kernel, Mark, Node, Token, Tree, Word};
 use std::alloc::Global;
 
 // "=" | "<>" | "<" | "<=" | ">" | ">="

@@ -1,9 +1,9 @@
 // A whole query from tokens.
 ghost use Rattle.std.specs.Prelude.{◌≡◌, ℕ, IfOk, IfErr};
-ghost use Rattle.sp_syntax.specs.declared.mark.Mark.TheVariants as m;
-ghost use Rattle.sp_syntax.specs.declared.query.Query.{Query};
-ghost use Rattle.sp_syntax.specs.Grammar as g;
-ghost use Rattle.sp_syntax.specs.Phrase.{Optional};
+ghost use Rattle.sp_query.specs.declared.mark.Mark.TheVariants as m;
+ghost use Rattle.sp_query.specs.declared.query.Query.{Query};
+ghost use Rattle.sp_query.specs.Grammar as g;
+ghost use Rattle.sp_query.specs.Phrase.{Optional};
 ghost use Rattle.sp_parse.specs.Clauses as clauses;
 ghost use Rattle.sp_parse.specs.Follow.{after_definitions};
 ghost use Rattle.sp_parse.specs.Parses.{Halts, IsFrom};
@@ -15,7 +15,7 @@ use crate::definitions::{definitions, opening};
 use crate::pattern::elements;
 use crate::stop::Stop;
 use crate::tokens::begins;
-use sp_syntax::{
+use sp_query::{
     Ident, Mark, Query, QueryConsume, QueryElement, QueryOpening, Span, Token, Tree, Word,
 };
 use sqlite_items::Items;

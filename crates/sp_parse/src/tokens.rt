@@ -1,12 +1,12 @@
 // Single tokens at the front of others.
 ghost use Rattle.std.specs.Prelude.{◌≡◌, ◌∷◌, ◌++◌, ◌<◌, List, length, is_some, IfOk, MatchOption, Some, None};
 ghost use Rattle.sp_lex.specs.declared.token.Token.{Token};
-ghost use Rattle.sp_syntax.specs.Grammar as g;
+ghost use Rattle.sp_query.specs.Grammar as g;
 ghost use Rattle.sp_parse.specs.Reads.{Closes, Takes, head_as};
 
 use crate::stop::Stop;
 use sp_plan::Text;
-use sp_syntax::{Kernel, Mark, Span, Token, is_mark};
+use sp_query::{Kernel, Mark, Span, Token, is_mark};
 use std::alloc::Global;
 
 // Whether this mark is first.

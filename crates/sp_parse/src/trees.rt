@@ -1,11 +1,11 @@
 // Trees of a node, its parts and a place.
 ghost use Rattle.std.specs.Prelude.{◌≡◌, ◌<◌, [], ◌∷◌, length, IfOk};
-ghost use Rattle.sp_syntax.specs.Trees.{tree_at};
+ghost use Rattle.sp_query.specs.Trees.{tree_at};
 ghost use Rattle.sp_parse.specs.Reads.{Joins};
 
 use crate::stop::Stop;
 use crate::tokens::span_of;
-use sp_syntax::{Node, Span, Token, Tree};
+use sp_query::{Node, Span, Token, Tree};
 use sqlite_items::Items;
 use std::alloc::{AllocError, Global};
 

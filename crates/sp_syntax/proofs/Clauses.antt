@@ -8,22 +8,22 @@ use Rattle.sp_lex.specs.declared.token.Kernel.TheVariants as k
 use Rattle.sp_lex.specs.declared.token.Word.{Word}
 use Rattle.sp_lex.specs.declared.token.Word.TheVariants as w
 use Rattle.sp_lex.specs.Spelling.{spelling}
-use Rattle.sp_syntax.specs.declared.mark.Mark.{Mark}
-use Rattle.sp_syntax.specs.declared.mark.Mark.TheVariants as m
-use Rattle.sp_syntax.specs.declared.tree.Tree.{Tree}
-use Rattle.sp_syntax.specs.declared.query.Ident.{Ident}
-use Rattle.sp_syntax.specs.declared.query.Query.{Query}
-use Rattle.sp_syntax.specs.declared.query.QueryColumn.{QueryColumn}
-use Rattle.sp_syntax.specs.declared.query.QueryElement.{QueryElement}
-use Rattle.sp_syntax.specs.declared.query.QueryElement.TheVariants as e
-use Rattle.sp_syntax.specs.declared.query.QueryOpening.{QueryOpening}
-use Rattle.sp_syntax.specs.declared.query.QueryOpening.TheVariants as o
-use Rattle.sp_syntax.specs.declared.query.QueryConsume.{QueryConsume}
-use Rattle.sp_syntax.specs.declared.query.QueryConsume.TheVariants as u
-use Rattle.sp_syntax.specs.Phrase.{One, Both, Either, Built, Optional}
-use Rattle.sp_syntax.specs.Grammar as g
-use Rattle.sp_syntax.specs.Same.{Pairwise, SameTree, SameIdent, SameTime, SameColumn, SameElement, SameDefinition, SameOpening, SameConsume, SameLength, Same}
-use Rattle.sp_syntax.specs.Queries.{IsQuery}
+use Rattle.sp_query.specs.declared.mark.Mark.{Mark}
+use Rattle.sp_query.specs.declared.mark.Mark.TheVariants as m
+use Rattle.sp_query.specs.declared.tree.Tree.{Tree}
+use Rattle.sp_query.specs.declared.query.Ident.{Ident}
+use Rattle.sp_query.specs.declared.query.Query.{Query}
+use Rattle.sp_query.specs.declared.query.QueryColumn.{QueryColumn}
+use Rattle.sp_query.specs.declared.query.QueryElement.{QueryElement}
+use Rattle.sp_query.specs.declared.query.QueryElement.TheVariants as e
+use Rattle.sp_query.specs.declared.query.QueryOpening.{QueryOpening}
+use Rattle.sp_query.specs.declared.query.QueryOpening.TheVariants as o
+use Rattle.sp_query.specs.declared.query.QueryConsume.{QueryConsume}
+use Rattle.sp_query.specs.declared.query.QueryConsume.TheVariants as u
+use Rattle.sp_query.specs.Phrase.{One, Both, Either, Built, Optional}
+use Rattle.sp_query.specs.Grammar as g
+use Rattle.sp_query.specs.Same.{Pairwise, SameTree, SameIdent, SameTime, SameColumn, SameElement, SameDefinition, SameOpening, SameConsume, SameLength, Same}
+use Rattle.sp_query.specs.Queries.{IsQuery}
 use Rattle.sp_syntax.specs.Printing.{Prints, Equal, SameItems, Each}
 use Rattle.sp_syntax.proofs.Speaking.{Unlike, Paired, prints_one, prints_both, prints_built, prints_after, prints_between, prints_left, prints_right, prints_none, prints_some, prints_map}
 use Rattle.sp_syntax.proofs.Spelled.{mark_spelled, word_spelled, plain_tokens, lexed}

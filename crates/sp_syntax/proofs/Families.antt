@@ -6,13 +6,13 @@ use Rattle.sp_lex.specs.declared.token.Kernel.TheVariants as k
 use Rattle.sp_lex.specs.declared.token.Word.TheVariants as w
 use Rattle.sp_plan.specs.declared.plan.Compare.{Compare}
 use Rattle.sp_plan.specs.declared.plan.Compare.TheVariants as c
-use Rattle.sp_syntax.specs.declared.mark.Mark.TheVariants as m
-use Rattle.sp_syntax.specs.declared.tree.Tree.{Tree}
-use Rattle.sp_syntax.specs.declared.tree.Node.{Node}
-use Rattle.sp_syntax.specs.declared.tree.Node.TheVariants as n
-use Rattle.sp_syntax.specs.Phrase.{Either, left, right}
-use Rattle.sp_syntax.specs.Grammar.{plus, times, compare, one_holds, both_hold, Applied, Between, Operand, Factor, Sum, TestOf, Atom, Pred}
-use Rattle.sp_syntax.specs.Same.{SameTree}
+use Rattle.sp_query.specs.declared.mark.Mark.TheVariants as m
+use Rattle.sp_query.specs.declared.tree.Tree.{Tree}
+use Rattle.sp_query.specs.declared.tree.Node.{Node}
+use Rattle.sp_query.specs.declared.tree.Node.TheVariants as n
+use Rattle.sp_query.specs.Phrase.{Either, left, right}
+use Rattle.sp_query.specs.Grammar.{plus, times, compare, one_holds, both_hold, Applied, Between, Operand, Factor, Sum, TestOf, Atom, Pred}
+use Rattle.sp_query.specs.Same.{SameTree}
 use Rattle.sp_syntax.specs.Printing.{Prints, compare_mark, rank, root}
 use Rattle.sp_syntax.proofs.Operands.{IsLeaf, operand_leaf}
 use Rattle.sp_syntax.proofs.Ranks.{Family, PrintsRoot, root_of, at_more, other_prints}

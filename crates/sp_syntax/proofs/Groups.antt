@@ -2,10 +2,10 @@
 use Rattle.std.proofs.Common.{◌≡◌, Option, List, [], ◌++◌, refl, sym, ◌∙◌, ap, subst, append_assoc, append-nil}
 use Rattle.sp_lex.specs.declared.token.Token.{Token}
 use Rattle.sp_lex.specs.declared.token.Kernel.{Kernel}
-use Rattle.sp_syntax.specs.declared.tree.Tree.{Tree}
-use Rattle.sp_syntax.specs.declared.tree.Node.{Node}
-use Rattle.sp_syntax.specs.Phrase.{One, Both, Either, left, right, Steps, ends, steps, Repeat}
-use Rattle.sp_syntax.specs.Grammar.{kernel, joined, Grouped}
+use Rattle.sp_query.specs.declared.tree.Tree.{Tree}
+use Rattle.sp_query.specs.declared.tree.Node.{Node}
+use Rattle.sp_query.specs.Phrase.{One, Both, Either, left, right, Steps, ends, steps, Repeat}
+use Rattle.sp_query.specs.Grammar.{kernel, joined, Grouped}
 use Rattle.sp_syntax.specs.Printing.{Infix}
 
 -- one step more

@@ -1,5 +1,3 @@
-pub mod Pairs
-pub mod SameForm
 pub mod Groups
 pub mod Speaking
 pub mod Ranks

@@ -2,10 +2,10 @@
 use Rattle.std.proofs.Common.{◌≡◌, ℕ, ◌+◌, ◌≤◌, ◌<◌, List, [], ◌∷◌, ◌++◌, length, get_or, take, refl, sym, ◌∙◌, ap, subst, append_assoc, append-nil}
 use Rattle.std.proofs.lemmas.List.{take_all, take_more}
 use Rattle.sp_lex.specs.declared.token.Token.{Token}
-use Rattle.sp_syntax.specs.declared.mark.Mark.TheVariants as m
-use Rattle.sp_syntax.specs.Phrase.{One, Both, Built, Steps, ends, steps, Repeat}
-use Rattle.sp_syntax.specs.Grammar.{kernel, mark, After, Alone, ListOf, MoreOf}
-use Rattle.sp_syntax.specs.Same.{Pairwise}
+use Rattle.sp_query.specs.declared.mark.Mark.TheVariants as m
+use Rattle.sp_query.specs.Phrase.{One, Both, Built, Steps, ends, steps, Repeat}
+use Rattle.sp_query.specs.Grammar.{kernel, mark, After, Alone, ListOf, MoreOf}
+use Rattle.sp_query.specs.Same.{Pairwise}
 use Rattle.sp_syntax.specs.Printing.{ArePlain, Again, Prints, Each, Adds}
 use Rattle.sp_syntax.proofs.Speaking.{Paired, plain_left, plain_right, Two, spoken_map, spoken_append, spoken_none, prints_both}
 use Rattle.sp_syntax.proofs.Adding.{adds_both, adds_nothing}

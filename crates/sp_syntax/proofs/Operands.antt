@@ -5,13 +5,13 @@ use Rattle.sp_lex.specs.declared.token.Token.{Token}
 use Rattle.sp_lex.specs.declared.token.Kernel.{Kernel}
 use Rattle.sp_lex.specs.declared.token.Kernel.TheVariants as k
 use Rattle.sp_lex.specs.Spelling.{doubled}
-use Rattle.sp_syntax.specs.declared.mark.Mark.TheVariants as m
-use Rattle.sp_syntax.specs.declared.tree.Tree.{Tree}
-use Rattle.sp_syntax.specs.declared.tree.Node.{Node}
-use Rattle.sp_syntax.specs.declared.tree.Node.TheVariants as n
-use Rattle.sp_syntax.specs.Phrase.{One, Both, left, right, Optional}
-use Rattle.sp_syntax.specs.Grammar.{kernel, tree, name, whole, constant, Constant, Dotted, named, Named, Operand}
-use Rattle.sp_syntax.specs.Same.{SameTree, none}
+use Rattle.sp_query.specs.declared.mark.Mark.TheVariants as m
+use Rattle.sp_query.specs.declared.tree.Tree.{Tree}
+use Rattle.sp_query.specs.declared.tree.Node.{Node}
+use Rattle.sp_query.specs.declared.tree.Node.TheVariants as n
+use Rattle.sp_query.specs.Phrase.{One, Both, left, right, Optional}
+use Rattle.sp_query.specs.Grammar.{kernel, tree, name, whole, constant, Constant, Dotted, named, Named, Operand}
+use Rattle.sp_query.specs.Same.{SameTree, none}
 use Rattle.sp_syntax.specs.Written.{IsSpelled}
 use Rattle.sp_syntax.specs.Printing.{IsPlain, ArePlain, Has, Prints, Equal, IsDecimalOf, root}
 use Rattle.sp_syntax.proofs.Numbers.{decimal_digits, decimal_value}

@@ -2,15 +2,15 @@
 use Rattle.std.proofs.Common.{◌≡◌, ◌≢◌, ℕ, zero, suc, ◌+◌, ◌-◌, ◌≤◌, ◌<◌, Option, Some, List, [], ◌∷◌, ◌++◌, refl, sym, ◌∙◌, ap, subst, arith}
 use Rattle.sp_lex.specs.declared.token.Token.{Token}
 use Rattle.sp_lex.specs.declared.token.Kernel.{Kernel}
-use Rattle.sp_syntax.specs.declared.mark.Mark.{Mark}
-use Rattle.sp_syntax.specs.declared.tree.Tree.{Tree, Tree-F, out-Tree, out-roll-Tree}
-use Rattle.sp_syntax.specs.declared.tree.Node.{Node}
-use Rattle.sp_syntax.specs.Phrase.{One, Both, Either, left, right}
-use Rattle.sp_syntax.specs.Grammar.{kernel, mark, tree, span, Grouped, Applied, Between}
-use Rattle.sp_syntax.specs.Same.{SameTrees, none, some, SameTree}
+use Rattle.sp_query.specs.declared.mark.Mark.{Mark}
+use Rattle.sp_query.specs.declared.tree.Tree.{Tree, Tree-F, out-Tree, out-roll-Tree}
+use Rattle.sp_query.specs.declared.tree.Node.{Node}
+use Rattle.sp_query.specs.Phrase.{One, Both, Either, left, right}
+use Rattle.sp_query.specs.Grammar.{kernel, mark, tree, span, Grouped, Applied, Between}
+use Rattle.sp_query.specs.Same.{SameTrees, none, some, SameTree}
 use Rattle.sp_syntax.specs.Written.{IsSpelled}
 use Rattle.sp_syntax.specs.Printing.{ArePlain, Has, Again, Prints, rank, Ranked, root, Rooted, plain_root, sign_root, firm_root, loose_root, Infix}
-use Rattle.sp_syntax.proofs.SameForm.{same_out, same_append}
+use Rattle.sp_query.proofs.SameForm.{same_out, same_append}
 use Rattle.sp_syntax.proofs.Groups.{group_one, group_infix, group_last, group_map}
 use Rattle.sp_syntax.proofs.Speaking.{Unlike, Paired, spoken_map, prints_one, prints_both, prints_built, has_inner, spoken_between}
 

@@ -2,9 +2,9 @@
 use Rattle.std.proofs.Common.{◌≡◌, ℕ, Option, Some, None, List, [], ◌∷◌, ◌++◌, refl, sym, ◌∙◌, ap, subst, append_assoc}
 use Rattle.sp_lex.specs.declared.token.Token.{Token}
 use Rattle.sp_lex.specs.declared.token.Kernel.{Kernel}
-use Rattle.sp_syntax.specs.declared.mark.Mark.{Mark}
-use Rattle.sp_syntax.specs.Phrase.{One, Both, Either, left, right, Built, Optional}
-use Rattle.sp_syntax.specs.Grammar.{kernel, mark, After, Between}
+use Rattle.sp_query.specs.declared.mark.Mark.{Mark}
+use Rattle.sp_query.specs.Phrase.{One, Both, Either, left, right, Built, Optional}
+use Rattle.sp_query.specs.Grammar.{kernel, mark, After, Between}
 use Rattle.sp_syntax.specs.Written.{Written, none, some, kernels, IsSpelled}
 use Rattle.sp_syntax.specs.Printing.{ArePlain, Spoken, Has, Again, Prints}
 

@@ -8,15 +8,15 @@ use Rattle.sp_lex.specs.declared.token.Kernel.TheVariants as k
 use Rattle.sp_lex.specs.Spelling.{spelling, is_digit, number_of, IsName, IsNumber}
 use Rattle.sp_plan.specs.declared.plan.Compare.{Compare}
 use Rattle.sp_plan.specs.declared.plan.Compare.TheVariants as c
-use Rattle.sp_syntax.specs.declared.mark.Mark.{Mark}
-use Rattle.sp_syntax.specs.declared.mark.Mark.TheVariants as m
-use Rattle.sp_syntax.specs.declared.tree.Tree.{Tree, out-Tree}
-use Rattle.sp_syntax.specs.declared.tree.Node.{Node}
-use Rattle.sp_syntax.specs.declared.tree.Node.TheVariants as n
-use Rattle.sp_syntax.specs.declared.query.Ident.{Ident}
-use Rattle.sp_syntax.specs.Same.{Pairwise, SameDefinition}
-use Rattle.sp_syntax.specs.Phrase.{One, Both, Built}
-use Rattle.sp_syntax.specs.Grammar.{kernel, tree, Applied, Grouped, plus, times, one_holds, both_hold, Operand, Factor, Sum, TestOf, Atom, items}
+use Rattle.sp_query.specs.declared.mark.Mark.{Mark}
+use Rattle.sp_query.specs.declared.mark.Mark.TheVariants as m
+use Rattle.sp_query.specs.declared.tree.Tree.{Tree, out-Tree}
+use Rattle.sp_query.specs.declared.tree.Node.{Node}
+use Rattle.sp_query.specs.declared.tree.Node.TheVariants as n
+use Rattle.sp_query.specs.declared.query.Ident.{Ident}
+use Rattle.sp_query.specs.Same.{Pairwise, SameDefinition}
+use Rattle.sp_query.specs.Phrase.{One, Both, Built}
+use Rattle.sp_query.specs.Grammar.{kernel, tree, Applied, Grouped, plus, times, one_holds, both_hold, Operand, Factor, Sum, TestOf, Atom, items}
 use Rattle.sp_syntax.specs.Written.{Written, kernels}
 
 -- A kernel that a text can have.

@@ -1,15 +1,21 @@
-//! The query language: its tokens, handed on from `sp_lex`, and the trees of its queries. What the
-//! grammar is stands in `specs/Grammar.antt`, which queries a text has in `specs/Queries.antt`.
+//! Queries printed as texts that are read as the same queries, and all of `sp_query` handed on. What the
+//! printing promises, function by function, stands in `specs/Printing.antt`.
 #![tactic(auto)]
 
-mod mark;
+mod columns;
+mod consume;
+mod definitions;
+mod expression;
+mod names;
+mod parts;
+mod pattern;
+mod predicate;
 mod printing;
-mod query;
-mod same;
-mod tree;
+mod tokens;
+mod window;
 
-pub use mark::{Mark, is_mark};
 pub use printing::print;
-pub use query::{Ident, Query, QueryColumn, QueryConsume, QueryElement, QueryOpening};
-pub use sp_lex::{Kernel, LexFault, Span, Token, Word, lex};
-pub use tree::{Node, Tree};
+pub use sp_query::{
+    Ident, Kernel, LexFault, Mark, Node, Query, QueryColumn, QueryConsume, QueryElement,
+    QueryOpening, Span, Token, Tree, Word, is_mark, lex,
+};

@@ -5,8 +5,8 @@ use Rattle.std.specs.Str.{IsUtf8}
 use Rattle.sp_cut.specs.CutRows.{without_mark}
 use Rattle.sp_io.specs.Outside.{HoldsFile}
 use Rattle.sp_plan.specs.declared.plan.Plan.{Plan}
-use Rattle.sp_syntax.specs.declared.query.Query.{Query as QueryTree}
-use Rattle.sp_syntax.specs.Queries.{IsQuery}
+use Rattle.sp_query.specs.declared.query.Query.{Query as QueryTree}
+use Rattle.sp_query.specs.Queries.{IsQuery}
 use Rattle.sp_parse.specs.declared.fault.ParseFault.{ParseFault}
 use Rattle.sp_parse.specs.declared.fault.ParseFault.TheVariants as p
 use Rattle.sp_parse.specs.Parses as parses

@@ -9,8 +9,8 @@ use Rattle.sp_plan.specs.declared.event.Event.{Event}
 use Rattle.sp_plan.specs.declared.plan.Plan.{Plan}
 use Rattle.sp_plan.specs.Sequential.{whole}
 use Rattle.sp_plan.specs.Lines.{text}
-use Rattle.sp_syntax.specs.declared.query.Query.{Query as QueryTree}
-use Rattle.sp_syntax.specs.Queries.{IsQuery}
+use Rattle.sp_query.specs.declared.query.Query.{Query as QueryTree}
+use Rattle.sp_query.specs.Queries.{IsQuery}
 use Rattle.sp_parse.specs.declared.fault.ParseFault.{ParseFault}
 use Rattle.sp_parse.specs.declared.fault.ParseFault.TheVariants as parse_fault
 use Rattle.sp_parse.specs.Parses as parses

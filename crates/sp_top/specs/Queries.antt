@@ -4,8 +4,8 @@ use Rattle.std.specs.Str.{IsUtf8}
 use Rattle.sp_io.specs.Outside.{Rose}
 use Rattle.sp_plan.specs.declared.plan.Plan.{Plan}
 use Rattle.sp_plan.specs.Compiled.{IsCompiled}
-use Rattle.sp_syntax.specs.declared.query.Query.{Query as QueryTree}
-use Rattle.sp_syntax.specs.Queries.{IsQuery}
+use Rattle.sp_query.specs.declared.query.Query.{Query as QueryTree}
+use Rattle.sp_query.specs.Queries.{IsQuery}
 use Rattle.sp_compile.specs.Told.{IsPlanOf}
 use Rattle.sp_top.specs.declared.status.Status.{Status}
 use Rattle.sp_top.specs.declared.status.Status.TheVariants.{Done, Memory, Usage, Query, Input, Read, Write, Limited}

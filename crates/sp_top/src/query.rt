@@ -1,6 +1,6 @@
 // From the text of a query to its plan.
 ghost use Rattle.std.specs.Prelude.{◌≡◌, ◌≢◌, ◌≤◌, length, IfOk, IfErr};
-ghost use Rattle.sp_syntax.specs.Queries.{IsQuery};
+ghost use Rattle.sp_query.specs.Queries.{IsQuery};
 ghost use Rattle.sp_parse.specs.declared.fault.ParseFault.{ParseFault};
 ghost use Rattle.sp_parse.specs.Codes as parse_codes;
 ghost use Rattle.sp_compile.specs.declared.fault.CompileFault.{CompileFault};
@@ -13,7 +13,7 @@ use crate::status::Status;
 use sp_compile::{CompileFault, compile};
 use sp_parse::{ParseFault, parse};
 use sp_plan::Plan;
-use sp_syntax::Query;
+use sp_query::Query;
 use std::alloc::Global;
 
 // The status of a text that is no query.

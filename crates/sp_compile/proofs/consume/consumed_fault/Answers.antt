@@ -1,5 +1,5 @@
 use Rattle.std.proofs.Common.{List, ℕ, map, ap, sym, ◌∙◌}
-use Rattle.sp_syntax.specs.declared.query.Ident.{Ident}
+use Rattle.sp_query.specs.declared.query.Ident.{Ident}
 use Rattle.sp_compile.specs.Checks.{defined_fault}
 use Rattle.sp_compile.specs.Scopes.{name_place}
 use Rattle.sp_compile.specs.Sorts.{name_there}

@@ -1,6 +1,6 @@
 use Rattle.std.proofs.Common.{List, ℕ, map, ◌∙◌}
-use Rattle.sp_syntax.specs.declared.query.Ident.{Ident}
-use Rattle.sp_syntax.specs.declared.tree.Tree.{Tree}
+use Rattle.sp_query.specs.declared.query.Ident.{Ident}
+use Rattle.sp_query.specs.declared.tree.Tree.{Tree}
 use Rattle.sp_compile.proofs.Taken.{among_names}
 use Rattle.sp_compile.proofs.definitions.defined_place.Goals as goal
 

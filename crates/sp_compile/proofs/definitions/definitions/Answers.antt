@@ -1,8 +1,8 @@
 use Rattle.std.proofs.Common.{◌≡◌, ◌<◌, ◌≤◌, ◌+◌, [], map, take, length, get_or, Ok, Err, true, sym, ap, subst, ◌∙◌, arith, rules}
 use Rattle.std.proofs.lemmas.Slice.Zip.{AllZip-long}
 use Rattle.sp_plan.specs.declared.plan.Name.{Name}
-use Rattle.sp_syntax.specs.declared.query.Ident.{Ident}
-use Rattle.sp_syntax.specs.declared.tree.Tree.{Tree}
+use Rattle.sp_query.specs.declared.query.Ident.{Ident}
+use Rattle.sp_query.specs.declared.tree.Tree.{Tree}
 use Rattle.sp_compile.specs.Naming.{AreNames, Misdefines, PlaceAnswer}
 use Rattle.sp_compile.proofs.Naming.{GoneThrough, misnamed_here, faulty_here, defined_here, all_through}
 use Rattle.sp_compile.proofs.definitions.definitions.Goals as goal

@@ -1,6 +1,6 @@
 use Rattle.std.proofs.Common.{◌≡◌, ◌++◌, ◌∙◌, List, ap, take, map}
 use Rattle.std.proofs.lemmas.List.{take_all}
-use Rattle.sp_syntax.specs.declared.query.Ident.{Ident}
+use Rattle.sp_query.specs.declared.query.Ident.{Ident}
 use Rattle.sp_compile.specs.Scopes.{names_in, placed_names}
 use Rattle.sp_compile.proofs.Placed.{more_names}
 use Rattle.sp_compile.proofs.elements.pattern_names.Goals as goal

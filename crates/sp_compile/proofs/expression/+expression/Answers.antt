@@ -1,6 +1,6 @@
 use Rattle.std.proofs.Common.{◌≡◌, ◌<◌, List, [], ◌∷◌, get_or, true, length, vec_len, sym, ◌∙◌, subst, rules, arith}
 use Rattle.std.proofs.lemmas.Grind.{common_steps}
-use Rattle.sp_syntax.specs.declared.tree.Tree.{Tree, out-Tree, size-Tree}
+use Rattle.sp_query.specs.declared.tree.Tree.{Tree, out-Tree, size-Tree}
 use Rattle.sp_compile.specs.Sorts.{is_arithmetic}
 use Rattle.sp_compile.specs.Answers.{scope_in, ExprAnswer}
 use Rattle.sp_compile.proofs.Spined.{two_with, under, topped, first_falls, second_falls, no_larger}

@@ -1,5 +1,5 @@
 use Rattle.std.proofs.Common.{◌≡◌, ◌++◌, ◌∷◌, [], sym, refl, subst, List, Bor, rules}
-use Rattle.sp_syntax.specs.declared.tree.Tree.{Tree}
+use Rattle.sp_query.specs.declared.tree.Tree.{Tree}
 use Rattle.sp_compile.specs.Spines.{Spine, ends}
 use Rattle.sp_compile.proofs.Spined.{further}
 use Rattle.sp_compile.proofs.spine.spine.Goals as goal

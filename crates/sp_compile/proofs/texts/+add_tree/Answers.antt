@@ -1,7 +1,7 @@
 use Rattle.std.proofs.Common.{◌≡◌, take, fold, sym, ap, ◌∙◌, subst, arith}
 use Rattle.std.proofs.lemmas.List.{take_all}
 use Rattle.sp_plan.specs.Texts.{with_text}
-use Rattle.sp_syntax.specs.declared.tree.Tree.{out-Tree}
+use Rattle.sp_query.specs.declared.tree.Tree.{out-Tree}
 use Rattle.sp_compile.specs.Gathers.{Gathers}
 use Rattle.sp_compile.specs.Stands.{literal_of}
 use Rattle.sp_compile.proofs.Gathering.{gathers_none, gathers_more, gathers_tree, literal_none}

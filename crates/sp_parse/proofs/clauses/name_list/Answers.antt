@@ -1,5 +1,5 @@
 use Rattle.std.proofs.Common.{refl}
-use Rattle.sp_syntax.specs.Grammar.{kernel, name, Name}
+use Rattle.sp_query.specs.Grammar.{kernel, name, Name}
 use Rattle.sp_parse.specs.Reads.{never, reads_as}
 use Rattle.sp_parse.proofs.Reading.{exit, read_found, read_stops}
 use Rattle.sp_parse.proofs.Forms as f

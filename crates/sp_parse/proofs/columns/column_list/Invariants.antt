@@ -1,5 +1,5 @@
 use Rattle.std.proofs.Common.{ℕ, length}
-use Rattle.sp_syntax.specs.Grammar.{Column}
+use Rattle.sp_query.specs.Grammar.{Column}
 use Rattle.sp_parse.specs.Reads.{never}
 use Rattle.sp_parse.proofs.Forms.{Listing}
 use Rattle.sp_parse.proofs.columns.column_list.Given as goal

@@ -1,8 +1,8 @@
 use Rattle.std.proofs.Common.{refl}
 use Rattle.sp_lex.specs.declared.token.Kernel.TheVariants as k
-use Rattle.sp_syntax.specs.declared.mark.Mark.TheVariants as m
-use Rattle.sp_syntax.specs.Phrase.{One}
-use Rattle.sp_syntax.specs.Grammar.{kernel, whole}
+use Rattle.sp_query.specs.declared.mark.Mark.TheVariants as m
+use Rattle.sp_query.specs.Phrase.{One}
+use Rattle.sp_query.specs.Grammar.{kernel, whole}
 use Rattle.sp_parse.specs.Reads.{never}
 use Rattle.sp_parse.proofs.Reading.{exit}
 use Rattle.sp_parse.proofs.Forms as f

@@ -1,5 +1,5 @@
-use Rattle.sp_syntax.specs.declared.mark.Mark.TheVariants as m
-use Rattle.sp_syntax.specs.Grammar.{Name}
+use Rattle.sp_query.specs.declared.mark.Mark.TheVariants as m
+use Rattle.sp_query.specs.Grammar.{Name}
 use Rattle.sp_parse.specs.Reads.{never}
 use Rattle.sp_parse.proofs.Reading.{exit}
 use Rattle.sp_parse.proofs.Forms as f

@@ -1,4 +1,4 @@
-use Rattle.sp_syntax.specs.Grammar.{Definition}
+use Rattle.sp_query.specs.Grammar.{Definition}
 use Rattle.sp_parse.specs.Follow.{after_pred}
 use Rattle.sp_parse.proofs.Reading.{exit, read_found, read_stops}
 use Rattle.sp_parse.proofs.Forms as f

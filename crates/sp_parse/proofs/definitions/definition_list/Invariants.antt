@@ -1,5 +1,5 @@
 use Rattle.std.proofs.Common.{length}
-use Rattle.sp_syntax.specs.Grammar.{Definition}
+use Rattle.sp_query.specs.Grammar.{Definition}
 use Rattle.sp_parse.specs.Follow.{after_pred}
 use Rattle.sp_parse.proofs.Forms.{Listing}
 use Rattle.sp_parse.proofs.definitions.definition_list.Given as goal

@@ -1,4 +1,4 @@
-use Rattle.sp_syntax.specs.declared.mark.Mark.TheVariants as m
+use Rattle.sp_query.specs.declared.mark.Mark.TheVariants as m
 use Rattle.sp_parse.specs.Follow.{after_pred}
 use Rattle.sp_parse.proofs.Reading.{exit}
 use Rattle.sp_parse.proofs.Forms as f

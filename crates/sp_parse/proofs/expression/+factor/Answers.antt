@@ -1,12 +1,12 @@
 use Rattle.std.proofs.Common.{[], ◌∷◌, sym, ◌∙◌, ap}
-use Rattle.sp_syntax.specs.Trees.{tree_at}
-use Rattle.sp_syntax.specs.Grammar.{kernel, times, plus, joined, Factor, TermOf, Sum}
-use Rattle.sp_syntax.specs.declared.mark.Mark.TheVariants as m
+use Rattle.sp_query.specs.Trees.{tree_at}
+use Rattle.sp_query.specs.Grammar.{kernel, times, plus, joined, Factor, TermOf, Sum}
+use Rattle.sp_query.specs.declared.mark.Mark.TheVariants as m
 use Rattle.sp_parse.specs.Follow.{after_factor, after_term, after_sum}
 use Rattle.sp_parse.proofs.Nested as d
 use Rattle.sp_parse.proofs.Levels as l
 use Rattle.sp_parse.proofs.Forms as o
-use Rattle.sp_syntax.specs.declared.tree.Node.TheVariants as n
+use Rattle.sp_query.specs.declared.tree.Node.TheVariants as n
 use Rattle.sp_parse.proofs.Repeats as g
 use Rattle.sp_parse.proofs.Reading.{exit, read_found, read_stops}
 use Rattle.sp_parse.proofs.Factors as f

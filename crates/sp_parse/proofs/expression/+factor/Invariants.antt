@@ -1,5 +1,5 @@
 use Rattle.std.proofs.Common.{◌+◌, ◌*◌, length}
-use Rattle.sp_syntax.specs.Grammar.{kernel, times, plus, joined, Factor, TermOf}
+use Rattle.sp_query.specs.Grammar.{kernel, times, plus, joined, Factor, TermOf}
 use Rattle.sp_parse.specs.Follow.{after_factor, after_term}
 use Rattle.sp_parse.proofs.Repeats.{Grouping}
 use Rattle.sp_parse.proofs.expression.+factor.Given as goal

@@ -1,5 +1,5 @@
 use Rattle.std.proofs.Common.{[], ◌∙◌, ap}
-use Rattle.sp_syntax.specs.Trees.{tree_at}
+use Rattle.sp_query.specs.Trees.{tree_at}
 use Rattle.sp_parse.proofs.Reading.{exit}
 use Rattle.sp_parse.proofs.Operands.{constant_stops, constant_found}
 use Rattle.sp_parse.proofs.expression.constant.Goals as goal

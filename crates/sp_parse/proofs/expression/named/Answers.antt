@@ -1,6 +1,6 @@
 use Rattle.std.proofs.Common.{[], sym, ◌∙◌, ap}
-use Rattle.sp_syntax.specs.Trees.{tree_at}
-use Rattle.sp_syntax.specs.declared.tree.Node.TheVariants as n
+use Rattle.sp_query.specs.Trees.{tree_at}
+use Rattle.sp_query.specs.declared.tree.Node.TheVariants as n
 use Rattle.sp_parse.proofs.Reading.{exit}
 use Rattle.sp_parse.proofs.Operands.{named_stops, named_alone, named_stops_later, named_found, two_shorter}
 use Rattle.sp_parse.proofs.expression.named.Goals as goal

@@ -1,5 +1,5 @@
 use Rattle.std.proofs.Common.{sym, ◌∙◌}
-use Rattle.sp_syntax.specs.Grammar.{Alone, Element}
+use Rattle.sp_query.specs.Grammar.{Alone, Element}
 use Rattle.sp_parse.proofs.Reading.{exit, read_found, read_stops}
 use Rattle.sp_parse.proofs.Forms as f
 use Rattle.sp_parse.proofs.PatternClause as p

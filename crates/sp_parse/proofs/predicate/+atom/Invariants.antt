@@ -1,5 +1,5 @@
 use Rattle.std.proofs.Common.{◌+◌, ◌*◌, length}
-use Rattle.sp_syntax.specs.Grammar.{kernel, both_hold, one_holds, joined, Atom, ConjOf}
+use Rattle.sp_query.specs.Grammar.{kernel, both_hold, one_holds, joined, Atom, ConjOf}
 use Rattle.sp_parse.specs.Follow.{after_sum, after_conj}
 use Rattle.sp_parse.proofs.Repeats.{Grouping}
 use Rattle.sp_parse.proofs.predicate.+atom.Given as goal

@@ -1,9 +1,9 @@
 use Rattle.std.proofs.Common.{◌≡◌, ℕ, subst, sym, ◌∙◌, Option, List}
-use Rattle.sp_syntax.specs.declared.tree.Tree.{Tree}
-use Rattle.sp_syntax.specs.declared.query.Ident.{Ident}
-use Rattle.sp_syntax.specs.Phrase.{Both, Optional}
-use Rattle.sp_syntax.specs.Grammar as g
-use Rattle.sp_syntax.specs.Same.{Pairwise, SameTime, SameColumn, SameElement, SameOpening, SameConsume, SameLength, Same}
+use Rattle.sp_query.specs.declared.tree.Tree.{Tree}
+use Rattle.sp_query.specs.declared.query.Ident.{Ident}
+use Rattle.sp_query.specs.Phrase.{Both, Optional}
+use Rattle.sp_query.specs.Grammar as g
+use Rattle.sp_query.specs.Same.{Pairwise, SameTime, SameColumn, SameElement, SameOpening, SameConsume, SameLength, Same}
 use Rattle.sp_syntax.specs.Printing.{Prints, Equal, SameItems}
 use Rattle.sp_syntax.proofs.Adding.{on_ok, adds_map, adds_both}
 use Rattle.sp_syntax.proofs.Speaking.{Paired, prints_both}

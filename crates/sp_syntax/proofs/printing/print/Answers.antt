@@ -1,5 +1,5 @@
 use Rattle.std.proofs.Common.{rules, ◌≡◌, ◌++◌, [], string_bytes, subst, sym, ap, ◌∙◌}
-use Rattle.sp_syntax.specs.Queries.{IsQuery}
+use Rattle.sp_query.specs.Queries.{IsQuery}
 use Rattle.sp_syntax.proofs.Clauses as l
 use Rattle.sp_syntax.proofs.printing.print.Goals as goal
 

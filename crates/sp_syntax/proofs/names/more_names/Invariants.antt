@@ -1,0 +1,9 @@
+use Rattle.std.proofs.Common.{take, string_bytes}
+use Rattle.sp_query.specs.declared.mark.Mark.TheVariants as m
+use Rattle.sp_query.specs.Grammar as g
+use Rattle.sp_query.specs.Same.{Pairwise, SameIdent}
+use Rattle.sp_syntax.specs.Printing.{Adds, Prints, Each}
+use Rattle.sp_syntax.proofs.names.more_names.Given as goal
+
+abbrev pub invariant-loop-ident : goal.invariant-loop-ident
+invariant-loop-ident l = Adds (string_bytes l.initial.out) (string_bytes l.out) (Prints (Each (g.After m.Comma g.Name)) (Pairwise SameIdent) (take l.ident-index l.idents))

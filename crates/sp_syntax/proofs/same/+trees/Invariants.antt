@@ -1,7 +1,0 @@
-use Rattle.std.proofs.Common.{length}
-use Rattle.sp_syntax.specs.Same.{SameTree}
-use Rattle.sp_syntax.proofs.Pairs.{PairsUpTo}
-use Rattle.sp_syntax.proofs.same.+trees.Given as goal
-
-abbrev pub invariant-same_trees-loop-x : goal.invariant-same_trees-loop-x
-invariant-same_trees-loop-x l = PairsUpTo SameTree l.xs l.ys (length l.yielded)
