@@ -39,7 +39,7 @@ there_either : (xs ys : List Started) (r : ℕ) → list_any (is_run r) (xs ++ y
 there_either xs ys r there = either (list_any (is_run r) xs) (list_any (is_run r) ys) (sym (list_any-append (is_run r) xs ys) ∙ there)
 
 -- nothing done leads on
-leads_same : (q : Plan) (s : State) → Sound s → Leads q s s
+pub leads_same : (q : Plan) (s : State) → Sound s → Leads q s s
 leads_same q s sound = record {
   matched_stays = ([], sym (append-nil s.matched));
   group_grows = λ r i there among. among;
@@ -87,7 +87,7 @@ module _ (q : Plan) (s t u : State) (sound : Sound s) (first : Leads q s t) (sec
       ⊎_elim (λ (before : is_open t r ≡ true). inr (first.open_before r before)) (λ (above : t.started < r). inr (inr (omega arith))) rest)
       (second.matched_before r matched)
 
-  leads_on : Leads q s u
+  pub leads_on : Leads q s u
   leads_on = record {
     matched_stays = (
       first.matched_stays.0 ++ second.matched_stays.0,

@@ -31,3 +31,4 @@ pub mod Lefts
 pub mod Tallies
 pub mod Tallying
 pub mod Wantings
+pub mod Several

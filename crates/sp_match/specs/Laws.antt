@@ -1,6 +1,6 @@
 -- What the runs of a window keep, whatever moves are made.
 use Rattle.std.specs.Prelude.{◌≡◌, ◌⊎◌, ℕ, ◌+◌, ◌<◌, ◌≤◌, Bool, true, false, List, [], ◌∷◌, ◌++◌, length, filter, map}
-use Rattle.std.specs.List.{All, list_any, flat_map}
+use Rattle.std.specs.List.{All, list_any, flat_map, fold}
 use Rattle.std.specs.List.Sorted.{IsStrictlyIncreasing}
 use Rattle.sp_plan.specs.declared.plan.Plan.{Plan}
 use Rattle.sp_plan.specs.Windows.{Numbered}
@@ -84,6 +84,21 @@ pub record HandlingIsLawful : Type 0 where
   pub handled_leads : (q : Plan) (s : State) (x : Numbered) → Sound s → Leads q s (handle q s x)
   pub closed_sound : (s : State) → Sound s → Sound (after_closing s)
   pub closed_leads : (q : Plan) (s : State) → Sound s → Leads q s (after_closing s)
+
+-- the numbers of these events rise, none of them below the first bound and all of them below the second
+abbrev pub RisesWithin : ℕ → List Numbered → ℕ → Type 0
+RisesWithin low [] high = low ≤ high
+RisesWithin low (x ∷ events) high = (low ≤ x.0) × RisesWithin (x.0 + 1) events high
+
+-- The handling of several events, one after another, keeps what that of one keeps; their numbers may leave gaps.
+pub record SeveralAreLawful : Type 0 where
+  pub sound : (q : Plan) (s : State) (events : List Numbered) → Sound s → Sound (fold (handle q) s events)
+  pub leads : (q : Plan) (s : State) (events : List Numbered) → Sound s → Leads q s (fold (handle q) s events)
+  pub below : (q : Plan) (s : State) (events : List Numbered) (low high : ℕ) → Below low s → RisesWithin low events high → Below high (fold (handle q) s events)
+
+-- An open run has no match.
+abbrev pub OpenHasNoMatch : Type 0
+OpenHasNoMatch = (s : State) (r : ℕ) → Sound s → is_open s r ≡ true → is_matched s r ≡ false
 
 -- a run that matched, as the move is told that completes it
 abbrev pub completion : Plan → Started → Told
