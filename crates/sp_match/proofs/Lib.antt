@@ -32,3 +32,5 @@ pub mod Tallies
 pub mod Tallying
 pub mod Wantings
 pub mod Several
+pub mod Proper
+pub mod Abandonments

@@ -5,7 +5,7 @@ use Rattle.std.proofs.lemmas.List.Elements.{All-weaker}
 use Rattle.sp_plan.specs.declared.plan.Plan.{Plan}
 use Rattle.sp_plan.specs.Windows.{Numbered}
 use Rattle.sp_plan.specs.Runs.{Pair, Started, State, handle}
-use Rattle.sp_match.specs.Laws.{Sound, Leads, Below, RisesWithin, SeveralAreLawful, OpenHasNoMatch, is_open, is_matched}
+use Rattle.sp_match.specs.Laws.{Sound, Leads, Below, RisesWithin, SeveralAreLawful, OpenHasNoMatch, is_matched}
 use Rattle.sp_match.proofs.Below.{numbers_stay_below}
 use Rattle.sp_match.proofs.Counts.{sound_handled}
 use Rattle.sp_match.proofs.Groups.{apart}
