@@ -1,9 +1,11 @@
 -- Laws of windows: what one event more, and the end of input, do to them.
-use Rattle.std.specs.Prelude.{◌≡◌, ◌↔◌, ℕ, ◌+◌, ◌-◌, ◌≤◌, Bool, true, false, List, [], ◌∷◌, ◌++◌, length, Some, take, drop}
+use Rattle.std.specs.Prelude.{◌≡◌, ◌↔◌, ℕ, suc, ◌+◌, ◌-◌, ◌<◌, ◌≤◌, Bool, true, false, List, [], ◌∷◌, ◌++◌, length, Some, take, drop}
 use Rattle.sp_plan.specs.declared.event.Event.{Event}
 use Rattle.sp_plan.specs.declared.plan.Plan.{Plan}
 use Rattle.sp_plan.specs.Windows.{Window, numbered, events_of, closed}
-use Rattle.sp_plan.specs.Sequential.{seq}
+use Rattle.sp_plan.specs.Runs.{state, matched_runs}
+use Rattle.sp_plan.specs.Reading.{reading}
+use Rattle.sp_plan.specs.Sequential.{seq, visible, after_window}
 use Rattle.sp_plan.specs.WindowNumbers.{Good, count, first, size, numbered_window}
 
 -- no events are good, and good events are so without the last one
@@ -49,3 +51,11 @@ pub record ClosedFirst (q : Plan) : Type 0 where
 pub record FinishedStay (q : Plan) : Type 0 where
   pub closed_more : (events more : List Event) → Good q (events ++ more) → closed q events false ≤ closed q (events ++ more) false
   pub progress : (events more : List Event) (n : ℕ) → Good q (events ++ more) → n ≤ closed q events false → seq q (events ++ more) n ≡ seq q events n
+
+-- what the window-by-window engine reads of a window is the reading of all its events, by their numbers, without those consumed; so
+-- each window adds what such a reading matched
+pub record WindowsAreRead (q : Plan) : Type 0 where
+  pub state_is : (events : List Event) (consumed : List ℕ) (w : ℕ) (ended : Bool) → IsNumber q events w
+      → reading q events consumed (first q events w) (size q events w) ≡ state q (visible events consumed (numbered_window q events ended w))
+  pub progress : (events : List Event) (n : ℕ) → Good q events → n < count q events
+      → (let before = seq q events n in seq q events (suc n) ≡ after_window q (suc n) before (matched_runs (reading q events before.consumed (first q events (suc n)) (size q events (suc n)))))

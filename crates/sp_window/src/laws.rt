@@ -1,7 +1,7 @@
 ghost use Rattle.sp_plan.specs.declared.plan.Plan.{Plan};
 ghost use Rattle.sp_plan.specs.Sequential.{Grows};
 ghost use Rattle.sp_plan.specs.Windows.{IsWindowed};
-ghost use Rattle.sp_window.specs.Laws.{GoodEvents, Holds, KeptByFeeding, ClosedFirst, FinishedStay};
+ghost use Rattle.sp_window.specs.Laws.{GoodEvents, Holds, KeptByFeeding, ClosedFirst, FinishedStay, WindowsAreRead};
 
 /// Law: no events are good, and good events are so without the last one.
 pub fn good_events()
@@ -27,6 +27,12 @@ pub fn closed_come_first()
 /// Law: what finished windows gave stays, whatever events come: their matches, and what they consumed.
 pub fn finished_windows_stay()
     ensures { (q : Plan) → IsWindowed q → FinishedStay q }
+{}
+
+/// Law: what the window-by-window engine reads of a window is the reading of all its events by their
+/// numbers, without those consumed, and each window adds what such a reading matched.
+pub fn windows_are_read()
+    ensures { (q : Plan) → IsWindowed q → WindowsAreRead q }
 {}
 
 /// Law: while the input has not ended, the matches so far begin those of any longer input.
