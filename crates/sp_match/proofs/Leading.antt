@@ -15,7 +15,7 @@ use Rattle.sp_match.proofs.Counts.{sound_moved, sound_all, sound_handled}
 use Rattle.sp_match.proofs.Groups.{in_group, group_append, or_left, or_right, group_there, apart, without_there, without_group, own_there, own_group, with_pair_there, with_pair_group}
 
 -- the number of a run that is there was given
-there_given : (n r : ℕ) (xs : List Started) → All (IsGiven n) xs → list_any (is_run r) xs ≡ true → r ≤ n
+pub there_given : (n r : ℕ) (xs : List Started) → All (IsGiven n) xs → list_any (is_run r) xs ≡ true → r ≤ n
 there_given n r [] given there = absurd (cc)
 there_given n r (x ∷ xs) given there = one (is_run r x) refl there (there_given n r xs (All-tail (IsGiven n) x xs given))
   where
@@ -31,7 +31,7 @@ group_apart : (q : Plan) (s : State) (r i : ℕ) → Sound s → is_matched s r 
 group_apart q s r i sound matched among = apart s r sound (group_there q s.open_runs r i among) matched
 
 -- an or that holds
-either : (a b : Bool) → (a || b) ≡ true → (a ≡ true) ⊎ (b ≡ true)
+pub either : (a b : Bool) → (a || b) ≡ true → (a ≡ true) ⊎ (b ≡ true)
 either true b holds = inl refl
 either false b holds = inr holds
 
@@ -39,7 +39,7 @@ there_either : (xs ys : List Started) (r : ℕ) → list_any (is_run r) (xs ++ y
 there_either xs ys r there = either (list_any (is_run r) xs) (list_any (is_run r) ys) (sym (list_any-append (is_run r) xs ys) ∙ there)
 
 -- nothing done leads on
-leads_same : (q : Plan) (s : State) → Sound s → Leads q s s
+pub leads_same : (q : Plan) (s : State) → Sound s → Leads q s s
 leads_same q s sound = record {
   matched_stays = ([], sym (append-nil s.matched));
   group_grows = λ r i there among. among;
@@ -87,7 +87,7 @@ module _ (q : Plan) (s t u : State) (sound : Sound s) (first : Leads q s t) (sec
       ⊎_elim (λ (before : is_open t r ≡ true). inr (first.open_before r before)) (λ (above : t.started < r). inr (inr (omega arith))) rest)
       (second.matched_before r matched)
 
-  leads_on : Leads q s u
+  pub leads_on : Leads q s u
   leads_on = record {
     matched_stays = (
       first.matched_stays.0 ++ second.matched_stays.0,

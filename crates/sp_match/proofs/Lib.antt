@@ -31,3 +31,6 @@ pub mod Lefts
 pub mod Tallies
 pub mod Tallying
 pub mod Wantings
+pub mod Several
+pub mod Proper
+pub mod Abandonments

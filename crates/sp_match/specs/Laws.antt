@@ -1,6 +1,6 @@
 -- What the runs of a window keep, whatever moves are made.
-use Rattle.std.specs.Prelude.{◌≡◌, ◌⊎◌, ℕ, ◌+◌, ◌<◌, ◌≤◌, Bool, true, false, List, [], ◌∷◌, ◌++◌, length, filter, map}
-use Rattle.std.specs.List.{All, list_any, flat_map}
+use Rattle.std.specs.Prelude.{◌≡◌, ◌↔◌, ◌⊎◌, ℕ, ◌+◌, ◌<◌, ◌≤◌, ◌==◌, Bool, true, false, List, [], ◌∷◌, ◌++◌, length, filter, map}
+use Rattle.std.specs.List.{All, list_any, flat_map, fold}
 use Rattle.std.specs.List.Sorted.{IsStrictlyIncreasing}
 use Rattle.sp_plan.specs.declared.plan.Plan.{Plan}
 use Rattle.sp_plan.specs.Windows.{Numbered}
@@ -85,6 +85,21 @@ pub record HandlingIsLawful : Type 0 where
   pub closed_sound : (s : State) → Sound s → Sound (after_closing s)
   pub closed_leads : (q : Plan) (s : State) → Sound s → Leads q s (after_closing s)
 
+-- the numbers of these events rise, none of them below the first bound and all of them below the second
+abbrev pub RisesWithin : ℕ → List Numbered → ℕ → Type 0
+RisesWithin low [] high = low ≤ high
+RisesWithin low (x ∷ events) high = (low ≤ x.0) × RisesWithin (x.0 + 1) events high
+
+-- The handling of several events, one after another, keeps what that of one keeps; their numbers may leave gaps.
+pub record SeveralAreLawful : Type 0 where
+  pub sound : (q : Plan) (s : State) (events : List Numbered) → Sound s → Sound (fold (handle q) s events)
+  pub leads : (q : Plan) (s : State) (events : List Numbered) → Sound s → Leads q s (fold (handle q) s events)
+  pub below : (q : Plan) (s : State) (events : List Numbered) (low high : ℕ) → Below low s → RisesWithin low events high → Below high (fold (handle q) s events)
+
+-- An open run has no match.
+abbrev pub OpenHasNoMatch : Type 0
+OpenHasNoMatch = (s : State) (r : ℕ) → Sound s → is_open s r ≡ true → is_matched s r ≡ false
+
 -- a run that matched, as the move is told that completes it
 abbrev pub completion : Plan → Started → Told
 completion q run = CompletedTold run.0 (bindings q run.1) (used q run.1)
@@ -99,3 +114,21 @@ is_completion (AbandonedTold run) = false
 -- The completions told of an event are the matches that it adds, in their order.
 abbrev pub CompletionsAreMatches : Type 0
 CompletionsAreMatches = (q : Plan) (s : State) (x : Numbered) → Ordered s → map (completion q) (handle q s x).matched ≡ map (completion q) s.matched ++ filter is_completion (told q s (moves q s x))
+
+-- whether the run of that number is abandoned by the move told
+abbrev pub is_abandonment : ℕ → Told → Bool
+is_abandonment r (OpenedTold run) = false
+is_abandonment r (GrownTold run number) = false
+is_abandonment r (CompletedTold run bound used) = false
+is_abandonment r (AbandonedTold run) = run == r
+
+-- A run that was open in s, or started on the way from s to t, is no longer open in t, and has no match there.
+pub record IsGone (s t : State) (r : ℕ) : Type 0 where
+  pub was : (is_open s r ≡ true) ⊎ ((s.started < r) × (r ≤ t.started))
+  pub not_open : is_open t r ≡ false
+  pub not_matched : is_matched t r ≡ false
+
+-- The abandonments told of an event are those of the runs that are gone after it, and the abandonments told of the closing are those of the open runs.
+pub record AbandonmentsAreTold : Type 0 where
+  pub handled : (q : Plan) (s : State) (x : Numbered) (r : ℕ) → Sound s → (list_any (is_abandonment r) (told q s (moves q s x)) ≡ true) ↔ IsGone s (handle q s x) r
+  pub closed : (q : Plan) (s : State) (r : ℕ) → list_any (is_abandonment r) (told q s (closing s)) ≡ is_open s r

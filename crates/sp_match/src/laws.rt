@@ -1,4 +1,4 @@
-ghost use Rattle.sp_match.specs.Laws.{MovesAreHandling, ClosingEndsRuns, OneEventMore, NumbersStayBelow, RunsAreSound, MovesLeadOn, HandlingIsLawful, CompletionsAreMatches};
+ghost use Rattle.sp_match.specs.Laws.{MovesAreHandling, ClosingEndsRuns, OneEventMore, NumbersStayBelow, RunsAreSound, MovesLeadOn, HandlingIsLawful, SeveralAreLawful, OpenHasNoMatch, CompletionsAreMatches, AbandonmentsAreTold};
 
 /// Law: the moves of an event, made one after another, lead to the runs that the event's handling leads to.
 pub fn moves_are_handling()
@@ -38,4 +38,21 @@ pub fn handling_is_lawful()
 /// Law: the completions told of an event are the matches that it adds, in their order.
 pub fn completions_are_matches()
     ensures { CompletionsAreMatches }
+{}
+
+/// Law: the abandonments told of an event are those of the runs that are gone after it, with no match; of the closing, those of
+/// the open runs.
+pub fn abandonments_are_told()
+    ensures { AbandonmentsAreTold }
+{}
+
+/// Law: several events, handled one after another, use each run number once and lead on; and where their numbers rise, all
+/// numbers of open runs and the count of runs stay below a bound that is above theirs.
+pub fn several_are_lawful()
+    ensures { SeveralAreLawful }
+{}
+
+/// Law: a run that is open has no match.
+pub fn open_has_no_match()
+    ensures { OpenHasNoMatch }
 {}

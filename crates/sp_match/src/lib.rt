@@ -15,8 +15,9 @@ mod turns;
 mod wanting;
 
 pub use laws::{
-    closing_ends_runs, completions_are_matches, handling_is_lawful, moves_are_handling,
-    moves_lead_on, numbers_stay_below, one_event_more, runs_are_sound,
+    abandonments_are_told, closing_ends_runs, completions_are_matches, handling_is_lawful,
+    moves_are_handling, moves_lead_on, numbers_stay_below, one_event_more, open_has_no_match,
+    runs_are_sound, several_are_lawful,
 };
 pub use matcher::Matcher;
 pub use moves::{Move, Moves};

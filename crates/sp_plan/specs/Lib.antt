@@ -5,6 +5,7 @@ pub mod Windows
 pub mod WindowNumbers
 pub mod Runs
 pub mod Moves
+pub mod Reading
 pub mod Sequential
 pub mod Lines
 pub mod Bounds

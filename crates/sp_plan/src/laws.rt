@@ -1,5 +1,5 @@
 // What is true of every plan and event. A law runs no code: who calls it has the fact.
-ghost use Rattle.sp_plan.specs.Laws.{FittingEventsAreSmall, PlansAreThemselves, SamePredicatesHoldAlike};
+ghost use Rattle.sp_plan.specs.Laws.{FittingEventsAreSmall, PlansAreThemselves, ReadingIsState, SamePredicatesHoldAlike};
 
 /// Law: the numbers of an event that fits a plan are at most 10^15 in magnitude.
 pub fn fitting_events_are_small()
@@ -15,4 +15,10 @@ pub fn plans_are_themselves()
 /// the same events.
 pub fn same_predicates_hold_alike()
     ensures { SamePredicatesHoldAlike }
+{}
+
+/// Law: the reading of events by their numbers comes to the state of those of them that are there and
+/// aren't skipped; other numbers to skip, and events behind those read, don't count.
+pub fn reading_is_state()
+    ensures { ReadingIsState }
 {}

@@ -18,7 +18,9 @@ pub use bound::Bound;
 pub use eval::{holds, value};
 pub use event::{Event, Value};
 pub use found::Match;
-pub use laws::{fitting_events_are_small, plans_are_themselves, same_predicates_hold_alike};
+pub use laws::{
+    fitting_events_are_small, plans_are_themselves, reading_is_state, same_predicates_hold_alike,
+};
 pub use listed::{Listed, Text};
 pub use places::Places;
 pub use plan::{

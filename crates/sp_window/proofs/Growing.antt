@@ -13,7 +13,7 @@ use Rattle.sp_plan.specs.Sequential.{Progress, match_of, after_window, visible, 
 use Rattle.sp_plan.specs.Windows.{Numbered, numbered, Window, windows, closed, events_of, IsWindowed}
 use Rattle.sp_plan.specs.WindowNumbers.{Good}
 use Rattle.sp_window.specs.Openings.{opened}
-use Rattle.sp_window.specs.Laws.{IsNumber}
+use Rattle.sp_window.specs.Laws.{IsNumber, FinishedStay}
 use Rattle.sp_window.proofs.Lists.{by_feeding}
 use Rattle.sp_window.proofs.Feeding.{good_less}
 use Rattle.sp_window.proofs.Lasts.{numbered_push, last_stays}
@@ -120,3 +120,10 @@ grows q events more ended limits fit order =
     by : (b : Bool) → Good q (events ++ more) → closed q events false ≤ closed q (events ++ more) false → closed q events false ≤ closed q (events ++ more) b
     by false good low = low
     by true good low = let end = (closed_come_first q limits).closed_end (events ++ more) good in omega arith
+
+-- the law of finished windows
+pub finished_stay : (q : Plan) → IsWindowed q → FinishedStay q
+finished_stay q limits = record {
+  closed_more = λ events more good. (stays q limits events more good).count;
+  progress = λ events more n good low. (stays q limits events more good).progress n low;
+}

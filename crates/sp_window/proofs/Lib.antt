@@ -11,3 +11,4 @@ pub mod Multiples
 pub mod Parts
 pub mod Numbers
 pub mod Growing
+pub mod ByReading

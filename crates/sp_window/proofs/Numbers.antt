@@ -1,5 +1,5 @@
 -- Windows by their numbers, as events come and end.
-use Rattle.std.proofs.Common.{◌≡◌, ◌↔◌, inl, inr, ℕ, zero, suc, ◌+◌, ◌-◌, ◌<◌, ◌≤◌, Bool, true, false, List, [], ◌∷◌, ◌++◌, length, take, drop, Some, refl, sym, ap, ◌∙◌, subst, arith, length-append}
+use Rattle.std.proofs.Common.{◌≡◌, ◌↔◌, inl, inr, ℕ, zero, suc, ◌+◌, ◌-◌, ◌<◌, ◌≤◌, Bool, true, false, ◌||◌, List, [], ◌∷◌, ◌++◌, length, take, drop, Some, refl, sym, ap, ◌∙◌, subst, arith, length-append}
 use Rattle.std.specs.Prelude.{filter, slice_get, ◌==◌}
 use Rattle.std.specs.List.{All}
 use Rattle.std.specs.Option.{option_map}
@@ -18,7 +18,7 @@ use Rattle.sp_window.specs.Standing.{last_of, last_stamp, is_shut}
 use Rattle.sp_window.specs.Laws.{GoodEvents, IsNumber, Holds, KeptByFeeding, ClosedFirst}
 use Rattle.sp_window.proofs.Lists.{all_at, get_front, get_there, length_push, filter_all, filter_none, filter_fewer}
 use Rattle.sp_window.proofs.Feeding.{good_none, good_less, last_stamp_push}
-use Rattle.sp_window.proofs.Lasts.{first_le_last, last_within, last_rises, last_stays, stays_reached}
+use Rattle.sp_window.proofs.Lasts.{first_le_last, last_within, last_rises, last_stays, last_open, reached, stays_reached}
 use Rattle.sp_window.proofs.Opened.{opened_push, opening, Follows, InOrder, InRange, all_opened}
 use Rattle.sp_window.proofs.Parts.{events_are}
 use Rattle.sp_window.proofs.Settling.{none_behind}
@@ -116,8 +116,24 @@ windows_hold q limits = record {
   within = λ events w number. let at = at_number q limits events w number in let f = first_at q events w at in let s = size_at q events w at in let l = first_le_last at.r events in let h = last_high q events w at in omega arith;
   members = λ events w ended x number is. members events w ended x (at_number q limits events w number) is;
   in_order = λ events v w low le number. in_order events v w low le number;
+  open_reaches = λ events w ended x number is free. open_reaches events w ended x (at_number q limits events w number) is free;
 }
   where
+    late_part : (a b : Bool) → (a || b) ≡ false → b ≡ false
+    late_part true b is = cc
+    late_part false b is = is
+
+    open_reaches : (events : List Event) (w : ℕ) (ended : Bool) (x : Window) (at : At q events w) → numbered_window q events ended w ≡ Some x → x.closed ≡ false → first q events w + size q events w ≡ length events + 1
+    open_reaches events w ended x at is free =
+        let both : Some (window_of events ended at.r) ≡ Some x = sym (at.is ended) ∙ is in
+        let same : window_of events ended at.r ≡ x = cc in
+        let flag : is_shut events ended at.r ≡ false = ap (λ (z : Window). z.closed) same ∙ free in
+        let last = last_open at.r events at.high (late_part ended (reached events at.r) flag) in
+        let f = first_at q events w at in
+        let s = size_at q events w at in
+        let high = at.high in
+        omega arith
+
     members : (events : List Event) (w : ℕ) (ended : Bool) (x : Window) (at : At q events w) → numbered_window q events ended w ≡ Some x → events_of events x ≡ take (size q events w) (drop (first q events w - 1) (numbered events))
     members events w ended x at is =
         let both : Some (window_of events ended at.r) ≡ Some x = sym (at.is ended) ∙ is in

@@ -1,15 +1,15 @@
 ghost use Rattle.sp_plan.specs.declared.plan.Plan.{Plan};
 ghost use Rattle.sp_plan.specs.Sequential.{Grows};
 ghost use Rattle.sp_plan.specs.Windows.{IsWindowed};
-ghost use Rattle.sp_window.specs.Laws.{GoodEvents, Holds, KeptByFeeding, ClosedFirst};
+ghost use Rattle.sp_window.specs.Laws.{GoodEvents, Holds, KeptByFeeding, ClosedFirst, FinishedStay, WindowsAreRead};
 
 /// Law: no events are good, and good events are so without the last one.
 pub fn good_events()
     ensures { (q : Plan) → GoodEvents q }
 {}
 
-/// Law: a window of good events holds consecutive ones of them, at least one, and later windows begin
-/// no earlier.
+/// Law: a window of good events holds consecutive ones of them, at least one, up to the last one while it
+/// is open, and later windows begin no earlier.
 pub fn windows_hold()
     ensures { (q : Plan) → IsWindowed q → Holds q }
 {}
@@ -22,6 +22,17 @@ pub fn windows_are_kept()
 /// Law: the closed windows are the first ones; they stay closed, and keep their events.
 pub fn closed_come_first()
     ensures { (q : Plan) → IsWindowed q → ClosedFirst q }
+{}
+
+/// Law: what finished windows gave stays, whatever events come: their matches, and what they consumed.
+pub fn finished_windows_stay()
+    ensures { (q : Plan) → IsWindowed q → FinishedStay q }
+{}
+
+/// Law: what the window-by-window engine reads of a window is the reading of all its events by their
+/// numbers, without those consumed, and each window adds what such a reading matched.
+pub fn windows_are_read()
+    ensures { (q : Plan) → IsWindowed q → WindowsAreRead q }
 {}
 
 /// Law: while the input has not ended, the matches so far begin those of any longer input.

@@ -8,5 +8,8 @@ mod opening;
 mod record;
 mod windows;
 
-pub use laws::{closed_come_first, good_events, growth, windows_are_kept, windows_hold};
+pub use laws::{
+    closed_come_first, finished_windows_stay, good_events, growth, windows_are_kept,
+    windows_are_read, windows_hold,
+};
 pub use windows::{Window, Windows};

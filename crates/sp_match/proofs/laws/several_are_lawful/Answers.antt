@@ -1,0 +1,5 @@
+use Rattle.sp_match.proofs.Several.{several_are_lawful}
+use Rattle.sp_match.proofs.laws.several_are_lawful.Goals as goal
+
+pub returns : goal.returns
+returns c = several_are_lawful

@@ -1,0 +1,41 @@
+//! What a layer over matcher and windows may rely on, whichever plan is run: it stands in
+//! `specs/Lawful.antt`, and follows from the laws of the layers below. No code runs here.
+#![tactic(auto)]
+
+ghost use Rattle.sp_plan.specs.declared.plan.Plan.{Plan};
+ghost use Rattle.sp_plan.specs.Compiled.{IsCompiled};
+ghost use Rattle.sp_rules.specs.Lawful.{Lawful};
+
+use sp_match::{
+    abandonments_are_told, closing_ends_runs, completions_are_matches, handling_is_lawful,
+    moves_are_handling, moves_lead_on, numbers_stay_below, open_has_no_match, runs_are_sound,
+    several_are_lawful,
+};
+use sp_plan::reading_is_state;
+use sp_window::{
+    closed_come_first, finished_windows_stay, good_events, windows_are_kept, windows_are_read,
+    windows_hold,
+};
+
+/// Law: the matcher and the windows of every compiled plan keep what a layer over them relies on.
+pub fn compiled_plans_are_lawful()
+    ensures { (q : Plan) → IsCompiled q → Lawful q }
+{
+    runs_are_sound();
+    handling_is_lawful();
+    several_are_lawful();
+    moves_are_handling();
+    moves_lead_on();
+    closing_ends_runs();
+    open_has_no_match();
+    numbers_stay_below();
+    completions_are_matches();
+    abandonments_are_told();
+    reading_is_state();
+    good_events();
+    windows_hold();
+    windows_are_kept();
+    closed_come_first();
+    finished_windows_stay();
+    windows_are_read();
+}
