@@ -17,8 +17,7 @@ use Rattle.sp_plan.specs.declared.plan.Plan.{Plan}
 use Rattle.sp_plan.specs.Bounds.{IsSmall, SmallValue}
 use Rattle.sp_plan.specs.Events.{fits, fits_kind, fits_column}
 use Rattle.sp_plan.specs.WindowNumbers.{Good}
-use Rattle.sp_window.specs.Openings.{stamp}
-use Rattle.sp_window.specs.Standing.{last_stamp, stamp_or_zero}
+use Rattle.sp_window.specs.Times.{stamp, stamp_or_zero, last_stamp}
 use Rattle.sp_window.proofs.Lists.{last_or-push, last_at, get_push, get_front, get_there, all_at, all_front}
 
 -- what an event that fits keeps of its time

@@ -24,9 +24,11 @@ use Rattle.sp_window.specs.declared.record.Limit.TheVariants.{AtNumber, AtTime}
 use Rattle.sp_window.specs.declared.record.Record.{Record}
 use Rattle.sp_window.specs.declared.windows.Window as shown_as
 use Rattle.sp_window.specs.Limits.{is_reached, settled, closed_from}
-use Rattle.sp_window.specs.Openings.{stamp, opening_by, opened, span_after}
+use Rattle.sp_window.specs.Times.{stamp, last_stamp}
+use Rattle.sp_window.specs.Openings.{opening_by, opened, span_after}
 use Rattle.sp_window.specs.Opens.{next_after}
-use Rattle.sp_window.specs.Standing.{Kept, Stands, IsNext, is_below, last_of, last_stamp, is_shut, record_at, shown}
+use Rattle.sp_window.specs.Holding.{IsNext, is_below, last_of, is_shut, record_at}
+use Rattle.sp_window.specs.Standing.{Kept, Stands, shown}
 use Rattle.sp_window.proofs.Lists.{all_at, get_front, get_push, length_push, count_map, filter_none, filter_all, filter_fewer, all_both}
 use Rattle.sp_window.proofs.Feeding.{in_time, good_none, last_stamp_push}
 use Rattle.sp_window.proofs.Opened.{InOrder, Opens, OpensFew, opening, opening_opens, opened_push, span_after_push, InRange, all_opened, horizon}
@@ -75,9 +77,9 @@ good_more q events e good fits_e rise = (All-push (λ x. fits q x ≡ true) even
 -- what is kept after an event, against what was kept before
 pub record Feeds (w v : Kept) (e : Event) : Type 0 where
   pub plan_is : v.plan ≡ w.plan
-  pub records_are : v.records ≡ settled w.shut (w.fed + 1) (stamp e) (w.records ++ opening_by w.plan.opening w.plan.length (w.fed + 1) w.next e)
-  pub shut_is : v.shut ≡ w.shut + prefix_len (λ (r : Record). is_reached r.limit (w.fed + 1) (stamp e)) (drop w.shut (w.records ++ opening_by w.plan.opening w.plan.length (w.fed + 1) w.next e))
-  pub next_is : v.next ≡ next_after w.plan.opening (w.fed + 1) w.next e
+  pub records_are : v.held.records ≡ settled w.held.shut (w.fed + 1) (stamp e) (w.held.records ++ opening_by w.plan.opening w.plan.length (w.fed + 1) w.held.next e)
+  pub shut_is : v.held.shut ≡ w.held.shut + prefix_len (λ (r : Record). is_reached r.limit (w.fed + 1) (stamp e)) (drop w.held.shut (w.held.records ++ opening_by w.plan.opening w.plan.length (w.fed + 1) w.held.next e))
+  pub next_is : v.held.next ≡ next_after w.plan.opening (w.fed + 1) w.held.next e
   pub fed_is : v.fed ≡ w.fed + 1
   pub time_is : v.time ≡ stamp e
   pub ended_is : v.ended ≡ false
@@ -192,14 +194,14 @@ module _ (w v : Kept) (events : List Event) (e : Event) (limits : IsWindowed w.p
   next_number : w.fed + 1 ≡ length events + 1
   next_number = let at = stands.fed_is in omega arith
 
-  news_are : opening_by w.plan.opening w.plan.length (w.fed + 1) w.next e ≡ opening w.plan events e
-  news_are = ap (λ (n : ℕ). opening_by w.plan.opening w.plan.length n w.next e) next_number ∙ opening_next w.plan.opening w.plan.length (length events + 1) w.next events e stands.next_is
+  news_are : opening_by w.plan.opening w.plan.length (w.fed + 1) w.held.next e ≡ opening w.plan events e
+  news_are = ap (λ (n : ℕ). opening_by w.plan.opening w.plan.length n w.held.next e) next_number ∙ opening_next w.plan.opening w.plan.length (length events + 1) w.held.next events e stands.held_is.next_is
 
-  shut_before : w.shut ≡ length (filter (is_shut events false) (opened w.plan events))
-  shut_before = stands.shut_is ∙ closed_is w.plan limits events false stands.good
+  shut_before : w.held.shut ≡ length (filter (is_shut events false) (opened w.plan events))
+  shut_before = stands.held_is.shut_is ∙ closed_is w.plan limits events false stands.good
 
-  all_before : w.records ++ opening_by w.plan.opening w.plan.length (w.fed + 1) w.next e ≡ map (record_at events false) (opened w.plan events) ++ opening w.plan events e
-  all_before = λ i. stands.records_are i ++ news_are i
+  all_before : w.held.records ++ opening_by w.plan.opening w.plan.length (w.fed + 1) w.held.next e ≡ map (record_at events false) (opened w.plan events) ++ opening w.plan events e
+  all_before = λ i. stands.held_is.records_are i ++ news_are i
 
   fed_stands : Stands (record v { plan = w.plan }) (events ++ e ∷ []) false
   fed_stands =
@@ -210,10 +212,12 @@ module _ (w v : Kept) (events : List Event) (e : Event) (limits : IsWindowed w.p
         fed_is = let size = length_push events e in let at = feeds.fed_is in let was = stands.fed_is in omega arith;
         time_is = feeds.time_is ∙ sym (last_stamp_push events e);
         ended_is = feeds.ended_is;
-        records_are = feeds.records_are ∙ (λ i. settled (shut_before i) (next_number i) (stamp e) (all_before i)) ∙ settling.0;
-        shut_is = feeds.shut_is ∙ (λ i. shut_before i + prefix_len (λ (r : Record). is_reached r.limit (next_number i) (stamp e)) (drop (shut_before i) (all_before i))) ∙ settling.1 ∙ sym (closed_is w.plan limits (events ++ e ∷ []) false good');
-        next_is = subst (λ (n : ℕ). IsNext w.plan.opening (events ++ e ∷ []) n) (sym (feeds.next_is ∙ ap (λ (n : ℕ). next_after w.plan.opening n w.next e) next_number))
-            (next_kept w.plan.opening w.next events e (λ s is. above_step w.plan.opening w.plan.length s limits.opening_is is) stands.next_is);
+        held_is = record {
+          records_are = feeds.records_are ∙ (λ i. settled (shut_before i) (next_number i) (stamp e) (all_before i)) ∙ settling.0;
+          shut_is = feeds.shut_is ∙ (λ i. shut_before i + prefix_len (λ (r : Record). is_reached r.limit (next_number i) (stamp e)) (drop (shut_before i) (all_before i))) ∙ settling.1 ∙ sym (closed_is w.plan limits (events ++ e ∷ []) false good');
+          next_is = subst (λ (n : ℕ). IsNext w.plan.opening (events ++ e ∷ []) n) (sym (feeds.next_is ∙ ap (λ (n : ℕ). next_after w.plan.opening n w.held.next e) next_number))
+              (next_kept w.plan.opening w.held.next events e (λ s is. above_step w.plan.opening w.plan.length s limits.opening_is is) stands.held_is.next_is);
+        };
       }
 
   -- what is kept after the event stands for the events with it
@@ -221,16 +225,18 @@ module _ (w v : Kept) (events : List Event) (e : Event) (limits : IsWindowed w.p
   stands_fed = subst (λ (p : Plan). Stands (record v { plan = p }) (events ++ e ∷ []) false) (sym feeds.plan_is) fed_stands
 
 -- nothing kept stands for no events
-pub stands_none : (q : Plan) → ((s : ℕ) → q.opening ≡ EveryEvents s → 0 < s) → Stands (record { plan = q; records = []; shut = 0; next = 0; fed = 0; time = 0; ended = false }) [] false
+pub stands_none : (q : Plan) → ((s : ℕ) → q.opening ≡ EveryEvents s → 0 < s) → Stands (record { plan = q; fed = 0; time = 0; ended = false; held = record { records = []; shut = 0; next = 0 } }) [] false
 stands_none q above = record {
   good = good_none q;
   few = omega arith;
   fed_is = refl;
   time_is = refl;
   ended_is = refl;
-  records_are = refl;
-  shut_is = sym (none q.opening);
-  next_is = next q.opening above;
+  held_is = record {
+    records_are = refl;
+    shut_is = sym (none q.opening);
+    next_is = next q.opening above;
+  };
 }
   where
     none : (o : Opening) → length (filter (λ (w : Window). w.closed) (windows_by o q.length [] false)) ≡ 0
@@ -248,15 +254,15 @@ stands_none q above = record {
     next (EveryTime s) above = refl
 
 -- the end of input
-pub stands_ended : (w v : Kept) (events : List Event) (ended : Bool) → IsWindowed w.plan → Stands w events ended → v.plan ≡ w.plan → v.records ≡ closed_from w.shut w.fed w.records → v.shut ≡ length v.records → v.next ≡ w.next
+pub stands_ended : (w v : Kept) (events : List Event) (ended : Bool) → IsWindowed w.plan → Stands w events ended → v.plan ≡ w.plan → v.held.records ≡ closed_from w.held.shut w.fed w.held.records → v.held.shut ≡ length v.held.records → v.held.next ≡ w.held.next
     → v.fed ≡ w.fed → v.time ≡ w.time → v.ended ≡ true → Stands v events true
 stands_ended w v events ended limits stands plan_is records_is shut_is next_is fed_is time_is ended_is =
     let q = w.plan in
     let all = all_opened q limits events stands.good in
-    let shut_before : w.shut ≡ length (filter (is_shut events ended) (opened q events)) = stands.shut_is ∙ closed_is q limits events ended stands.good in
+    let shut_before : w.held.shut ≡ length (filter (is_shut events ended) (opened q events)) = stands.held_is.shut_is ∙ closed_is q limits events ended stands.good in
     let low : All (λ r. r.first ≤ length events) (opened q events) = All-weaker (InRange q.opening q.length (length events) (last_stamp events)) (λ r. r.first ≤ length events) (λ r own. own.high) (opened q events) all.in_range in
-    let records : v.records ≡ map (record_at events true) (opened q events) = records_is ∙ (λ i. closed_from (shut_before i) (stands.fed_is i) (stands.records_are i)) ∙ closed_all events ended (opened q events) low all.in_order in
-    let count : length v.records ≡ length (opened q events) = ap length records ∙ length-map (opened q events) (record_at events true) in
+    let records : v.held.records ≡ map (record_at events true) (opened q events) = records_is ∙ (λ i. closed_from (shut_before i) (stands.fed_is i) (stands.held_is.records_are i)) ∙ closed_all events ended (opened q events) low all.in_order in
+    let count : length v.held.records ≡ length (opened q events) = ap length records ∙ length-map (opened q events) (record_at events true) in
     let all_shut : filter (is_shut events true) (opened q events) ≡ opened q events = filter_all (is_shut events true) (opened q events) (All-weaker (λ r. r.first ≤ length events) (λ r. is_shut events true r ≡ true) (λ r own. refl) (opened q events) low) in
     let now : Stands (record v { plan = w.plan }) events true = record {
       good = stands.good;
@@ -264,30 +270,32 @@ stands_ended w v events ended limits stands plan_is records_is shut_is next_is f
       fed_is = fed_is ∙ stands.fed_is;
       time_is = time_is ∙ stands.time_is;
       ended_is = ended_is;
-      records_are = records;
-      shut_is = shut_is ∙ count ∙ sym (closed_is q limits events true stands.good ∙ ap length all_shut);
-      next_is = subst (λ (n : ℕ). IsNext q.opening events n) (sym next_is) stands.next_is;
+      held_is = record {
+        records_are = records;
+        shut_is = shut_is ∙ count ∙ sym (closed_is q limits events true stands.good ∙ ap length all_shut);
+        next_is = subst (λ (n : ℕ). IsNext q.opening events n) (sym next_is) stands.held_is.next_is;
+      };
     } in
     subst (λ (p : Plan). Stands (record v { plan = p }) events true) (sym plan_is) now
 
 -- how many windows are kept
-pub count_kept : (w : Kept) (events : List Event) (ended : Bool) → IsWindowed w.plan → Stands w events ended → length w.records ≡ length (windows w.plan events ended)
+pub count_kept : (w : Kept) (events : List Event) (ended : Bool) → IsWindowed w.plan → Stands w events ended → length w.held.records ≡ length (windows w.plan events ended)
 count_kept w events ended limits stands =
-    ap length stands.records_are ∙ length-map (opened w.plan events) (record_at events ended) ∙ sym (ap length (windows_are w.plan limits events ended stands.good) ∙ length-map (opened w.plan events) (window_of events ended))
+    ap length stands.held_is.records_are ∙ length-map (opened w.plan events) (record_at events ended) ∙ sym (ap length (windows_are w.plan limits events ended stands.good) ∙ length-map (opened w.plan events) (window_of events ended))
 
 -- at most 64 for each event
-pub few_kept : (w : Kept) (events : List Event) (ended : Bool) → IsWindowed w.plan → Stands w events ended → length w.records ≤ 67108864
+pub few_kept : (w : Kept) (events : List Event) (ended : Bool) → IsWindowed w.plan → Stands w events ended → length w.held.records ≤ 67108864
 few_kept w events ended limits stands =
-    let count : length w.records ≡ length (opened w.plan events) = ap length stands.records_are ∙ length-map (opened w.plan events) (record_at events ended) in
+    let count : length w.held.records ≡ length (opened w.plan events) = ap length stands.held_is.records_are ∙ length-map (opened w.plan events) (record_at events ended) in
     let all = (all_opened w.plan limits events stands.good).few in
     let few = stands.few in
     omega arith
 
 -- the closed windows are among those kept
-pub shut_within : (w : Kept) (events : List Event) (ended : Bool) → IsWindowed w.plan → Stands w events ended → w.shut ≤ length w.records
+pub shut_within : (w : Kept) (events : List Event) (ended : Bool) → IsWindowed w.plan → Stands w events ended → w.held.shut ≤ length w.held.records
 shut_within w events ended limits stands =
-    let count : length w.records ≡ length (opened w.plan events) = ap length stands.records_are ∙ length-map (opened w.plan events) (record_at events ended) in
-    let shut : w.shut ≡ length (filter (is_shut events ended) (opened w.plan events)) = stands.shut_is ∙ closed_is w.plan limits events ended stands.good in
+    let count : length w.held.records ≡ length (opened w.plan events) = ap length stands.held_is.records_are ∙ length-map (opened w.plan events) (record_at events ended) in
+    let shut : w.held.shut ≡ length (filter (is_shut events ended) (opened w.plan events)) = stands.held_is.shut_is ∙ closed_is w.plan limits events ended stands.good in
     let most = filter_fewer (is_shut events ended) (opened w.plan events) in
     omega arith
 
@@ -296,9 +304,9 @@ abbrev pub shown_record : Record → shown_as.Window
 shown_record r = record { first = r.first; end = r.end }
 
 -- the window at a place
-pub window_kept : (w : Kept) (events : List Event) (ended : Bool) (k : ℕ) → IsWindowed w.plan → Stands w events ended → option_map shown_record (slice_get w.records k) ≡ option_map shown (slice_get (windows w.plan events ended) k)
+pub window_kept : (w : Kept) (events : List Event) (ended : Bool) (k : ℕ) → IsWindowed w.plan → Stands w events ended → option_map shown_record (slice_get w.held.records k) ≡ option_map shown (slice_get (windows w.plan events ended) k)
 window_kept w events ended k limits stands =
-    ap (λ (l : List Record). option_map shown_record (slice_get l k)) stands.records_are
+    ap (λ (l : List Record). option_map shown_record (slice_get l k)) stands.held_is.records_are
     ∙ ap (option_map shown_record) (slice_get-map (record_at events ended) (opened w.plan events) k)
     ∙ both (slice_get (opened w.plan events) k)
     ∙ sym (ap (λ (l : List Window). option_map shown (slice_get l k)) (windows_are w.plan limits events ended stands.good) ∙ ap (option_map shown) (slice_get-map (window_of events ended) (opened w.plan events) k))
@@ -312,21 +320,21 @@ pub above_steps : (q : Plan) → IsWindowed q → (s : ℕ) → q.opening ≡ Ev
 above_steps q limits s is = above_step q.opening q.length s limits.opening_is is
 
 -- the window of a number from 1 on
-pub gets_window : (w : Kept) (events : List Event) (ended : Bool) (number : ℕ) → IsWindowed w.plan → Stands w events ended → (number ≡ 0 → ⊥) → option_map shown_record (slice_get w.records (number - 1)) ≡ option_map shown (numbered_window w.plan events ended number)
+pub gets_window : (w : Kept) (events : List Event) (ended : Bool) (number : ℕ) → IsWindowed w.plan → Stands w events ended → (number ≡ 0 → ⊥) → option_map shown_record (slice_get w.held.records (number - 1)) ≡ option_map shown (numbered_window w.plan events ended number)
 gets_window w events ended number limits stands some =
     let test : (number == 0) ≡ false = grind (arith, nat_tests) in
     window_kept w events ended (number - 1) limits stands ∙ ap (option_map shown) (sym (rw test refl))
 
 -- what is kept after an event, by its parts
-pub feeds_from : (w v : Kept) (e : Event) (q : Plan) (rs : List Record) → q ≡ w.plan → rs ≡ w.records ++ opening_by q.opening q.length (w.fed + 1) w.next e → v.plan ≡ w.plan → v.records ≡ settled w.shut (w.fed + 1) (stamp e) rs
-    → v.shut ≡ w.shut + prefix_len (λ (r : Record). is_reached r.limit (w.fed + 1) (stamp e)) (drop w.shut rs) → v.next ≡ next_after q.opening (w.fed + 1) w.next e → v.fed ≡ w.fed + 1 → v.time ≡ stamp e → v.ended ≡ false → Feeds w v e
+pub feeds_from : (w v : Kept) (e : Event) (q : Plan) (rs : List Record) → q ≡ w.plan → rs ≡ w.held.records ++ opening_by q.opening q.length (w.fed + 1) w.held.next e → v.plan ≡ w.plan → v.held.records ≡ settled w.held.shut (w.fed + 1) (stamp e) rs
+    → v.held.shut ≡ w.held.shut + prefix_len (λ (r : Record). is_reached r.limit (w.fed + 1) (stamp e)) (drop w.held.shut rs) → v.held.next ≡ next_after q.opening (w.fed + 1) w.held.next e → v.fed ≡ w.fed + 1 → v.time ≡ stamp e → v.ended ≡ false → Feeds w v e
 feeds_from w v e q rs plan_is opened kept_plan records shut next fed time ended =
-    let all : rs ≡ w.records ++ opening_by w.plan.opening w.plan.length (w.fed + 1) w.next e = opened ∙ ap (λ (p : Plan). w.records ++ opening_by p.opening p.length (w.fed + 1) w.next e) plan_is in
+    let all : rs ≡ w.held.records ++ opening_by w.plan.opening w.plan.length (w.fed + 1) w.held.next e = opened ∙ ap (λ (p : Plan). w.held.records ++ opening_by p.opening p.length (w.fed + 1) w.held.next e) plan_is in
     record {
       plan_is = kept_plan;
-      records_are = records ∙ ap (settled w.shut (w.fed + 1) (stamp e)) all;
-      shut_is = shut ∙ ap (λ (l : List Record). w.shut + prefix_len (λ (r : Record). is_reached r.limit (w.fed + 1) (stamp e)) (drop w.shut l)) all;
-      next_is = next ∙ ap (λ (p : Plan). next_after p.opening (w.fed + 1) w.next e) plan_is;
+      records_are = records ∙ ap (settled w.held.shut (w.fed + 1) (stamp e)) all;
+      shut_is = shut ∙ ap (λ (l : List Record). w.held.shut + prefix_len (λ (r : Record). is_reached r.limit (w.fed + 1) (stamp e)) (drop w.held.shut l)) all;
+      next_is = next ∙ ap (λ (p : Plan). next_after p.opening (w.fed + 1) w.held.next e) plan_is;
       fed_is = fed;
       time_is = time;
       ended_is = ended;

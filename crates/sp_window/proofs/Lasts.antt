@@ -12,8 +12,8 @@ use Rattle.sp_window.specs.declared.record.Limit.{Limit}
 use Rattle.sp_window.specs.declared.record.Limit.TheVariants.{AtNumber, AtTime}
 use Rattle.sp_window.specs.declared.record.Record.{Record}
 use Rattle.sp_window.specs.Limits.{is_reached, last_before}
-use Rattle.sp_window.specs.Openings.{stamp}
-use Rattle.sp_window.specs.Standing.{is_below, last_of, last_stamp}
+use Rattle.sp_window.specs.Times.{stamp, last_stamp}
+use Rattle.sp_window.specs.Holding.{is_below, last_of}
 use Rattle.sp_window.proofs.Lists.{by_feeding, last_or-push, enumerate_push, length_push}
 use Rattle.sp_window.proofs.Feeding.{last_stamp_push}
 

@@ -13,8 +13,9 @@ use Rattle.sp_plan.specs.declared.plan.Plan.{Plan}
 use Rattle.sp_plan.specs.Windows.{numbered, Window, windows, closed, events_of, IsWindowed}
 use Rattle.sp_plan.specs.WindowNumbers.{Good, count, first, size, first_of, size_of, numbered_window}
 use Rattle.sp_window.specs.declared.record.Record.{Record}
-use Rattle.sp_window.specs.Openings.{stamp, opened}
-use Rattle.sp_window.specs.Standing.{last_of, last_stamp, is_shut}
+use Rattle.sp_window.specs.Times.{stamp, last_stamp}
+use Rattle.sp_window.specs.Openings.{opened}
+use Rattle.sp_window.specs.Holding.{last_of, is_shut}
 use Rattle.sp_window.specs.Laws.{GoodEvents, IsNumber, Holds, KeptByFeeding, ClosedFirst}
 use Rattle.sp_window.proofs.Lists.{all_at, get_front, get_there, length_push, filter_all, filter_none, filter_fewer}
 use Rattle.sp_window.proofs.Feeding.{good_none, good_less, last_stamp_push}

@@ -20,8 +20,9 @@ use Rattle.sp_plan.specs.WindowNumbers.{Good}
 use Rattle.sp_window.specs.declared.record.Limit.{Limit}
 use Rattle.sp_window.specs.declared.record.Limit.TheVariants.{AtNumber, AtTime}
 use Rattle.sp_window.specs.declared.record.Record.{Record}
-use Rattle.sp_window.specs.Openings.{stamp, limit_from, open_at, goes_on, spans_begun, first_begun, opening_by, next_span, opened_from, opened, span_after}
-use Rattle.sp_window.specs.Standing.{is_below, last_stamp}
+use Rattle.sp_window.specs.Times.{stamp, last_stamp}
+use Rattle.sp_window.specs.Openings.{limit_from, open_at, goes_on, spans_begun, first_begun, opening_by, next_span, opened_from, opened, span_after}
+use Rattle.sp_window.specs.Holding.{is_below}
 use Rattle.sp_window.proofs.Lists.{by_feeding, length_push, all_both, range_within}
 use Rattle.sp_window.proofs.Spans.{begun_is, begun_few}
 use Rattle.sp_window.proofs.Feeding.{good_less, last_stamp_push}

@@ -10,8 +10,8 @@ use Rattle.sp_window.specs.declared.record.Limit.{Limit}
 use Rattle.sp_window.specs.declared.record.Limit.TheVariants.{AtNumber, AtTime}
 use Rattle.sp_window.specs.declared.record.Record.{Record}
 use Rattle.sp_window.specs.Limits.{is_reached, last_before, ends_at, settled_front, settled, closed_from}
-use Rattle.sp_window.specs.Openings.{stamp}
-use Rattle.sp_window.specs.Standing.{is_below, last_of, last_stamp, is_shut, record_at}
+use Rattle.sp_window.specs.Times.{stamp, last_stamp}
+use Rattle.sp_window.specs.Holding.{is_below, last_of, is_shut, record_at}
 use Rattle.sp_window.proofs.Lists.{map_same, filter_none, all_both}
 use Rattle.sp_window.proofs.Feeding.{last_stamp_push}
 use Rattle.sp_window.proofs.Lists.{length_push}

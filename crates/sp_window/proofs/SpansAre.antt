@@ -19,8 +19,8 @@ use Rattle.sp_plan.specs.Windows.{Numbered, numbered, number_or, Window, window_
 use Rattle.sp_plan.specs.WindowNumbers.{Good}
 use Rattle.sp_window.specs.declared.record.Limit.TheVariants.{AtTime}
 use Rattle.sp_window.specs.declared.record.Record.{Record}
-use Rattle.sp_window.specs.Openings.{stamp, open_at, goes_on, opening_by, opened_from, opened, span_after}
-use Rattle.sp_window.specs.Standing.{last_stamp}
+use Rattle.sp_window.specs.Times.{stamp, last_stamp}
+use Rattle.sp_window.specs.Openings.{open_at, goes_on, opening_by, opened_from, opened, span_after}
 use Rattle.sp_window.proofs.Lists.{by_feeding, last_or-push, filter_same, filter_none, range_within, length_push}
 use Rattle.sp_window.proofs.Feeding.{InTime, Fed, good_less, last_stamp_push}
 use Rattle.sp_window.proofs.Lasts.{numbered_push}

@@ -16,8 +16,9 @@ use Rattle.sp_plan.specs.Events.{fits}
 use Rattle.sp_plan.specs.Windows.{Numbered, numbered, number_or, Window, window_from, IsLength}
 use Rattle.sp_plan.specs.WindowNumbers.{Good}
 use Rattle.sp_window.specs.declared.record.Record.{Record}
-use Rattle.sp_window.specs.Openings.{stamp, limit_from, open_at, opening_by, next_span, opened_from}
-use Rattle.sp_window.specs.Standing.{last_of, last_stamp, is_shut}
+use Rattle.sp_window.specs.Times.{stamp, last_stamp}
+use Rattle.sp_window.specs.Openings.{limit_from, open_at, opening_by, next_span, opened_from}
+use Rattle.sp_window.specs.Holding.{last_of, is_shut}
 use Rattle.sp_window.proofs.Lists.{by_feeding, filter_same, map_same, all_both}
 use Rattle.sp_window.proofs.Feeding.{InTime, in_time, Fed, good_less, last_stamp_push}
 use Rattle.sp_window.proofs.Lasts.{numbered_push}

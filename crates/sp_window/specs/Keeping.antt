@@ -8,7 +8,7 @@ use Rattle.sp_window.specs.Standing.{Kept, Stands}
 
 -- what is kept
 abbrev pub kept_of : Inside → Kept
-kept_of a = record { plan = arc_value a.plan; records = a.records.items; shut = a.closed; next = a.next; fed = a.fed; time = a.time; ended = a.ended }
+kept_of a = record { plan = arc_value a.plan; fed = a.fed; time = a.time; ended = a.ended; held = record { records = a.records.items; shut = a.closed; next = a.next } }
 
 -- the plan is compiled, and there are events that the windows stand for
 pub record IsKept (a : Inside) : Type 0 where

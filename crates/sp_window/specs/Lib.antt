@@ -1,5 +1,7 @@
+pub mod Times
 pub mod Limits
 pub mod Openings
+pub mod Holding
 pub mod Standing
 pub mod Keeping
 pub mod Opens

@@ -12,10 +12,7 @@ use Rattle.sp_plan.specs.Windows.{duration}
 use Rattle.sp_window.specs.declared.record.Limit.{Limit}
 use Rattle.sp_window.specs.declared.record.Limit.TheVariants.{AtNumber, AtTime}
 use Rattle.sp_window.specs.declared.record.Record.{Record}
-
--- the time of an event, which is 0 or more
-abbrev pub stamp : Event → ℕ
-stamp e = unsigned_abs e.time
+use Rattle.sp_window.specs.Times.{stamp}
 
 -- where a window stops whose first event has this number and this time
 abbrev pub limit_from : Length → ℕ → ℕ → Limit

@@ -6,6 +6,7 @@ ghost use Rattle.sp_plan.specs.Compiled.{IsCompiled, OpeningWithin};
 ghost use Rattle.sp_plan.specs.Bounds.{IsSmall};
 ghost use Rattle.sp_window.specs.declared.record.Limit.TheVariants.{AtTime};
 ghost use Rattle.sp_window.specs.Openings as spec;
+ghost use Rattle.sp_window.specs.Times.{stamp};
 ghost use Rattle.sp_window.specs.Opens.{IsAhead, next_after};
 
 use crate::record::{Limit, Record};
@@ -16,7 +17,7 @@ use std::ops::Range;
 // The time of an event, which is 0 or more.
 pub(crate) fn stamp_of(event: &Event) -> u64
     requires { pos 0 ≤ℤ event.now.time }
-    ensures { result ≡ spec.stamp event.now }
+    ensures { result ≡ stamp event.now }
 {
     event.time as u64
 }

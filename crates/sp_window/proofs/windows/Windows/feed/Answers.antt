@@ -7,7 +7,8 @@ use Rattle.sp_plan.specs.Events.{fits}
 use Rattle.sp_window.specs.declared.record.Record.{Record}
 use Rattle.sp_window.specs.Keeping.{kept_of}
 use Rattle.sp_window.specs.Limits.{is_reached, settled}
-use Rattle.sp_window.specs.Openings.{stamp, opening_by}
+use Rattle.sp_window.specs.Times.{stamp}
+use Rattle.sp_window.specs.Openings.{opening_by}
 use Rattle.sp_window.specs.Standing.{Kept, Stands}
 use Rattle.sp_window.proofs.Feeding.{fits_small, stamp_from}
 use Rattle.sp_window.proofs.Keeps.{Feeds, feeds_from, stands_fed, shut_within}

@@ -11,5 +11,5 @@ invariant_of-result c =
       compiled = c.requires;
       events = [];
       ended = false;
-      stands = subst (λ rs. Stands (record { plan = q; records = rs; shut = 0; next = 0; fed = 0; time = 0; ended = false }) [] false) (sym c.new.ensures.items) (stands_none q (above_steps q c.requires.windowed));
+      stands = subst (λ rs. Stands (record { plan = q; fed = 0; time = 0; ended = false; held = record { records = rs; shut = 0; next = 0 } }) [] false) (sym c.new.ensures.items) (stands_none q (above_steps q c.requires.windowed));
     }
