@@ -12,7 +12,7 @@ use Rattle.sp_compile.specs.declared.fault.CompileFault.TheVariants as f
 use Rattle.sp_compile.specs.declared.sort.Sort.{Sort}
 use Rattle.sp_compile.specs.declared.sort.Sort.TheVariants as s
 use Rattle.sp_compile.specs.Sorts.{limited, sum_sort}
-use Rattle.sp_compile.specs.Parts.{IsSound, IsScaled, IsRaised, RaisedAnswer, BothAnswer, Refused, raises, Aligned}
+use Rattle.sp_compile.specs.Parts.{IsSound, IsScaled, IsRaised, RaisedAnswer, raises, Aligned}
 
 -- a number within limits
 pub record Within (scale most : ℕ) (sort : Sort) : Type 0 where
