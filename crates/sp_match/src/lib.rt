@@ -1,9 +1,11 @@
-//! The matcher of a window: the open runs, what each event does to them, and the moves that tell of it.
+//! The matcher of a window: the open runs, what each event does to them, the moves that tell of it, and
+//! the match that a completed run is.
 //! What is proved of runs and moves whatever the matcher does stands in laws.
 #![tactic(auto)]
 
 mod all_runs;
 mod completing;
+mod found;
 mod handling;
 mod laws;
 mod matcher;
@@ -14,6 +16,7 @@ mod taking;
 mod turns;
 mod wanting;
 
+pub use found::{match_of, places_of};
 pub use laws::{
     abandonments_are_told, closing_ends_runs, completions_are_matches, handling_is_lawful,
     moves_are_handling, moves_lead_on, numbers_stay_below, one_event_more, open_has_no_match,

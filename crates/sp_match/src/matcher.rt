@@ -196,17 +196,27 @@ impl Matcher {
         })
     }
 
+    /// Whether both have the same open runs, with equal events, and as many runs have started. The plans
+    /// are not compared: where both share theirs, the matchers are equal then. Takes no memory.
+    pub fn same_runs(&self, other: &Matcher) -> bool
+        ensures same { IsTrue result ↔ ((self.now.open_runs ≡ other.now.open_runs) × (self.now.started ≡ other.now.started)) }
+        ensures shared { self.now.plan ≡ other.now.plan → IsTrue result ↔ (self.now ≡ other.now) }
+    {
+        if self.count != other.count {
+            return false;
+        }
+        same_runs(&self.runs, &other.runs)
+    }
+
     /// Whether both have the same plan, but for where its parts lie in memory, and the same runs with
-    /// equal events. Where they share the plan they are equal then. Takes no memory.
+    /// equal events. Where they share the plan they are equal then. Takes no memory. The plans are
+    /// compared whole, at each call; `same_runs` leaves them out.
     pub fn same(&self, other: &Matcher) -> bool
         ensures same { IsTrue result ↔ SameMatching self.now other.now }
         ensures shared { self.now.plan ≡ other.now.plan → IsTrue result ↔ (self.now ≡ other.now) }
     {
         plans_are_themselves();
-        if self.count != other.count {
-            return false;
-        }
-        if !same_runs(&self.runs, &other.runs) {
+        if !self.same_runs(other) {
             return false;
         }
         self.plan.same(&other.plan)

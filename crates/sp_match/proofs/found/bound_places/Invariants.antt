@@ -1,6 +1,6 @@
 use Rattle.std.proofs.Common.{◌≡◌, map, take}
 use Rattle.sp_match.specs.Seen.{seen_name}
-use Rattle.sp_seq.proofs.found.bound_places.Given as goal
+use Rattle.sp_match.proofs.found.bound_places.Given as goal
 
 abbrev pub invariant-loop-name : goal.invariant-loop-name
 invariant-loop-name l = l.list.items ≡ map seen_name (take l.name-index l.bound)
