@@ -9,7 +9,6 @@ mod event;
 mod fits;
 mod found;
 mod laws;
-mod listed;
 mod places;
 mod plan;
 mod same;
@@ -21,12 +20,8 @@ pub use found::Match;
 pub use laws::{
     fitting_events_are_small, plans_are_themselves, reading_is_state, same_predicates_hold_alike,
 };
-pub use listed::{Listed, Text};
 pub use places::Places;
 pub use plan::{
     Column, Compare, Element, Expr, Kind, Length, Name, Opening, Plan, Pred, Schema, Select,
 };
-use std::alloc::AllocError;
-
-/// Want of memory. Any call that allocates may answer it, and says what stands after it.
-pub type Memory = AllocError;
+pub use sp_text::{Listed, Memory, Text};

@@ -4,7 +4,7 @@ ghost use Rattle.sp_query.specs.Same.{Pairwise, SameTrees, SameTree, SameIdent, 
 
 use crate::{Ident, Node, Query, QueryColumn, QueryConsume, QueryElement, QueryOpening, Tree};
 use sp_lex::{Span, Word};
-use sp_plan::Text;
+use sp_text::Text;
 
 // Whether two texts are one.
 fn same_text(x: &Text, y: &Text) -> bool
