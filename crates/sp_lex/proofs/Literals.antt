@@ -18,7 +18,7 @@ starts text = record { leads = λ v b i. i; only = λ w b i. (w, refl, i) }
 double_at : (b : ℕ) (v : List ℕ) → is_quote b ≡ true → doubled (b ∷ v) ≡ 39 ∷ 39 ∷ doubled v
 double_at b v h = ap (λ x. cond x (39 ∷ 39 ∷ doubled v) (b ∷ doubled v)) h
 
-plain_at : (b : ℕ) (v : List ℕ) → is_quote b ≡ false → doubled (b ∷ v) ≡ b ∷ doubled v
+pub plain_at : (b : ℕ) (v : List ℕ) → is_quote b ≡ false → doubled (b ∷ v) ≡ b ∷ doubled v
 plain_at b v h = ap (λ x. cond x (39 ∷ 39 ∷ doubled v) (b ∷ doubled v)) h
 
 -- which way the first byte of a value goes
@@ -109,10 +109,10 @@ closes text sofar rest m w e out = subst (λ l. Inside text l m) (append-nil sof
 abbrev pub HasNoQuote : List ℕ → Type 0
 HasNoQuote bytes = (i : ℕ) → i < length bytes → get_or bytes i 0 ≢ 39
 
-first_plain : (b : ℕ) (bytes : List ℕ) → HasNoQuote (b ∷ bytes) → is_quote b ≡ false
+pub first_plain : (b : ℕ) (bytes : List ℕ) → HasNoQuote (b ∷ bytes) → is_quote b ≡ false
 first_plain b bytes h = let i : b ≢ 39 = h 0 (omega arith) in grind (arith, nat_tests)
 
-more_plain : (b : ℕ) (bytes : List ℕ) → HasNoQuote (b ∷ bytes) → HasNoQuote bytes
+pub more_plain : (b : ℕ) (bytes : List ℕ) → HasNoQuote (b ∷ bytes) → HasNoQuote bytes
 more_plain b bytes h i l = h (suc i) (omega arith)
 
 plain_on : (text sofar piece m : List ℕ) → HasNoQuote piece → Within text sofar (piece ++ m) → Within text (sofar ++ piece) m

@@ -67,26 +67,71 @@ fn same_trees(xs: &[Tree], ys: &[Tree]) -> bool
     true
 }
 
-// Whether two names are one.
-fn same_ident(x: &Ident, y: &Ident) -> bool
-    ensures { IsTrue result ↔ SameIdent x.now y.now }
-{
-    same_text(&x.text, &y.text)
+// A part of a query; two of them may be the same but for places.
+trait Part {
+    ghost alike: { Self → Self → Type 0 };
+
+    // Whether two parts are the same.
+    fn same(&self, other: &Self) -> bool
+        ensures { IsTrue result ↔ alike self.now other.now };
 }
 
-// Whether the names of two lists are the same.
-fn same_idents(xs: &[Ident], ys: &[Ident]) -> bool
-    ensures { IsTrue result ↔ Pairwise SameIdent xs.now ys.now }
+// Whether the parts in two lists are the same, one by one.
+fn same_list<P: Part>(xs: &[P], ys: &[P]) -> bool
+    ensures { IsTrue result ↔ Pairwise P.alike xs.now ys.now }
 {
     if xs.len() != ys.len() {
         return false;
     }
     for (x, y) in xs.iter().zip(ys) {
-        if !same_ident(x, y) {
+        if !x.same(y) {
             return false;
         }
     }
     true
+}
+
+// A name.
+impl Part for Ident {
+    ghost alike = { SameIdent };
+
+    fn same(&self, other: &Ident) -> bool {
+        same_text(&self.text, &other.text)
+    }
+}
+
+// A column: its name and its kind.
+impl Part for QueryColumn {
+    ghost alike = { SameColumn };
+
+    fn same(&self, other: &QueryColumn) -> bool {
+        self.name.same(&other.name) && self.kind == other.kind && self.digits == other.digits
+    }
+}
+
+// An element of the pattern.
+impl Part for QueryElement {
+    ghost alike = { SameElement };
+
+    fn same(&self, other: &QueryElement) -> bool {
+        match (self, other) {
+            (QueryElement::One(one), QueryElement::One(other)) => one.same(other),
+            (QueryElement::Plus(one, _), QueryElement::Plus(other, _)) => one.same(other),
+            (QueryElement::Set(some), QueryElement::Set(others)) => {
+                same_list(some.as_slice(), others.as_slice())
+            }
+            _ => false,
+        }
+    }
+}
+
+// A definition: its name and its predicate.
+impl Part for (Ident, Tree) {
+    ghost alike = { SameDefinition };
+
+    fn same(&self, other: &(Ident, Tree)) -> bool {
+        self.0.same(&other.0) && same_tree(&self.1, &other.1)
+    }
 }
 
 // Whether two names that may be left out are one.
@@ -95,82 +140,9 @@ fn same_time(x: &Option<Ident>, y: &Option<Ident>) -> bool
 {
     match (x, y) {
         (None, None) => true,
-        (Some(one), Some(other)) => same_ident(one, other),
+        (Some(one), Some(other)) => one.same(other),
         _ => false,
     }
-}
-
-// Whether two columns have one name and one kind.
-fn same_column(x: &QueryColumn, y: &QueryColumn) -> bool
-    ensures { IsTrue result ↔ SameColumn x.now y.now }
-{
-    same_ident(&x.name, &y.name) && x.kind == y.kind && x.digits == y.digits
-}
-
-// Whether the columns of two lists are the same.
-fn same_columns(xs: &[QueryColumn], ys: &[QueryColumn]) -> bool
-    ensures { IsTrue result ↔ Pairwise SameColumn xs.now ys.now }
-{
-    if xs.len() != ys.len() {
-        return false;
-    }
-    for (x, y) in xs.iter().zip(ys) {
-        if !same_column(x, y) {
-            return false;
-        }
-    }
-    true
-}
-
-// Whether two elements of patterns are the same.
-fn same_element(x: &QueryElement, y: &QueryElement) -> bool
-    ensures { IsTrue result ↔ SameElement x.now y.now }
-{
-    match (x, y) {
-        (QueryElement::One(one), QueryElement::One(other)) => same_ident(one, other),
-        (QueryElement::Plus(one, _), QueryElement::Plus(other, _)) => same_ident(one, other),
-        (QueryElement::Set(some), QueryElement::Set(others)) => {
-            same_idents(some.as_slice(), others.as_slice())
-        }
-        _ => false,
-    }
-}
-
-// Whether two patterns are the same.
-fn same_elements(xs: &[QueryElement], ys: &[QueryElement]) -> bool
-    ensures { IsTrue result ↔ Pairwise SameElement xs.now ys.now }
-{
-    if xs.len() != ys.len() {
-        return false;
-    }
-    for (x, y) in xs.iter().zip(ys) {
-        if !same_element(x, y) {
-            return false;
-        }
-    }
-    true
-}
-
-// Whether two definitions are the same.
-fn same_definition(x: &(Ident, Tree), y: &(Ident, Tree)) -> bool
-    ensures { IsTrue result ↔ SameDefinition x.now y.now }
-{
-    same_ident(&x.0, &y.0) && same_tree(&x.1, &y.1)
-}
-
-// Whether the definitions of two lists are the same.
-fn same_definitions(xs: &[(Ident, Tree)], ys: &[(Ident, Tree)]) -> bool
-    ensures { IsTrue result ↔ Pairwise SameDefinition xs.now ys.now }
-{
-    if xs.len() != ys.len() {
-        return false;
-    }
-    for (x, y) in xs.iter().zip(ys) {
-        if !same_definition(x, y) {
-            return false;
-        }
-    }
-    true
 }
 
 // Whether two lengths are one.
@@ -201,7 +173,7 @@ fn same_consume(x: &QueryConsume, y: &QueryConsume) -> bool
         (QueryConsume::All, QueryConsume::All) => true,
         (QueryConsume::None, QueryConsume::None) => true,
         (QueryConsume::Names(some), QueryConsume::Names(others)) => {
-            same_idents(some.as_slice(), others.as_slice())
+            same_list(some.as_slice(), others.as_slice())
         }
         _ => false,
     }
@@ -212,10 +184,10 @@ impl Query {
     pub fn same(&self, other: &Query) -> bool
         ensures { IsTrue result ↔ Same self.now other.now }
     {
-        same_columns(self.columns.as_slice(), other.columns.as_slice())
+        same_list(self.columns.as_slice(), other.columns.as_slice())
             && same_time(&self.time, &other.time)
-            && same_elements(self.elements.as_slice(), other.elements.as_slice())
-            && same_definitions(self.defines.as_slice(), other.defines.as_slice())
+            && same_list(self.elements.as_slice(), other.elements.as_slice())
+            && same_list(self.defines.as_slice(), other.defines.as_slice())
             && same_length(&self.length, &other.length)
             && same_opening(&self.opening, &other.opening)
             && self.select == other.select

@@ -1,8 +1,8 @@
 -- Texts that grow piece by piece.
-use Rattle.std.proofs.Common.{◌≡◌, ◌≢◌, cond, ℕ, suc, ◌≤◌, ◌<◌, false, List, [], ◌∷◌, ◌++◌, length, get_or, take, drop, ◌-◌, codes, Result, Ok, Err, OnOk, refl, sym, ◌∙◌, ap, arith, append_assoc, append-nil}
+use Rattle.std.proofs.Common.{◌≡◌, ℕ, ◌≤◌, List, [], ◌∷◌, ◌++◌, length, get_or, take, drop, ◌-◌, codes, Result, Ok, Err, OnOk, refl, sym, ◌∙◌, ap, arith, append_assoc, append-nil}
 use Rattle.std.proofs.lemmas.List.{take_all}
-use Rattle.std.proofs.lemmas.Bool.Decides.{nat_tests}
-use Rattle.sp_lex.specs.Spelling.{is_quote, doubled}
+use Rattle.sp_lex.specs.Spelling.{doubled}
+use Rattle.sp_lex.proofs.Literals.{HasNoQuote, plain_at, first_plain, more_plain}
 use Rattle.sp_syntax.specs.Printing.{Adds}
 
 pub on_ok : {A E : Type 0} (r : Result A E) (P Q : Type 0) → (P → Q) → OnOk r P → OnOk r Q
@@ -44,18 +44,9 @@ adds_texts old mid new x y P e d p = record { added = x ++ y; is = d ∙ ap (λ 
 
 -- ---- quotes
 
-abbrev pub HasNoQuote : List ℕ → Type 0
-HasNoQuote bytes = (i : ℕ) → i < length bytes → get_or bytes i 0 ≢ 39
-
-no_quote : (b : ℕ) (bytes : List ℕ) → HasNoQuote (b ∷ bytes) → is_quote b ≡ false
-no_quote b bytes h = let i : b ≢ 39 = h 0 (omega arith) in grind (arith, nat_tests)
-
-plain_at : (b : ℕ) (v : List ℕ) → is_quote b ≡ false → doubled (b ∷ v) ≡ b ∷ doubled v
-plain_at b v h = ap (λ x. cond x (39 ∷ 39 ∷ doubled v) (b ∷ doubled v)) h
-
 doubled_on : (piece rest : List ℕ) → HasNoQuote piece → doubled (piece ++ rest) ≡ piece ++ doubled rest
 doubled_on [] rest h = refl
-doubled_on (b ∷ piece) rest h = plain_at b (piece ++ rest) (no_quote b piece h) ∙ ap (λ l. b ∷ l) (doubled_on piece rest (λ i l. h (suc i) (omega arith)))
+doubled_on (b ∷ piece) rest h = plain_at b (piece ++ rest) (first_plain b piece h) ∙ ap (λ l. b ∷ l) (doubled_on piece rest (more_plain b piece h))
 
 -- a piece without a quote, and a doubled quote
 pub piece_doubled : (start out rest piece behind out1 out2 : List ℕ) → out ++ doubled rest ≡ start → rest ≡ piece ++ 39 ∷ behind → HasNoQuote piece → out1 ≡ out ++ piece → out2 ≡ out1 ++ codes "''" → out2 ++ doubled behind ≡ start

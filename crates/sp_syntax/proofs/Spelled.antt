@@ -1,5 +1,5 @@
 -- How each token is written, and that a text that is written token by token has these tokens.
-use Rattle.std.proofs.Common.{◌≡◌, ◌≢◌, ℕ, ◌+◌, ◌≤◌, ◌<◌, ◌⊎◌, inl, inr, true, Some, List, [], ◌∷◌, ◌++◌, length, get_or, codes, refl, sym, ◌∙◌, ap, subst, arith, append_assoc, append-nil}
+use Rattle.std.proofs.Common.{◌≡◌, ◌≢◌, ℕ, ◌+◌, ◌≤◌, ◌<◌, ◌⊎◌, inl, inr, true, false, not, ◌==◌, Some, List, [], ◌∷◌, ◌++◌, length, get_or, refl, sym, ◌∙◌, ap, subst, arith, append_assoc, append-nil}
 use Rattle.std.specs.List.{list_all}
 use Rattle.sp_lex.specs.declared.token.Word.{Word}
 use Rattle.sp_lex.specs.declared.token.Token.{Token}
@@ -7,7 +7,7 @@ use Rattle.sp_lex.specs.declared.token.Kernel.{Kernel}
 use Rattle.sp_lex.specs.declared.token.Kernel.TheVariants as k
 use Rattle.sp_lex.specs.Spelling.{is_letter, is_digit, is_quote, is_name_byte, heads, spelling, mark, doubled, number_of, pointed, IsNumber, IsLong, Spells, as_word, as_name, as_whole, as_decimal, as_literal, as_mark, IsToken, Tokens}
 use Rattle.sp_lex.specs.Reading.{IsRun, is_mark_byte, capped, with_more}
-use Rattle.sp_lex.proofs.Tables.{some_is, none_some, word_begins, word_all, mark_begins, mark_short}
+use Rattle.sp_lex.proofs.Tables.{none_some, word_begins, word_all, mark_passes, mark_begins, mark_short}
 use Rattle.sp_lex.proofs.Longest.{flip, number_begins, heads_append, digit_no_letter, quote_no_digit, mark_no_digit, name_longest, whole_longest, decimal_longest, mark_longest, literal_longest, IsPart}
 use Rattle.sp_lex.proofs.Front.{in_two, number_grows, other_short, whole_short, decimal_short}
 use Rattle.sp_syntax.specs.Written.{IsSpelled, Written, none, some, kernels}
@@ -26,36 +26,9 @@ word_spelled word = letters_spelled (k.Word word) (spelling word) (word_begins w
 pub name_spelled : (text : List ℕ) → IsPlain (k.Name text) → IsSpelled (k.Name text) text
 name_spelled text p = letters_spelled (k.Name text) text p.0.begins p.0.all (λ rest. as_name refl p.0 p.1)
 
-second : (f : List ℕ) (b : ℕ) → Some f ≡ Some (b ∷ 32 ∷ []) → get_or f 1 0 ≡ 32
-second f b e = ap (λ s. get_or s 1 0) (some_is f (b ∷ 32 ∷ []) e)
-
-low : (n : ℕ) → n ≡ 32 → n < 32 → ⊥
-low n e h = omega arith
-
-high : (n : ℕ) → n ≡ 32 → 32 < n → ⊥
-high n e h = omega arith
-
+-- no mark has a blank behind its first byte
 no_blank : (kernel : Kernel) (b : ℕ) → mark kernel ≡ Some (b ∷ 32 ∷ []) → ⊥
-no_blank k.LeftRound b e = low (get_or (codes "(") 1 0) (second (codes "(") b e) (omega arith)
-no_blank k.RightRound b e = low (get_or (codes ")") 1 0) (second (codes ")") b e) (omega arith)
-no_blank k.LeftSquare b e = low (get_or (codes "[") 1 0) (second (codes "[") b e) (omega arith)
-no_blank k.RightSquare b e = low (get_or (codes "]") 1 0) (second (codes "]") b e) (omega arith)
-no_blank k.Comma b e = low (get_or (codes ",") 1 0) (second (codes ",") b e) (omega arith)
-no_blank k.Dot b e = low (get_or (codes ".") 1 0) (second (codes ".") b e) (omega arith)
-no_blank k.Plus b e = low (get_or (codes "+") 1 0) (second (codes "+") b e) (omega arith)
-no_blank k.Minus b e = low (get_or (codes "-") 1 0) (second (codes "-") b e) (omega arith)
-no_blank k.Star b e = low (get_or (codes "*") 1 0) (second (codes "*") b e) (omega arith)
-no_blank k.Equal b e = low (get_or (codes "=") 1 0) (second (codes "=") b e) (omega arith)
-no_blank k.Unequal b e = high (get_or (codes "<>") 1 0) (second (codes "<>") b e) (omega arith)
-no_blank k.Less b e = low (get_or (codes "<") 1 0) (second (codes "<") b e) (omega arith)
-no_blank k.AtMost b e = high (get_or (codes "<=") 1 0) (second (codes "<=") b e) (omega arith)
-no_blank k.Greater b e = low (get_or (codes ">") 1 0) (second (codes ">") b e) (omega arith)
-no_blank k.AtLeast b e = high (get_or (codes ">=") 1 0) (second (codes ">=") b e) (omega arith)
-no_blank (k.Word w) b e = none_some (b ∷ 32 ∷ []) e
-no_blank (k.Name t) b e = none_some (b ∷ 32 ∷ []) e
-no_blank (k.Whole n) b e = none_some (b ∷ 32 ∷ []) e
-no_blank (k.Decimal u s) b e = none_some (b ∷ 32 ∷ []) e
-no_blank (k.Literal t) b e = none_some (b ∷ 32 ∷ []) e
+no_blank kernel b e = let h : false ≡ true = mark_passes (λ f. not (get_or f 1 0 == 32)) refl kernel (b ∷ 32 ∷ []) e in cc
 
 -- no longer mark stands where one is in front of a blank
 no_longer : (f g r rest : List ℕ) (other : Kernel) → heads is_mark_byte f ≡ true → f ++ 32 ∷ rest ≡ g ++ r → mark other ≡ Some g → length g ≤ length f
