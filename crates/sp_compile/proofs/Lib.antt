@@ -15,3 +15,7 @@ pub mod Naming
 pub mod Opened
 pub mod Staged
 pub mod Sums
+pub mod Sorted
+pub mod EarlierNames
+mod Apart
+mod Ends

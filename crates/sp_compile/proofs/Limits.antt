@@ -125,6 +125,10 @@ at_most_64_columns columns none =
 pub columns_have_digits : (columns : List QueryColumn) → columns_fault [] columns ≡ None → All HasDigits columns
 columns_have_digits columns none = each_fine name_of column_fault columns_fault by_columns HasDigits (λ before x fine. (fine_column before x fine).2) columns [] none
 
+-- and no two of them have one name
+pub columns_unlike : (columns : List QueryColumn) → columns_fault [] columns ≡ None → AllPairs (λ one other. name_of one ≡ name_of other → ⊥) columns
+columns_unlike columns none = all_unlike name_of column_fault columns_fault by_columns (λ before x fine. (fine_column before x fine).1) columns none
+
 -- ---- names of the pattern
 
 -- the text of a name of the pattern

@@ -1,7 +1,7 @@
 -- Names of the plan get the predicates of their definitions.
 use Rattle.std.proofs.Common.{◌≡◌, ℕ, zero, suc, ◌+◌, ◌<◌, ◌≤◌, Bool, true, false, cond, List, [], ◌∷◌, ◌++◌, length, map, take, drop, get_or, Option, Some, None, Result, Ok, Err, refl, sym, ◌∙◌, ap, subst, arith}
 use Rattle.std.specs.Prelude.{slice_set}
-use Rattle.std.specs.List.{All, AllPairs}
+use Rattle.std.specs.List.{All, AllPairs, AllZip}
 use Rattle.std.specs.Option.{option_or}
 use Rattle.std.specs.Result.{result_err}
 use Rattle.std.proofs.lemmas.Bool.{false_from_ne_true, or_parts}
@@ -15,15 +15,16 @@ use Rattle.std.proofs.lemmas.Slice.Eq.{bytes_eq-Decides}
 use Rattle.sp_plan.specs.declared.plan.Name.{Name}
 use Rattle.sp_plan.specs.declared.plan.Pred.{Pred, Always}
 use Rattle.sp_plan.specs.Bounds.{PredWithin}
+use Rattle.sp_plan.specs.Comparable.{IsComparable}
 use Rattle.sp_query.specs.declared.tree.Tree.{Tree}
 use Rattle.sp_query.specs.declared.query.Ident.{Ident}
 use Rattle.sp_query.specs.declared.query.Query.{Query}
 use Rattle.sp_compile.specs.declared.fault.CompileFault.{CompileFault}
 use Rattle.sp_compile.specs.declared.fault.CompileFault.TheVariants as f
-use Rattle.sp_compile.specs.Answers.{CompiledPred, Faulty, scope_in}
+use Rattle.sp_compile.specs.Answers.{CompiledPred, Faulty, scope_in, readable_in}
 use Rattle.sp_compile.specs.Checks.{is_among, name_fault, names_fault, defined, defined_fault, scope_of, Tests, Defines}
 use Rattle.sp_compile.specs.Checks as checks
-use Rattle.sp_compile.specs.Naming.{defined_in, StandsSoFar, StandSoFar, PlaceAnswer, AreNames, Misdefines}
+use Rattle.sp_compile.specs.Naming.{defined_in, ReadsBefore, StandsSoFar, StandSoFar, PlaceAnswer, AreNames, Misdefines}
 use Rattle.sp_compile.specs.Scopes.{pattern_names, name_place}
 use Rattle.sp_compile.specs.Sorts.{name_there}
 use Rattle.sp_compile.specs.Stands.{HoldsAs, StandsForDefinition, StandForNames, is_consumed}
@@ -67,16 +68,16 @@ module _ (query : Query) (texts : List (List ℕ)) (defines : List (Ident × Tre
   kept name planned other s =
       let same : defined_in (defines ++ define ∷ []) name.0.text ≡ defined_in defines name.0.text =
       more_defines name.0.text ∙ ap (λ (b : Bool). option_or (defined_in defines name.0.text) (cond b (Some define) None)) other ∙ or_none (defined_in defines name.0.text) in
-      record { text = s.text; pred = subst (λ o. StandsForDefinition query texts name o planned.pred) (sym same) s.pred; consumed = s.consumed }
+      record { text = s.text; pred = subst (λ o. StandsForDefinition query texts name o planned.pred) (sym same) s.pred; consumed = s.consumed; reads = s.reads }
 
   -- the first definition of a name gives it its predicate
   given : (name : Ident × ℕ) (planned : Name) → name.0.text ≡ define.0.text → defined_in defines define.0.text ≡ None → HoldsAs (scope_of query (Some name)) texts define.1 pred
-      → StandsSoFar query texts defines name planned → StandsSoFar query texts (defines ++ define ∷ []) name (with_pred planned)
-  given name planned same before holds s =
+      → IsComparable (readable_in (scope_in query (Some name.1)) texts) pred → StandsSoFar query texts defines name planned → StandsSoFar query texts (defines ++ define ∷ []) name (with_pred planned)
+  given name planned same before holds reads s =
       let now : defined_in (defines ++ define ∷ []) name.0.text ≡ Some define =
       more_defines name.0.text ∙ ap (λ (o : Option (Ident × Tree)). option_or o (cond (bytes_eq define.0.text name.0.text) (Some define) None)) (ap (defined_in defines) same ∙ before)
       ∙ ap (λ (b : Bool). cond b (Some define) None) (text_itself define.0.text name.0.text (sym same)) in
-      record { text = s.text; pred = subst (λ o. StandsForDefinition query texts name o pred) (sym now) holds; consumed = s.consumed }
+      record { text = s.text; pred = subst (λ o. StandsForDefinition query texts name o pred) (sym now) holds; consumed = s.consumed; reads = reads }
 
   -- nor does it for names that are all others
   all_kept : (names : List (Ident × ℕ)) (planned : List Name) → All (λ name. bytes_eq define.0.text name.0.text ≡ false) names → StandSoFar query texts defines names planned → StandSoFar query texts (defines ++ define ∷ []) names planned
@@ -88,14 +89,14 @@ module _ (query : Query) (texts : List (List ℕ)) (defines : List (Ident × Tre
   -- where no two names are alike, one of them gets this predicate and the others keep theirs
   give : (names : List (Ident × ℕ)) (planned : List Name) (at : ℕ) (d : Ident × ℕ) (e : Name) → AllPairs (λ one other. one.0.text ≡ other.0.text → ⊥) names → at < length names
       → (get_or names at d).0.text ≡ define.0.text → defined_in defines define.0.text ≡ None → HoldsAs (scope_of query (Some (get_or names at d))) texts define.1 pred
-      → StandSoFar query texts defines names planned → StandSoFar query texts (defines ++ define ∷ []) names (slice_set planned at (with_pred (get_or planned at e)))
-  give [] planned at d e single inside same new holds s = absurd (omega arith)
-  give (name ∷ names) [] at d e single inside same new holds s = absurd s
-  give (name ∷ names) (p ∷ planned) zero d e single inside same new holds s =
-      (given name p same new holds s.0, all_kept names planned (λ i x within. false_from_ne_true _ (λ is. single 0 (suc i) x (omega arith) (omega arith) (same ∙ same_text _ _ is))) s.1)
-  give (name ∷ names) (p ∷ planned) (suc at) d e single inside same new holds s = (
+      → IsComparable (readable_in (scope_in query (Some (get_or names at d).1)) texts) pred → StandSoFar query texts defines names planned → StandSoFar query texts (defines ++ define ∷ []) names (slice_set planned at (with_pred (get_or planned at e)))
+  give [] planned at d e single inside same new holds reads s = absurd (omega arith)
+  give (name ∷ names) [] at d e single inside same new holds reads s = absurd s
+  give (name ∷ names) (p ∷ planned) zero d e single inside same new holds reads s =
+      (given name p same new holds reads s.0, all_kept names planned (λ i x within. false_from_ne_true _ (λ is. single 0 (suc i) x (omega arith) (omega arith) (same ∙ same_text _ _ is))) s.1)
+  give (name ∷ names) (p ∷ planned) (suc at) d e single inside same new holds reads s = (
     kept name p (false_from_ne_true _ (λ is. single 0 (suc at) d (omega arith) (omega arith) (sym (same ∙ same_text _ _ is)))) s.0,
-    give names planned at d e (λ i j x before within. single (suc i) (suc j) x (omega arith) (omega arith)) (omega arith) same new holds s.1,
+    give names planned at d e (λ i j x before within. single (suc i) (suc j) x (omega arith) (omega arith)) (omega arith) same new holds reads s.1,
   )
 
 -- ---- the place of a name
@@ -164,7 +165,8 @@ module _ (query : Query) (texts : List (List ℕ)) (names : List (Ident × ℕ))
               (subst (λ l. Defines query l (drop (at + 1) query.defines) fault) texts_more i));
           stand = subst (λ l. StandSoFar query texts l names (slice_set planned place (with_pred query texts (take at query.defines) define pred (get_or planned place e)))) (sym more)
               (give query texts (take at query.defines) define pred names planned place name e (names_unlike names single) answer.0 (place_within names define.0.text place name answer.1).1
-              (none_defined define.0.text (take at query.defines) new) (subst (λ n. HoldsAs (scope_of query (Some n)) texts define.1 pred) here compiled.holds_as) through.stand);
+              (none_defined define.0.text (take at query.defines) new) (subst (λ n. HoldsAs (scope_of query (Some n)) texts define.1 pred) here compiled.holds_as)
+              (subst (λ n. IsComparable (readable_in (scope_in query (Some n.1)) texts) pred) here compiled.comparable) through.stand);
           within = All-set (λ (name : Name). PredWithin name.pred) planned place _ compiled.within through.within;
         }
 
@@ -175,11 +177,20 @@ stand_for query texts [] (p ∷ planned) s = absurd s
 stand_for query texts (name ∷ names) [] s = absurd s
 stand_for query texts (name ∷ names) (p ∷ planned) s = (record { text = s.0.text; pred = s.0.pred; consumed = s.0.consumed }, stand_for query texts names planned s.1)
 
+-- and read names of earlier elements alone
+read_all : (query : Query) (texts : List (List ℕ)) (names : List (Ident × ℕ)) (planned : List Name) → StandSoFar query texts query.defines names planned → AllZip (ReadsBefore query texts) names planned
+read_all query texts [] [] s = tt
+read_all query texts [] (p ∷ planned) s = absurd s
+read_all query texts (name ∷ names) [] s = absurd s
+read_all query texts (name ∷ names) (p ∷ planned) s = (s.0.reads, read_all query texts names planned s.1)
+
 -- all definitions were gone through
 pub all_through : (query : Query) (texts : List (List ℕ)) (names : List (Ident × ℕ)) (at : ℕ) (planned : List Name) → GoneThrough query texts names at planned → length query.defines ≤ at → names ≡ pattern_names query → AreNames query texts planned
 all_through query texts names at planned through end named = record {
   checks = through.goes None (subst (λ l. Defines query (map (λ define. define.0.text) (take at query.defines)) l None) (sym (drop_all at query.defines end)) (checks.none _));
   stand = stand_for query texts (pattern_names query) planned (subst (λ l. StandSoFar query texts query.defines l planned) named
+      (subst (λ l. StandSoFar query texts l names planned) (take_all at query.defines end) through.stand));
+  read = read_all query texts (pattern_names query) planned (subst (λ l. StandSoFar query texts query.defines l planned) named
       (subst (λ l. StandSoFar query texts l names planned) (take_all at query.defines end) through.stand));
   within = through.within;
 }
@@ -203,4 +214,5 @@ undefined_more query texts names at name ident planned one inside is own made s 
       text = ap (λ n. n.text) made ∙ ap (λ i. i.text) (sym own);
       pred = ap (λ n. n.pred) made;
       consumed = ap (λ n. n.consumed) made ∙ ap (λ i. is_consumed query.consume i.text) (sym own);
+      reads = subst (IsComparable (readable_in (scope_in query (Some name.1)) texts)) (sym (ap (λ n. n.pred) made)) tt;
     }))

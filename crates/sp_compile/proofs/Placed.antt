@@ -11,7 +11,7 @@ use Rattle.sp_compile.specs.Scopes.{names_in, placed_names}
 use Rattle.sp_compile.specs.Stands.{width, plan_element, plan_elements}
 
 -- an element has as many names as it is wide
-length_names : (element : QueryElement) → length (names_in element) ≡ width element
+pub length_names : (element : QueryElement) → length (names_in element) ≡ width element
 length_names (e.One name) = refl
 length_names (e.Plus name span) = refl
 length_names (e.Set names) = refl
@@ -75,7 +75,7 @@ range_joined from (suc m) n =
     ∙ ap (λ (l : List ℕ). from ∷ l) (range_joined (from + 1) m n ∙ ap (λ (k : ℕ). range_with_len (from + 1) m ++ range_with_len k n) (omega arith))
 
 -- the numbers of an element's names
-numbers_here : (first : ℕ) (element : QueryElement) → numbers_in (plan_element first element) ≡ range_with_len first (width element)
+pub numbers_here : (first : ℕ) (element : QueryElement) → numbers_in (plan_element first element) ≡ range_with_len first (width element)
 numbers_here first (e.One name) = refl
 numbers_here first (e.Plus name span) = refl
 numbers_here first (e.Set names) = refl

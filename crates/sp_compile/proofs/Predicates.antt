@@ -5,6 +5,7 @@ use Rattle.sp_plan.specs.declared.plan.Compare.{Compare}
 use Rattle.sp_plan.specs.declared.plan.Expr.{Expr}
 use Rattle.sp_plan.specs.declared.plan.Pred.{Pred}
 use Rattle.sp_plan.specs.Bounds.{PredWithin}
+use Rattle.sp_plan.specs.Comparable.{Readable, IsComparable}
 use Rattle.sp_plan.specs.Values.{BoundEvents, holds}
 use Rattle.sp_query.specs.declared.tree.Tree.{Tree, out-Tree}
 use Rattle.sp_query.specs.declared.tree.Node.{Node}
@@ -18,8 +19,8 @@ use Rattle.sp_compile.specs.Checks as ch
 use Rattle.sp_compile.specs.Checks.{Types, Tests, span_of, is_junction}
 use Rattle.sp_compile.specs.Meaning as m
 use Rattle.sp_compile.specs.Meaning.{Truth, compared}
-use Rattle.sp_compile.specs.Answers.{ExprAnswer, Faulty, PredAnswer}
-use Rattle.sp_compile.specs.Parts.{comes_to, Found, MadePredAnswer, joined, FirstFault, JointAnswer, NegationAnswer}
+use Rattle.sp_compile.specs.Answers.{ExprAnswer, Faulty, PredAnswer, readable_in}
+use Rattle.sp_compile.specs.Parts.{comes_to, BothSorted, BothComparable, Found, MadePredAnswer, joined, FirstFault, JointAnswer, NegationAnswer}
 use Rattle.sp_compile.proofs.Expressions.{typed}
 
 -- ---- faults that are not want of memory
@@ -58,22 +59,23 @@ found_by found (f.TooMany span) some h = h
 found_by found f.Memory some h = absurd (some refl)
 
 module _ (scope : Scope) (texts : List (List ℕ)) (t : Tree) where
-  made : (found : Option CompileFault) (meant : Event → BoundEvents → Option Bool) (r : Result Pred CompileFault) → MadePredAnswer found meant r
-      → Tests scope t found → ((e : Event) (b : BoundEvents) (is : Bool) → meant e b ≡ Some is → Truth scope texts e b t is) → PredAnswer scope texts t r
-  made found meant (Ok pred) h tests truth = record {
+  made : (found : Option CompileFault) (meant : Event → BoundEvents → Option Bool) (parts : Readable → Type 0) (r : Result Pred CompileFault) → MadePredAnswer found meant parts r
+      → parts (readable_in scope texts) → Tests scope t found → ((e : Event) (b : BoundEvents) (is : Bool) → meant e b ≡ Some is → Truth scope texts e b t is) → PredAnswer scope texts t r
+  made found meant parts (Ok pred) h known tests truth = record {
     tests = subst (Tests scope t) h.none tests;
     within = h.within;
+    comparable = h.comparable (readable_in scope texts) known;
     holds_as = λ e b. truth e b (holds pred e b) (h.holds_as e b);
   }
-  made found meant (Err fault) h tests truth = faulty scope t fault (λ some. subst (Tests scope t) (found_by found fault some h) tests)
+  made found meant parts (Err fault) h known tests truth = faulty scope t fault (λ some. subst (Tests scope t) (found_by found fault some h) tests)
 
   -- ---- comparisons
 
   pub test_is : (left right : Tree) (by : Compare) (one other : Expr × Sort) (r : Result Pred CompileFault) → (out-Tree t).node ≡ n.Test by → (out-Tree t).parts ≡ left ∷ right ∷ []
       → ExprAnswer scope texts left (Ok one) → ExprAnswer scope texts right (Ok other)
-      → MadePredAnswer (sides_fault by (span_of t) (span_of left) (span_of right) one.1 other.1) (λ e b. compared by (comes_to one e b) (comes_to other e b)) r → PredAnswer scope texts t r
+      → MadePredAnswer (sides_fault by (span_of t) (span_of left) (span_of right) one.1 other.1) (λ e b. compared by (comes_to one e b) (comes_to other e b)) (BothSorted one other) r → PredAnswer scope texts t r
   test_is left right by one other r is parts p q h =
-      made (sides_fault by (span_of t) (span_of left) (span_of right) one.1 other.1) (λ e b. compared by (comes_to one e b) (comes_to other e b)) r h
+      made (sides_fault by (span_of t) (span_of left) (span_of right) one.1 other.1) (λ e b. compared by (comes_to one e b) (comes_to other e b)) (BothSorted one other) r h (p.sorted, q.sorted)
       (ch.compared t left right by (Ok one.1) (Ok other.1) (sides_fault by (span_of t) (span_of left) (span_of right) one.1 other.1) is parts p.types q.types refl)
       (λ e b holds same. m.test t left right by (comes_to one e b) (comes_to other e b) holds is parts (p.means e b) (q.means e b) same)
 
@@ -111,9 +113,9 @@ module _ (scope : Scope) (texts : List (List ℕ)) (t : Tree) where
 
   pub joined_is : (left right : Tree) (one other : Pred) (r : Result Pred CompileFault) → is_junction (out-Tree t).node ≡ true → (out-Tree t).parts ≡ left ∷ right ∷ []
       → PredAnswer scope texts left (Ok one) → PredAnswer scope texts right (Ok other)
-      → MadePredAnswer None (λ e b. Some (joined (out-Tree t).node (holds one e b) (holds other e b))) r → PredAnswer scope texts t r
+      → MadePredAnswer None (λ e b. Some (joined (out-Tree t).node (holds one e b) (holds other e b))) (BothComparable one other) r → PredAnswer scope texts t r
   joined_is left right one other r join parts p q h =
-      made None (λ e b. Some (joined (out-Tree t).node (holds one e b) (holds other e b))) r h (ch.joined t left right None None None join parts p.tests q.tests refl)
+      made None (λ e b. Some (joined (out-Tree t).node (holds one e b) (holds other e b))) (BothComparable one other) r h (p.comparable, q.comparable) (ch.joined t left right None None None join parts p.tests q.tests refl)
       (λ e b is same.
       let found : joined (out-Tree t).node (holds one e b) (holds other e b) ≡ is = cc in
       subst (Truth scope texts e b t) found (joined_truth left right (holds one e b) (holds other e b) e b (out-Tree t).node refl join parts (p.holds_as e b) (q.holds_as e b)))
@@ -135,9 +137,9 @@ module _ (scope : Scope) (texts : List (List ℕ)) (t : Tree) where
   -- ---- not a predicate
 
   pub denied_is : (part : Tree) (inner : Pred) (r : Result Pred CompileFault) → (out-Tree t).node ≡ n.Not → (out-Tree t).parts ≡ part ∷ [] → PredAnswer scope texts part (Ok inner)
-      → MadePredAnswer None (λ e b. Some (not (holds inner e b))) r → PredAnswer scope texts t r
+      → MadePredAnswer None (λ e b. Some (not (holds inner e b))) (λ r. IsComparable r inner) r → PredAnswer scope texts t r
   denied_is part inner r is parts p h =
-      made None (λ e b. Some (not (holds inner e b))) r h (ch.denied t part None is parts p.tests)
+      made None (λ e b. Some (not (holds inner e b))) (λ r. IsComparable r inner) r h p.comparable (ch.denied t part None is parts p.tests)
       (λ e b found same. let e2 : found ≡ not (holds inner e b) = cc in m.denied t part (holds inner e b) found is parts (p.holds_as e b) e2)
 
   pub denied_faulty : (part : Tree) (fault : CompileFault) → (out-Tree t).node ≡ n.Not → (out-Tree t).parts ≡ part ∷ [] → Faulty scope part fault → Faulty scope t fault

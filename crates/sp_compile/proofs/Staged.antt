@@ -1,5 +1,5 @@
 -- The checks of a whole query, one part after the other, and the plan of all parts.
-use Rattle.std.proofs.Common.{◌≡◌, ℕ, suc, inl, inr, ◌≤◌, List, [], ◌∷◌, length, Option, Some, None, Result, Ok, Err, IsErrAnd, refl, sym, ◌∙◌, ap, subst}
+use Rattle.std.proofs.Common.{◌≡◌, ℕ, suc, inl, inr, ◌≤◌, ◌<◌, List, [], ◌∷◌, length, Option, Some, None, Result, Ok, Err, IsErrAnd, refl, sym, ◌∙◌, ap, subst}
 use Rattle.std.specs.Prelude.{IfOk, IfErr}
 use Rattle.std.specs.List.{last_or, range_with_len}
 use Rattle.std.proofs.lemmas.List.{length-map}
@@ -7,7 +7,7 @@ use Rattle.std.proofs.lemmas.Result.{err_from_is_err_and}
 use Rattle.sp_plan.specs.declared.plan.Name.{Name}
 use Rattle.sp_plan.specs.declared.plan.Opening.{Opening}
 use Rattle.sp_plan.specs.declared.plan.Plan.{Plan}
-use Rattle.sp_plan.specs.Compiled.{IsCompiled}
+use Rattle.sp_plan.specs.Compiled.{AreApart, IsCompiled}
 use Rattle.sp_query.specs.declared.query.Ident.{Ident}
 use Rattle.sp_query.specs.declared.query.Query.{Query}
 use Rattle.sp_compile.specs.declared.fault.CompileFault.{CompileFault}
@@ -21,6 +21,9 @@ use Rattle.sp_compile.specs.Sorts.{first}
 use Rattle.sp_compile.specs.Stages.{NamesPass, Misopens, EndPasses, Misends, plan_of}
 use Rattle.sp_compile.specs.Stands.{plan_column, all_trees, StandForNames, Stands}
 use Rattle.sp_compile.specs.Told.{IsPlanOf, Refuses, IsFound}
+use Rattle.sp_compile.proofs.Apart.{columns_apart, columns_sound, names_apart, gathered_apart, none_apart}
+use Rattle.sp_compile.proofs.Ends.{is_last, wide_sets, is_timed}
+use Rattle.sp_compile.proofs.EarlierNames.{read_earlier}
 use Rattle.sp_compile.proofs.Limits.{neither, is_named}
 use Rattle.sp_compile.proofs.OneFault.{one_fault}
 use Rattle.sp_compile.proofs.Placed.{numbers_in_order}
@@ -129,21 +132,33 @@ module _ (query : Query) (listed : List (Ident × ℕ)) (texts : List (List ℕ)
   }
 
   -- and keeps the limits
-  plan_compiled : IsCompiled (plan_of query planned opening texts)
-  plan_compiled =
+  plan_compiled : Gathers (all_trees query) [] texts → IsCompiled (plan_of query planned opening texts)
+  plan_compiled gathers =
       let known = names_known query listed named in
       let many : length planned ≡ length (pattern_names query) = as_many query texts (pattern_names query) planned names.stand in
+      let single = neither (names_fault [] (pattern_names query)) (last_fault (last_or None query.elements)) named.elements in
+      let fine = fine_length query ends.fits in
       record {
         columns = subst (λ (n : ℕ). n ≤ 64) (sym (length-map query.columns plan_column)) known.columns;
+        columns_apart = columns_apart query.columns named.columns;
+        kinds = columns_sound query.columns named.columns;
         time = time_is_whole query.columns query.time named.time;
         names = subst (λ (n : ℕ). n ≤ 32) (sym many) known.names;
+        some_name = subst (λ (n : ℕ). 0 < n) (sym many) named.some;
+        names_apart = names_apart query texts (pattern_names query) planned names.stand single.0;
         elements = numbers_in_order query.elements 0 ∙ ap (λ (n : ℕ). range_with_len 0 n) (sym many);
+        sets = wide_sets query.elements 0 named.wide;
+        last = is_last query.elements named.some single.1;
         preds = names.within;
+        reads = read_earlier (plan_of query planned opening texts) query.elements planned names.read;
         opening = ends.opens.within;
+        opening_reads = ends.opens.reads;
         windowed = record {
-          length_is = length_keeps query.time query.length.0 query.length.1 (fine_length query ends.fits);
+          length_is = length_keeps query.time query.length.0 query.length.1 fine;
           opening_is = ends.opens.opens;
         };
+        timed = is_timed query.columns query.time query.length.0 query.length.1 named.time fine;
+        texts_apart = subst AreApart (sym gathers.gathered) (gathered_apart gathers.literals [] none_apart);
       }
 
   -- it is the query's
@@ -151,7 +166,7 @@ module _ (query : Query) (listed : List (Ident × ℕ)) (texts : List (List ℕ)
   is_plan q gathers is = subst (λ p. IsPlanOf p query) (sym is) (record {
     checks = all_pass query listed named names.checks ends.fits ends.opens.checks ends.consumed;
     stands = plan_stands gathers;
-    compiled = plan_compiled;
+    compiled = plan_compiled gathers;
   })
 
 -- ---- one answer

@@ -6,6 +6,7 @@ use Rattle.sp_lex.specs.declared.token.Span.{Span}
 use Rattle.sp_plan.specs.declared.event.Event.{Event}
 use Rattle.sp_plan.specs.declared.plan.Expr.{Expr}
 use Rattle.sp_plan.specs.Bounds.{bound, greatest}
+use Rattle.sp_plan.specs.Comparable.{HasScale}
 use Rattle.sp_plan.specs.Values.{BoundEvents, value}
 use Rattle.sp_compile.specs.declared.fault.CompileFault.{CompileFault}
 use Rattle.sp_compile.specs.declared.fault.CompileFault.TheVariants as f
@@ -77,6 +78,10 @@ module _ (span : Span) where
         within_other = j.within;
         sums = λ event bound_. rw (w.is, left_is event bound_, right_is event bound_) refl;
         differences = λ event bound_. rw (w.is, left_is event bound_, right_is event bound_) refl;
+        sorted = λ r both. (
+          subst (λ (n : ℕ). HasScale r one n) (omega (arith, p)) (i.scaled r k both.0),
+          subst (λ (n : ℕ). HasScale r two n) (omega (arith, q)) (j.scaled r m both.1),
+        );
       }
   aligned (l, s.Text) right by more all one two x y sort is i j = absurd (cc sort)
   aligned (l, s.Number k b) (r, s.Text) by more all one two x y sort is i j = absurd (cc sort)

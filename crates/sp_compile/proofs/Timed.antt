@@ -13,7 +13,7 @@ use Rattle.sp_compile.specs.Checks.{is_whole, time_column_fault, time_fault}
 use Rattle.sp_compile.specs.Stands.{plan_column, kind_of, time_place}
 
 -- a column of the query at a place is a column of the plan there
-planned_there : (columns : List QueryColumn) (place : ℕ) (column : QueryColumn) → slice_get columns place ≡ Some column → slice_get (map plan_column columns) place ≡ Some (plan_column column)
+pub planned_there : (columns : List QueryColumn) (place : ℕ) (column : QueryColumn) → slice_get columns place ≡ Some column → slice_get (map plan_column columns) place ≡ Some (plan_column column)
 planned_there [] place column is = absurd (cc is)
 planned_there (c ∷ columns) zero column is = let same : c ≡ column = cc is in ap (λ x. Some (plan_column x)) same
 planned_there (c ∷ columns) (suc place) column is = planned_there columns place column is

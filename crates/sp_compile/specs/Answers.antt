@@ -1,13 +1,15 @@
 -- What the compiler's functions answer.
-use Rattle.std.specs.Prelude.{◌≡◌, ℕ, ℤ, ◌≤◌, List, Option, Some, None, Result, Ok, Err, length}
+use Rattle.std.specs.Prelude.{◌≡◌, ℕ, ℤ, ◌≤◌, List, Option, Some, None, Result, Ok, Err, length, map, count_by, nat_lt}
 use Rattle.std.specs.List.{All}
 use Rattle.sp_lex.specs.declared.token.Word.TheVariants as w
 use Rattle.sp_plan.specs.declared.event.Event.{Event}
 use Rattle.sp_plan.specs.declared.plan.Expr.{Expr}
 use Rattle.sp_plan.specs.declared.plan.Pred.{Pred}
 use Rattle.sp_plan.specs.Bounds.{bound, StaysWithin, PredWithin}
+use Rattle.sp_plan.specs.Comparable.{Readable, IsText, HasScale, IsComparable}
 use Rattle.sp_plan.specs.Values.{BoundEvents, value, holds}
 use Rattle.sp_query.specs.declared.tree.Tree.{Tree}
+use Rattle.sp_query.specs.declared.query.Ident.{Ident}
 use Rattle.sp_query.specs.declared.query.Query.{Query}
 use Rattle.sp_compile.specs.declared.fault.CompileFault.{CompileFault}
 use Rattle.sp_compile.specs.declared.fault.CompileFault.TheVariants as f
@@ -16,6 +18,7 @@ use Rattle.sp_compile.specs.declared.sort.Sort.TheVariants as s
 use Rattle.sp_compile.specs.Scopes.{Scope, pattern_names}
 use Rattle.sp_compile.specs.Checks.{Types, Tests}
 use Rattle.sp_compile.specs.Meaning.{Datum, number, text, Means, Truth}
+use Rattle.sp_compile.specs.Stands.{plan_column}
 
 -- the scope of a query's predicate
 abbrev pub scope_in : Query → Option ℕ → Scope
@@ -37,11 +40,26 @@ abbrev pub IsBounded : Expr → Sort → Type 0
 IsBounded expr s.Text = Unit {0}
 IsBounded expr (s.Number scale most) = (bound expr ≡ most) × (scale ≤ 36)
 
+-- how many names are of elements before this one
+abbrev pub bound_names : List (Ident × ℕ) → Option ℕ → ℕ
+bound_names names None = 0
+bound_names names (Some here) = count_by (λ name. nat_lt name.1 here) names
+
+-- what a predicate of this scope may read of the plan
+abbrev pub readable_in : Scope → List (List ℕ) → Readable
+readable_in scope texts = record { columns = map plan_column scope.columns; texts = length texts; names = bound_names scope.names scope.here }
+
+-- an expression of the plan is of this sort
+abbrev pub HasSort : Readable → Expr → Sort → Type 0
+HasSort r expr s.Text = IsText r expr
+HasSort r expr (s.Number scale most) = HasScale r expr scale
+
 -- The expression has the sort that the tree has, stays within bounds, and comes to what the tree means.
 pub record Compiled (scope : Scope) (texts : List (List ℕ)) (tree : Tree) (expr : Expr) (sort : Sort) : Type 0 where
   pub types : Types scope tree (Ok sort)
   pub bounded : IsBounded expr sort
   pub within : StaysWithin expr
+  pub sorted : HasSort (readable_in scope texts) expr sort
   pub means : (event : Event) (bound : BoundEvents) → Means scope texts event bound tree (datum sort (value expr event bound))
 
 abbrev pub Untyped : Scope → Tree → CompileFault → Type 0
@@ -57,6 +75,7 @@ ExprAnswer scope texts tree (Err fault) = Untyped scope tree fault
 pub record CompiledPred (scope : Scope) (texts : List (List ℕ)) (tree : Tree) (pred : Pred) : Type 0 where
   pub tests : Tests scope tree None
   pub within : PredWithin pred
+  pub comparable : IsComparable (readable_in scope texts) pred
   pub holds_as : (event : Event) (bound : BoundEvents) → Truth scope texts event bound tree (holds pred event bound)
 
 abbrev pub Faulty : Scope → Tree → CompileFault → Type 0

@@ -4,11 +4,13 @@ use Rattle.std.specs.List.{All, AllZip}
 use Rattle.std.specs.Str.{bytes_eq}
 use Rattle.sp_plan.specs.declared.plan.Name.{Name}
 use Rattle.sp_plan.specs.Bounds.{PredWithin}
+use Rattle.sp_plan.specs.Comparable.{IsComparable}
 use Rattle.sp_query.specs.declared.tree.Tree.{Tree}
 use Rattle.sp_query.specs.declared.query.Ident.{Ident}
 use Rattle.sp_query.specs.declared.query.Query.{Query}
 use Rattle.sp_compile.specs.declared.fault.CompileFault.{CompileFault}
 use Rattle.sp_compile.specs.declared.fault.CompileFault.TheVariants as f
+use Rattle.sp_compile.specs.Answers.{scope_in, readable_in}
 use Rattle.sp_compile.specs.Scopes.{pattern_names, name_place}
 use Rattle.sp_compile.specs.Sorts.{name_there}
 use Rattle.sp_compile.specs.Checks.{defined_fault, Defines}
@@ -18,11 +20,16 @@ use Rattle.sp_compile.specs.Stands.{StandsForDefinition, StandForNames, is_consu
 abbrev pub defined_in : List (Ident × Tree) → List ℕ → Option (Ident × Tree)
 defined_in defines text = find (λ define. bytes_eq define.0.text text) defines
 
+-- the predicate of a name compares like with like, and reads names of earlier elements alone
+abbrev pub ReadsBefore : Query → List (List ℕ) → Ident × ℕ → Name → Type 0
+ReadsBefore query texts name planned = IsComparable (readable_in (scope_in query (Some name.1)) texts) planned.pred
+
 -- A name of the plan stands for a name of the pattern, where there are no definitions but these.
 pub record StandsSoFar (query : Query) (texts : List (List ℕ)) (defines : List (Ident × Tree)) (name : Ident × ℕ) (planned : Name) : Type 0 where
   pub text : planned.text ≡ name.0.text
   pub pred : StandsForDefinition query texts name (defined_in defines name.0.text) planned.pred
   pub consumed : planned.consumed ≡ is_consumed query.consume name.0.text
+  pub reads : ReadsBefore query texts name planned
 
 -- and so do all names
 abbrev pub StandSoFar : Query → List (List ℕ) → List (Ident × Tree) → List (Ident × ℕ) → List Name → Type 0
@@ -38,6 +45,7 @@ pub record AreNames (query : Query) (texts : List (List ℕ)) (planned : List Na
   pub checks : Defines query [] query.defines None
   pub stand : StandForNames query texts (pattern_names query) planned
   pub within : All (λ name. PredWithin name.pred) planned
+  pub read : AllZip (ReadsBefore query texts) (pattern_names query) planned
 
 -- what a fault says of the definitions
 abbrev pub Misdefines : Query → CompileFault → Type 0

@@ -1,10 +1,11 @@
 -- What the compiler's functions answer of the parts of an expression or a predicate.
-use Rattle.std.specs.Prelude.{◌≡◌, ◌≢◌, ℕ, ℤ, ◌+◌, ◌-◌, ◌*◌, max, ◌^◌, ◌<◌, ◌≤◌, ◌+ℤ◌, ◌-ℤ◌, ◌*ℤ◌, pos, Bool, ◌&&◌, ◌||◌, not, List, Option, Some, None, Result, Ok, Err, slice_get, nat_le, if◌then◌else◌}
+use Rattle.std.specs.Prelude.{◌≡◌, ◌≢◌, ℕ, ℤ, ◌+◌, ◌-◌, ◌*◌, max, ◌^◌, ◌<◌, ◌≤◌, ◌+ℤ◌, ◌-ℤ◌, ◌*ℤ◌, pos, Bool, ◌&&◌, ◌||◌, not, List, Option, Some, None, Result, Ok, Err, length, map, slice_get, nat_le, if◌then◌else◌}
 use Rattle.sp_lex.specs.declared.token.Span.{Span}
 use Rattle.sp_plan.specs.declared.event.Event.{Event}
 use Rattle.sp_plan.specs.declared.plan.Expr.{Expr}
 use Rattle.sp_plan.specs.declared.plan.Pred.{Pred}
 use Rattle.sp_plan.specs.Bounds.{bound, greatest, StaysWithin, PredWithin}
+use Rattle.sp_plan.specs.Comparable.{Readable, HasScale, IsComparable}
 use Rattle.sp_plan.specs.Texts.{symbol_of}
 use Rattle.sp_plan.specs.Values.{BoundEvents, value, holds, column_of, earlier_column, last_bound}
 use Rattle.sp_query.specs.declared.query.QueryColumn.{QueryColumn}
@@ -18,7 +19,8 @@ use Rattle.sp_compile.specs.declared.sort.Sort.TheVariants as s
 use Rattle.sp_compile.specs.Scopes.{Scope, column_place, name_place}
 use Rattle.sp_compile.specs.Sorts.{Verdict, sum_sort, negative_sort, operator_sort}
 use Rattle.sp_compile.specs.Meaning.{Datum, number, text, datum_of, combined, negative}
-use Rattle.sp_compile.specs.Answers.{datum, IsBounded}
+use Rattle.sp_compile.specs.Answers.{datum, IsBounded, HasSort, bound_names}
+use Rattle.sp_compile.specs.Stands.{plan_column}
 
 -- a bound, if no value may be greater
 abbrev pub within_limit : ℕ → Option ℕ
@@ -48,11 +50,16 @@ pub record IsSound (p : Expr × Sort) : Type 0 where
 abbrev pub comes_to : Expr × Sort → Event → BoundEvents → Datum
 comes_to p event bound = datum p.1 (value p.0 event bound)
 
--- An expression with the sort of this verdict, which comes to these data.
-pub record Made (verdict : Verdict) (meant : Event → BoundEvents → Option Datum) (p : Expr × Sort) : Type 0 where
+-- each of two expressions is of its sort
+abbrev pub BothSorted : Expr × Sort → Expr × Sort → Readable → Type 0
+BothSorted left right r = HasSort r left.0 left.1 × HasSort r right.0 right.1
+
+-- An expression with the sort of this verdict, which comes to these data; it is of its sort where its parts are of theirs.
+pub record Made (verdict : Verdict) (meant : Event → BoundEvents → Option Datum) (parts : Readable → Type 0) (p : Expr × Sort) : Type 0 where
   pub sort : verdict ≡ Ok p.1
   pub sound : IsSound p
   pub comes : (event : Event) (bound : BoundEvents) → meant event bound ≡ Some (comes_to p event bound)
+  pub sorted : (r : Readable) → parts r → HasSort r p.0 p.1
 
 -- the verdict is a fault; want of memory says nothing
 abbrev pub Refused : Verdict → CompileFault → Type 0
@@ -60,15 +67,16 @@ Refused verdict f.Memory = Unit {0}
 Refused verdict fault = verdict ≡ Err fault
 
 -- such an expression, or the verdict's fault
-abbrev pub MadeAnswer : Verdict → (Event → BoundEvents → Option Datum) → Result (Expr × Sort) CompileFault → Type 0
-MadeAnswer verdict meant (Ok p) = Made verdict meant p
-MadeAnswer verdict meant (Err fault) = Refused verdict fault
+abbrev pub MadeAnswer : Verdict → (Event → BoundEvents → Option Datum) → (Readable → Type 0) → Result (Expr × Sort) CompileFault → Type 0
+MadeAnswer verdict meant parts (Ok p) = Made verdict meant parts p
+MadeAnswer verdict meant parts (Err fault) = Refused verdict fault
 
 -- A number with more decimals.
 pub record IsRaised (expr : Expr) (by : ℕ) (raised : Expr) : Type 0 where
   pub within : StaysWithin raised
   pub bounded : bound raised ≡ bound expr * 10 ^ by
   pub raises : (event : Event) (bound : BoundEvents) → value raised event bound ≡ value expr event bound *ℤ pos (10 ^ by)
+  pub scaled : (r : Readable) (scale : ℕ) → HasScale r expr scale → HasScale r raised (scale + by)
 
 -- a number with more decimals, or want of memory
 abbrev pub RaisedAnswer : Expr → ℕ → Result Expr CompileFault → Type 0
@@ -95,17 +103,19 @@ pub record Aligned (span : Span) (left right : Expr × Sort) (one other : Expr) 
   pub within_other : StaysWithin other
   pub sums : (event : Event) (bound : BoundEvents) → combined n.Add (comes_to left event bound) (comes_to right event bound) ≡ Some (datum all (value one event bound +ℤ value other event bound))
   pub differences : (event : Event) (bound : BoundEvents) → combined n.Sub (comes_to left event bound) (comes_to right event bound) ≡ Some (datum all (value one event bound -ℤ value other event bound))
+  pub sorted : (r : Readable) → BothSorted left right r → HasScale r one scale × HasScale r other scale
 
 -- two such numbers, or the fault of their sum
 abbrev pub AlignedAnswer : Span → Expr × Sort → Expr × Sort → Result (Expr × Expr × Sort) CompileFault → Type 0
 AlignedAnswer span left right (Ok p) = Aligned span left right p.0 p.1 p.2
 AlignedAnswer span left right (Err fault) = Refused (sum_sort span left.1 right.1) fault
 
--- A predicate without this fault, which holds exactly where this is true.
-pub record MadePred (fault : Option CompileFault) (meant : Event → BoundEvents → Option Bool) (pred : Pred) : Type 0 where
+-- A predicate without this fault, which holds exactly where this is true; it compares like with like where its parts are so.
+pub record MadePred (fault : Option CompileFault) (meant : Event → BoundEvents → Option Bool) (parts : Readable → Type 0) (pred : Pred) : Type 0 where
   pub none : fault ≡ None
   pub within : PredWithin pred
   pub holds_as : (event : Event) (bound : BoundEvents) → meant event bound ≡ Some (holds pred event bound)
+  pub comparable : (r : Readable) → parts r → IsComparable r pred
 
 -- the fault is this one; want of memory says nothing
 abbrev pub Found : Option CompileFault → CompileFault → Type 0
@@ -113,9 +123,13 @@ Found found f.Memory = Unit {0}
 Found found fault = found ≡ Some fault
 
 -- such a predicate, or the fault
-abbrev pub MadePredAnswer : Option CompileFault → (Event → BoundEvents → Option Bool) → Result Pred CompileFault → Type 0
-MadePredAnswer found meant (Ok pred) = MadePred found meant pred
-MadePredAnswer found meant (Err fault) = Found found fault
+abbrev pub MadePredAnswer : Option CompileFault → (Event → BoundEvents → Option Bool) → (Readable → Type 0) → Result Pred CompileFault → Type 0
+MadePredAnswer found meant parts (Ok pred) = MadePred found meant parts pred
+MadePredAnswer found meant parts (Err fault) = Found found fault
+
+-- each of two predicates compares like with like
+abbrev pub BothComparable : Pred → Pred → Readable → Type 0
+BothComparable left right r = IsComparable r left × IsComparable r right
 
 -- what a predicate of two others holds as
 abbrev pub joined : Node → Bool → Bool → Bool
@@ -126,11 +140,15 @@ joined _ one other = one && other
 
 -- a number of the query, in units of its scale
 abbrev pub NumberAnswer : ℕ → ℕ → Result (Expr × Sort) CompileFault → Type 0
-NumberAnswer units scale result = MadeAnswer (Ok (s.Number scale units)) (λ event bound. Some (number (pos units) scale)) result
+NumberAnswer units scale result = MadeAnswer (Ok (s.Number scale units)) (λ event bound. Some (number (pos units) scale)) (λ r. Unit {0}) result
 
 -- a text of the query, by its number among the texts
 abbrev pub TextAnswer : List (List ℕ) → List ℕ → Result (Expr × Sort) CompileFault → Type 0
-TextAnswer texts t result = MadeAnswer (Ok s.Text) (λ event bound. Some (text (pos (symbol_of texts t)))) result
+TextAnswer texts t result = MadeAnswer (Ok s.Text) (λ event bound. Some (text (pos (symbol_of texts t)))) (λ r. r.texts ≡ length texts) result
+
+-- what may be read has the columns of this scope, and the names that are bound in it
+abbrev pub Reads : Scope → Readable → Type 0
+Reads scope r = (r.columns ≡ map plan_column scope.columns) × (r.names ≡ bound_names scope.names scope.here)
 
 -- what a column comes to, by what stands in it
 abbrev pub column_datum : Option QueryColumn → ℤ → Option Datum
@@ -171,22 +189,22 @@ BothAnswer left right (Err fault) = fault ≢ f.Memory → FirstFault left right
 
 -- minus an operand, or the operand's fault
 abbrev pub NegativeAnswer : Span → Result (Expr × Sort) CompileFault → Result (Expr × Sort) CompileFault → Type 0
-NegativeAnswer span (Ok inner) result = MadeAnswer (negative_sort span inner.1) (λ event bound. negative (comes_to inner event bound)) result
+NegativeAnswer span (Ok inner) result = MadeAnswer (negative_sort span inner.1) (λ event bound. negative (comes_to inner event bound)) (λ r. HasSort r inner.0 inner.1) result
 NegativeAnswer span (Err fault) result = result ≡ Err fault
 
 -- what the operator of this tree makes of both sides, or the first fault
 abbrev pub OperationAnswer : Tree → Result (Expr × Sort) CompileFault → Result (Expr × Sort) CompileFault → Result (Expr × Sort) CompileFault → Type 0
-OperationAnswer t (Ok one) (Ok other) result = MadeAnswer (operator_sort (out-Tree t).node (out-Tree t).span one.1 other.1) (λ event bound. combined (out-Tree t).node (comes_to one event bound) (comes_to other event bound)) result
+OperationAnswer t (Ok one) (Ok other) result = MadeAnswer (operator_sort (out-Tree t).node (out-Tree t).span one.1 other.1) (λ event bound. combined (out-Tree t).node (comes_to one event bound) (comes_to other event bound)) (BothSorted one other) result
 OperationAnswer t left right (Ok p) = ⊥
 OperationAnswer t left right (Err fault) = fault ≢ f.Memory → FirstFault left right fault
 
 -- what an AND or OR makes of two predicates, or the first fault
 abbrev pub JointAnswer : Node → Result Pred CompileFault → Result Pred CompileFault → Result Pred CompileFault → Type 0
-JointAnswer node (Ok one) (Ok other) result = MadePredAnswer None (λ event bound. Some (joined node (holds one event bound) (holds other event bound))) result
+JointAnswer node (Ok one) (Ok other) result = MadePredAnswer None (λ event bound. Some (joined node (holds one event bound) (holds other event bound))) (BothComparable one other) result
 JointAnswer node left right (Ok pred) = ⊥
 JointAnswer node left right (Err fault) = fault ≢ f.Memory → FirstFault left right fault
 
 -- not a predicate, or its fault
 abbrev pub NegationAnswer : Result Pred CompileFault → Result Pred CompileFault → Type 0
-NegationAnswer (Ok inner) result = MadePredAnswer None (λ event bound. Some (not (holds inner event bound))) result
+NegationAnswer (Ok inner) result = MadePredAnswer None (λ event bound. Some (not (holds inner event bound))) (λ r. IsComparable r inner) result
 NegationAnswer (Err fault) result = result ≡ Err fault

@@ -1,31 +1,44 @@
 -- What stands after each part of the compiler.
-use Rattle.std.specs.Prelude.{◌≡◌, ℕ, List, [], map, Some, None}
+use Rattle.std.specs.Prelude.{◌≡◌, ◌<◌, ℕ, Bool, true, List, [], length, map, nat_le, Some, None}
+use Rattle.std.specs.List.{list_all}
 use Rattle.sp_plan.specs.declared.plan.Name.{Name}
 use Rattle.sp_plan.specs.declared.plan.Opening.{Opening}
 use Rattle.sp_plan.specs.declared.plan.Plan.{Plan}
 use Rattle.sp_plan.specs.declared.plan.Schema.{Schema}
-use Rattle.sp_plan.specs.Compiled.{OpeningWithin}
+use Rattle.sp_plan.specs.Compiled.{OpeningWithin, OpeningReads}
 use Rattle.sp_plan.specs.Windows.{IsOpening}
 use Rattle.sp_query.specs.declared.query.Ident.{Ident}
 use Rattle.sp_query.specs.declared.query.Query.{Query}
+use Rattle.sp_query.specs.declared.query.QueryElement.{QueryElement}
+use Rattle.sp_query.specs.declared.query.QueryElement.TheVariants as e
+use Rattle.sp_compile.specs.Answers.{scope_in, readable_in}
 use Rattle.sp_compile.specs.declared.fault.CompileFault.{CompileFault}
 use Rattle.sp_compile.specs.declared.fault.CompileFault.TheVariants as f
 use Rattle.sp_compile.specs.Scopes.{pattern_names}
 use Rattle.sp_compile.specs.Checks.{columns_fault, time_fault, elements_fault, length_fault, consume_fault, OpeningFault, Then, Finds}
 use Rattle.sp_compile.specs.Stands.{plan_column, time_place, plan_elements, plan_select, plan_length, StandsForOpening}
 
--- The columns, the time and the elements have no fault, and these are the names of the pattern.
+-- a set has two names or more
+abbrev pub is_wide : QueryElement → Bool
+is_wide (e.One name) = true
+is_wide (e.Plus name span) = true
+is_wide (e.Set names) = nat_le 2 (length names)
+
+-- The columns, the time and the elements have no fault, and these are the names of the pattern; it is one that a text has.
 pub record NamesPass (query : Query) (listed : List (Ident × ℕ)) : Type 0 where
   pub columns : columns_fault [] query.columns ≡ None
   pub time : time_fault query.columns query.time ≡ None
   pub elements : elements_fault query ≡ None
   pub names : listed ≡ pattern_names query
+  pub some : 0 < length (pattern_names query)
+  pub wide : list_all is_wide query.elements ≡ true
 
 -- The opening has no fault, and this one stands for it and keeps its limits.
 pub record OpeningPasses (query : Query) (texts : List (List ℕ)) (opening : Opening) : Type 0 where
   pub checks : OpeningFault query query.opening None
   pub stands : StandsForOpening query texts query.opening opening
   pub within : OpeningWithin opening
+  pub reads : OpeningReads (readable_in (scope_in query None) texts) opening
   pub opens : IsOpening (plan_length query.length.0 query.length.1) opening
 
 -- what a fault says of the opening

@@ -3,7 +3,7 @@ ghost use Rattle.std.specs.Prelude.{◌≡◌, ◌≤◌};
 ghost use Rattle.sp_plan.specs.Bounds.{bound, StaysWithin};
 ghost use Rattle.sp_compile.specs.Sorts.{sides_fault};
 ghost use Rattle.sp_compile.specs.Meaning.{compared};
-ghost use Rattle.sp_compile.specs.Parts.{IsSound, comes_to, MadePredAnswer, SideAnswer};
+ghost use Rattle.sp_compile.specs.Parts.{IsSound, comes_to, BothSorted, MadePredAnswer, SideAnswer};
 
 use crate::arithmetic::{raise, raised_bound};
 use crate::{CompileFault, Sort};
@@ -44,7 +44,7 @@ pub(crate) fn comparison(
     requires right { IsSound right }
     ensures { MadePredAnswer (sides_fault by spans.whole spans.left spans.right left.1 right.1)
         (λ event bound. compared by (comes_to left event bound) (comes_to right event bound))
-        result }
+        (BothSorted left right) result }
 {
     match (left.1, right.1) {
         (

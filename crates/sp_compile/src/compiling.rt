@@ -12,7 +12,7 @@ use crate::CompileFault;
 use crate::columns::{columns_fault, schema, time_fault};
 use crate::consume::consume_fault;
 use crate::definitions::definitions;
-use crate::elements::{Named, last_fault, names_fault, pattern_names, plan_elements};
+use crate::elements::{Named, are_wide, last_fault, names_fault, pattern_names, plan_elements};
 use crate::fault::{checked, pass};
 use crate::opening::opening;
 use crate::texts::texts;
@@ -31,6 +31,10 @@ fn named(alloc: Global, query: &Query) -> Result<Vec<Named>, CompileFault>
     let names = pattern_names(alloc, query.elements.as_slice())?;
     pass(names_fault(&names))?;
     pass(last_fault(query.elements.as_slice()))?;
+    if names.is_empty() || !are_wide(query.elements.as_slice()) {
+        // No text has such a pattern.
+        return Err(CompileFault::Memory);
+    }
     Ok(names)
 }
 

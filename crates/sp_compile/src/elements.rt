@@ -1,8 +1,9 @@
 // The elements of a pattern and their names.
 ghost use Rattle.std.specs.Prelude.{◌≡◌, ◌≤◌, ◌+◌, [], length, map, None, IfOk};
-ghost use Rattle.std.specs.List.{last_or};
+ghost use Rattle.std.specs.List.{last_or, list_all};
 ghost use Rattle.sp_compile.specs.Checks as checks;
 ghost use Rattle.sp_compile.specs.Scopes as scopes;
+ghost use Rattle.sp_compile.specs.Stages as stages;
 ghost use Rattle.sp_compile.specs.Stands as stands;
 
 use crate::CompileFault;
@@ -94,6 +95,23 @@ pub(crate) fn last_fault(elements: &[QueryElement]) -> Option<CompileFault>
         QueryElement::Plus(_, span) => Some(CompileFault::PlusLast(*span)),
         QueryElement::One(_) | QueryElement::Set(_) => None,
     }
+}
+
+// Whether an element has as many names as a text gives it: a set has two or more.
+fn is_wide(element: &QueryElement) -> bool
+    ensures { result ≡ stages.is_wide element.now }
+{
+    match element {
+        QueryElement::Set(names) => names.len() >= 2,
+        _ => true,
+    }
+}
+
+/// Whether all elements have as many names as a text gives them.
+pub(crate) fn are_wide(elements: &[QueryElement]) -> bool
+    ensures { result ≡ list_all stages.is_wide elements.now }
+{
+    elements.iter().all(|element| is_wide(element))
 }
 
 // How many names an element has.

@@ -4,7 +4,7 @@ ghost use Rattle.sp_lex.specs.declared.token.Word.TheVariants as w;
 ghost use Rattle.sp_compile.specs.Answers.{scope_in, IsNamed};
 ghost use Rattle.sp_compile.specs.Scopes.{pattern_names};
 ghost use Rattle.sp_compile.specs.Sorts as sorts;
-ghost use Rattle.sp_compile.specs.Parts.{MadeAnswer, NumberAnswer, TextAnswer, own_datum, earlier_datum};
+ghost use Rattle.sp_compile.specs.Parts.{MadeAnswer, NumberAnswer, TextAnswer, Reads, own_datum, earlier_datum};
 
 use crate::lookup::{column_place, name_place, text_number};
 use crate::scope::Scope;
@@ -53,10 +53,11 @@ pub(crate) fn number(units: u64, scale: u8) -> Result<(Expr, Sort), CompileFault
 pub(crate) fn literal(texts: &[Text], text: &Text) -> Result<(Expr, Sort), CompileFault>
     ensures { TextAnswer texts.now text.now result }
 {
-    match u32::try_from(text_number(texts, text)) {
-        Ok(symbol) => Ok((Expr::Word(symbol), Sort::Text)),
-        // No query has so many texts.
-        Err(_) => Err(CompileFault::Memory),
+    let number = text_number(texts, text);
+    match u32::try_from(number) {
+        Ok(symbol) if number < texts.len() => Ok((Expr::Word(symbol), Sort::Text)),
+        // Each text of a query is among these, and no query has so many.
+        _ => Err(CompileFault::Memory),
     }
 }
 
@@ -64,7 +65,7 @@ pub(crate) fn literal(texts: &[Text], text: &Text) -> Result<(Expr, Sort), Compi
 pub(crate) fn own(scope: &Scope, span: Span, text: &Text) -> Result<(Expr, Sort), CompileFault>
     requires { IsNamed scope.now.query.now }
     ensures { let names = scope_in scope.now.query.now scope.now.here in
-        MadeAnswer (sorts.own_sort names span text.now) (own_datum names text.now) result }
+        MadeAnswer (sorts.own_sort names span text.now) (own_datum names text.now) (Reads names) result }
 {
     let columns = scope.query.columns.as_slice();
     match column_place(columns, text) {
@@ -84,7 +85,7 @@ pub(crate) fn earlier(
     requires names { scope.now.names.now ≡ pattern_names scope.now.query.now }
     ensures { let names = scope_in scope.now.query.now scope.now.here in
         MadeAnswer (sorts.earlier_sort names span name.now text.now)
-        (earlier_datum names name.now text.now) result }
+        (earlier_datum names name.now text.now) (Reads names) result }
 {
     let Some(here) = scope.here else {
         return Err(CompileFault::LateReference(span));

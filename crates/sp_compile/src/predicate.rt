@@ -7,7 +7,7 @@ ghost use Rattle.sp_plan.specs.Bounds.{PredWithin};
 ghost use Rattle.sp_plan.specs.Values.{holds};
 ghost use Rattle.sp_compile.specs.Checks.{is_junction};
 ghost use Rattle.sp_compile.specs.Scopes.{pattern_names};
-ghost use Rattle.sp_compile.specs.Parts.{MadePredAnswer, JointAnswer, NegationAnswer, joined};
+ghost use Rattle.sp_compile.specs.Parts.{BothComparable, MadePredAnswer, JointAnswer, NegationAnswer, joined};
 
 use crate::CompileFault;
 use crate::boxed::{boxed, boxed_pair};
@@ -53,7 +53,7 @@ fn junction(alloc: Global, node: &Node, left: Pred, right: Pred) -> Result<Pred,
     requires right { PredWithin right }
     ensures { MadePredAnswer None
         (λ event bound. Some (joined node.now (holds left event bound) (holds right event bound)))
-        result }
+        (BothComparable left right) result }
 {
     let (left, right) = boxed_pair(alloc, left, right)?;
     match node {

@@ -3,6 +3,7 @@ mod Blocks
 pub mod Worked
 mod WorkedMoves
 mod WorkedReading
+mod WorkedCompiled
 mod Products
 mod Fitting
 mod Zips

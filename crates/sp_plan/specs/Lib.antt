@@ -10,6 +10,7 @@ pub mod Sequential
 pub mod Lines
 pub mod Bounds
 pub mod Texts
+pub mod Comparable
 pub mod Compiled
 pub mod Laws
 pub mod Same
