@@ -1,0 +1,11 @@
+mod cutter;
+mod expect;
+mod lines;
+mod matcher;
+mod numbers;
+mod outside;
+mod queries;
+mod rows;
+mod tokens;
+mod values;
+mod windows;
