@@ -2,10 +2,10 @@
 ghost use Rattle.std.specs.Prelude.{◌≡◌, ◌↔◌, ◌++◌, map, IsTrue, IfOk, OnOk};
 ghost use Rattle.std.specs.List.{All};
 ghost use Rattle.sp_plan.specs.declared.plan.Plan.{Plan};
-ghost use Rattle.sp_match.specs.Kept.{kept, started};
-ghost use Rattle.sp_match.specs.Good.{Good};
-ghost use Rattle.sp_match.specs.Handled.{leaving_told};
-ghost use Rattle.sp_match.specs.Seen.{seen};
+ghost use Rattle.sp_match.specs.inside.Kept.{kept, started};
+ghost use Rattle.sp_match.specs.inside.Good.{Good};
+ghost use Rattle.sp_match.specs.inside.Effects.{leaving_told};
+ghost use Rattle.sp_match.specs.public.Seen.{seen};
 
 use crate::Memory;
 use crate::moves::Move;

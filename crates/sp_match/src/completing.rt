@@ -3,9 +3,9 @@ ghost use Rattle.std.specs.Prelude.{◌≡◌, ◌≤◌, [], length, map, IfOk,
 ghost use Rattle.std.specs.List.{range_with_len};
 ghost use Rattle.sp_plan.specs.Compiled.{IsCompiled};
 ghost use Rattle.sp_plan.specs.Runs.{bindings};
-ghost use Rattle.sp_match.specs.Kept.{kept, pairs};
-ghost use Rattle.sp_match.specs.Good.{Good};
-ghost use Rattle.sp_match.specs.Seen.{seen_name};
+ghost use Rattle.sp_match.specs.inside.Kept.{kept, pairs};
+ghost use Rattle.sp_match.specs.inside.Good.{Good};
+ghost use Rattle.sp_match.specs.public.Seen.{seen_name};
 
 use crate::Memory;
 use crate::run::Run;

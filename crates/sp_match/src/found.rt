@@ -1,6 +1,6 @@
 // What a completed run is as a match of a window.
 ghost use Rattle.std.specs.Prelude.{◌≡◌, map, IfOk};
-ghost use Rattle.sp_match.specs.Seen.{seen_name};
+ghost use Rattle.sp_match.specs.public.Seen.{seen_name};
 
 use crate::Memory;
 use sp_base::Numbers;

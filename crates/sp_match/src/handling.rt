@@ -6,12 +6,12 @@ ghost use Rattle.sp_plan.specs.declared.plan.Plan.{Plan};
 ghost use Rattle.sp_plan.specs.Bounds.{IsSmall};
 ghost use Rattle.sp_plan.specs.Compiled.{IsCompiled};
 ghost use Rattle.sp_plan.specs.Runs as definitions;
-ghost use Rattle.sp_match.specs.Kept.{kept, pairs};
-ghost use Rattle.sp_match.specs.Good.{Good, NumbersBelow, RunUndoes, Undoes};
-ghost use Rattle.sp_match.specs.Handled.{marked, leaving_told, told_of, finished, finished_told, turned, turned_told, completes, completed_told, turned_used, run_at, bound_at, bound_told, received, dealt, dealt_told};
-ghost use Rattle.sp_match.specs.Handled as handled;
-ghost use Rattle.sp_match.specs.Turn.{IsTurn};
-ghost use Rattle.sp_match.specs.Seen.{seen};
+ghost use Rattle.sp_match.specs.inside.Kept.{kept, pairs};
+ghost use Rattle.sp_match.specs.inside.Good.{Good, NumbersBelow, RunUndoes, Undoes};
+ghost use Rattle.sp_match.specs.inside.Effects.{run_after_use, leaving_told, use_told, run_if_complete, told_if_complete, run_after_binding, binding_told, completes, completion_told, used_by_binding, run_at, runs_after_binding, runs_binding_told, reception_after_offer, runs_after_offer, offer_told};
+ghost use Rattle.sp_match.specs.inside.Effects as handled;
+ghost use Rattle.sp_match.specs.inside.Turn.{IsTurn};
+ghost use Rattle.sp_match.specs.public.Seen.{seen};
 ghost use Rattle.sp_match.specs.declared.run.Turn.TheVariants.{Idle};
 ghost use Rattle.sp_match.specs.declared.run.Fate.TheVariants.{Completes, Leaves};
 
@@ -40,7 +40,7 @@ fn complete(alloc: Global, plan: &Plan, run: &mut Run, list: &mut Vec<Move>) -> 
     requires compiled { IsCompiled plan.now }
     requires good { Good plan.now (kept run.old) }
     ensures run { OnOk result (kept run.new ≡ record (kept run.old) { fate = Completes }) }
-    ensures told { OnOk result (map seen list.new.items ≡ map seen list.old.items ++ completed_told plan.now (kept run.old) ∷ []) }
+    ensures told { OnOk result (map seen list.new.items ≡ map seen list.old.items ++ completion_told plan.now (kept run.old) ∷ []) }
     ensures err { OnErr result (kept run.new ≡ kept run.old) }
 {
     let bound = bound_numbers(alloc, plan, run)?;
@@ -77,8 +77,8 @@ fn loses(run: &Run, numbers: &Numbers) -> bool
 fn finish(alloc: Global, plan: &Plan, run: &mut Run, list: &mut Vec<Move>) -> Result<bool, Memory>
     requires compiled { IsCompiled plan.now }
     requires good { Good plan.now (kept run.old) }
-    ensures run { OnOk result (kept run.new ≡ finished plan.now (kept run.old)) }
-    ensures told { OnOk result (map seen list.new.items ≡ map seen list.old.items ++ finished_told plan.now (kept run.old)) }
+    ensures run { OnOk result (kept run.new ≡ run_if_complete plan.now (kept run.old)) }
+    ensures told { OnOk result (map seen list.new.items ≡ map seen list.old.items ++ told_if_complete plan.now (kept run.old)) }
     ensures complete { IfOk result (λ complete. complete ≡ definitions.is_complete plan.now (pairs (kept run.old))) }
     ensures err { OnErr result (kept run.new ≡ kept run.old) }
 {
@@ -114,8 +114,8 @@ fn grow(
     requires named { name < length plan.now.names }
     requires small { IsSmall event.now }
     requires below { NumbersBelow number (kept run.old) }
-    ensures run { OnOk result (kept run.new ≡ turned plan.now name (number, event.now) (kept run.old)) }
-    ensures told { OnOk result (map seen list.new.items ≡ map seen list.old.items ++ turned_told plan.now name (number, event.now) (kept run.old)) }
+    ensures run { OnOk result (kept run.new ≡ run_after_binding plan.now name (number, event.now) (kept run.old)) }
+    ensures told { OnOk result (map seen list.new.items ≡ map seen list.old.items ++ binding_told plan.now name (number, event.now) (kept run.old)) }
     ensures complete { IfOk result (λ complete. complete ≡ completes plan.now name (number, event.now) (kept run.old)) }
     ensures undoes { RunUndoes plan.now (kept run.old) (kept run.new) }
 {
@@ -132,8 +132,8 @@ fn grow(
 // A run is abandoned where it is open and holds one of these numbers.
 fn leave_with(run: &mut Run, used: &Numbers, list: &mut Vec<Move>) -> Result<(), Memory>
     requires { (q : Plan) × Good q (kept run.old) }
-    ensures run { OnOk result (kept run.new ≡ marked used.now.list (kept run.old)) }
-    ensures told { OnOk result (map seen list.new.items ≡ map seen list.old.items ++ told_of used.now.list (kept run.old)) }
+    ensures run { OnOk result (kept run.new ≡ run_after_use used.now.list (kept run.old)) }
+    ensures told { OnOk result (map seen list.new.items ≡ map seen list.old.items ++ use_told used.now.list (kept run.old)) }
     ensures err { OnErr result (kept run.new ≡ kept run.old) }
 {
     if loses(run, used) {
@@ -146,8 +146,8 @@ fn leave_with(run: &mut Run, used: &Numbers, list: &mut Vec<Move>) -> Result<(),
 // Each open run that holds one of these numbers is abandoned, by run number.
 fn abandon(runs: &mut [Run], used: &Numbers, list: &mut Vec<Move>) -> Result<(), Memory>
     requires { (q : Plan) × All (Good q) (map kept runs.old) }
-    ensures runs { OnOk result (map kept runs.new ≡ map (marked used.now.list) (map kept runs.old)) }
-    ensures told { OnOk result (map seen list.new.items ≡ map seen list.old.items ++ flat_map (told_of used.now.list) (map kept runs.old)) }
+    ensures runs { OnOk result (map kept runs.new ≡ map (run_after_use used.now.list) (map kept runs.old)) }
+    ensures told { OnOk result (map seen list.new.items ≡ map seen list.old.items ++ flat_map (use_told used.now.list) (map kept runs.old)) }
     ensures undoes { (q : Plan) → All (Good q) (map kept runs.old) → Undoes q (map kept runs.old) (map kept runs.new) }
 {
     for i in 0..runs.len() {
@@ -175,9 +175,9 @@ pub(crate) fn bind(
     requires below { NumbersBelow number (run_at (map kept runs.old) at) }
     requires within { at < length runs.old }
     requires idle { (run_at (map kept runs.old) at).turn ≡ Idle }
-    ensures used { IfOk result (λ used. used ≡ definitions.is_among (turned_used plan.now name (number, event.now) (run_at (map kept runs.old) at)) number) }
-    ensures runs { OnOk result (map kept runs.new ≡ bound_at plan.now name (number, event.now) at (map kept runs.old)) }
-    ensures told { OnOk result (map seen list.new.items ≡ map seen list.old.items ++ bound_told plan.now name (number, event.now) at (map kept runs.old)) }
+    ensures used { IfOk result (λ used. used ≡ definitions.is_among (used_by_binding plan.now name (number, event.now) (run_at (map kept runs.old) at)) number) }
+    ensures runs { OnOk result (map kept runs.new ≡ runs_after_binding plan.now name (number, event.now) at (map kept runs.old)) }
+    ensures told { OnOk result (map seen list.new.items ≡ map seen list.old.items ++ runs_binding_told plan.now name (number, event.now) at (map kept runs.old)) }
     ensures undoes { Undoes plan.now (map kept runs.old) (map kept runs.new) }
 {
     let is_whole = grow(alloc, plan, &mut runs[at], name, number, event, list)?;
@@ -208,9 +208,9 @@ fn deal(
     requires below { NumbersBelow number (run_at (map kept runs.old) at) }
     requires within { at < length runs.old }
     requires idle { (run_at (map kept runs.old) at).turn ≡ Idle }
-    ensures received { IfOk result (λ r. r ≡ received plan.now (number, event.now) (run_at (map kept runs.old) at) so_far (definitions.takes plan.now (pairs (run_at (map kept runs.old) at)) event.now)) }
-    ensures runs { OnOk result (map kept runs.new ≡ dealt plan.now begins at (number, event.now) (map kept runs.old) (definitions.takes plan.now (pairs (run_at (map kept runs.old) at)) event.now)) }
-    ensures told { OnOk result (map seen list.new.items ≡ map seen list.old.items ++ dealt_told plan.now begins at (number, event.now) (map kept runs.old) (definitions.takes plan.now (pairs (run_at (map kept runs.old) at)) event.now)) }
+    ensures received { IfOk result (λ r. r ≡ reception_after_offer plan.now (number, event.now) (run_at (map kept runs.old) at) so_far (definitions.takes plan.now (pairs (run_at (map kept runs.old) at)) event.now)) }
+    ensures runs { OnOk result (map kept runs.new ≡ runs_after_offer plan.now begins at (number, event.now) (map kept runs.old) (definitions.takes plan.now (pairs (run_at (map kept runs.old) at)) event.now)) }
+    ensures told { OnOk result (map seen list.new.items ≡ map seen list.old.items ++ offer_told plan.now begins at (number, event.now) (map kept runs.old) (definitions.takes plan.now (pairs (run_at (map kept runs.old) at)) event.now)) }
     ensures undoes { Undoes plan.now (map kept runs.old) (map kept runs.new) }
 {
     match takes(plan, &runs[at], event) {

@@ -1,4 +1,4 @@
-ghost use Rattle.sp_match.specs.Laws.{MovesAreHandling, ClosingEndsRuns, OneEventMore, NumbersStayBelow, RunsAreSound, MovesLeadOn, HandlingIsLawful, SeveralAreLawful, OpenHasNoMatch, CompletionsAreMatches, AbandonmentsAreTold};
+ghost use Rattle.sp_match.specs.public.Laws.{MovesAreHandling, ClosingEndsRuns, OneEventMore, NumbersStayBelow, RunsAreSound, MovesLeadOn, HandlingIsLawful, SeveralAreLawful, OpenHasNoMatch, CompletionsAreMatches, AbandonmentsAreTold};
 
 /// Law: the moves of an event, made one after another, lead to the runs that the event's handling leads to.
 pub fn moves_are_handling()

@@ -4,9 +4,9 @@ ghost use Rattle.sp_plan.specs.Compiled.{IsCompiled};
 ghost use Rattle.sp_plan.specs.Events.{fits};
 ghost use Rattle.sp_plan.specs.Runs.{State, handle};
 ghost use Rattle.sp_plan.specs.Moves as definitions;
-ghost use Rattle.sp_match.specs.Event as handling;
-ghost use Rattle.sp_match.specs.Laws.{Below};
-ghost use Rattle.sp_match.specs.Seen.{seen, seen_run};
+ghost use Rattle.sp_match.specs.inside.Handling as handling;
+ghost use Rattle.sp_match.specs.public.Laws.{Below};
+ghost use Rattle.sp_match.specs.public.Seen.{seen, seen_run};
 
 use crate::Memory;
 use crate::all_runs::{abandon_all, copies, same_runs};
@@ -34,7 +34,7 @@ pub struct Matcher {
 impl Model for Matcher {
     ghost use Rattle.std.specs.Prelude.{map};
     ghost use Rattle.std.specs.Arc.{arc_value};
-    ghost use Rattle.sp_match.specs.Matching.{Matching};
+    ghost use Rattle.sp_match.specs.public.Matching.{Matching};
 
     ghost Value = { Matching };
 
@@ -44,8 +44,8 @@ impl Model for Matcher {
 
     ghost coded = { Prim.hlevel (codes, expr.the_row.coded, pred.the_row.coded) };
 
-    ghost use Rattle.sp_match.specs.Kept.{kept, started};
-    ghost use Rattle.sp_match.specs.Keeping.{IsKept};
+    ghost use Rattle.sp_match.specs.inside.Kept.{kept, started};
+    ghost use Rattle.sp_match.specs.inside.Keeping.{IsKept};
 
     ghost view = { λ m. record { plan = arc_value m.plan; open_runs = map started (map kept m.runs.items); started = m.count } };
 
@@ -62,7 +62,7 @@ fn count_after(count: u32, began: bool) -> u32
 
 impl Matcher {
     ghost use Rattle.sp_plan.specs.Compiled.{IsCompiled};
-    ghost use Rattle.sp_match.specs.Matching.{SameMatching, Stands, runs_of, shown};
+    ghost use Rattle.sp_match.specs.public.Matching.{SameMatching, Stands, runs_of, shown};
 
     /// No run is open, and none has started. Takes no memory.
     pub fn new(alloc: Global, plan: Arc<Plan>) -> Result<Matcher, Memory>

@@ -2,10 +2,10 @@
 ghost use Rattle.std.specs.Prelude.{◌≡◌, filter, map, take};
 ghost use Rattle.std.specs.List.{All};
 ghost use Rattle.sp_plan.specs.Compiled.{IsCompiled};
-ghost use Rattle.sp_match.specs.Kept.{kept, started, before, stays, CanUndo};
-ghost use Rattle.sp_match.specs.Good.{Good};
-ghost use Rattle.sp_match.specs.Going.{IsIdle};
-ghost use Rattle.sp_match.specs.Handled.{open_runs};
+ghost use Rattle.sp_match.specs.inside.Kept.{kept, started, before, stays, CanUndo};
+ghost use Rattle.sp_match.specs.inside.Good.{Good};
+ghost use Rattle.sp_match.specs.inside.Going.{IsIdle};
+ghost use Rattle.sp_match.specs.inside.Effects.{open_runs};
 ghost use Rattle.sp_match.specs.declared.run.Turn.TheVariants.{Idle};
 
 use crate::run::{Run, Turn};

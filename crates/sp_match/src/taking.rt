@@ -6,8 +6,8 @@ ghost use Rattle.sp_plan.specs.Bounds.{IsSmall};
 ghost use Rattle.sp_plan.specs.Compiled.{IsCompiled};
 ghost use Rattle.sp_plan.specs.Runs;
 ghost use Rattle.sp_plan.specs.Runs.{is_bound, is_plus, names_of, name_holds, unbound};
-ghost use Rattle.sp_match.specs.Kept.{kept, pairs};
-ghost use Rattle.sp_match.specs.Good.{Good, IsNamed};
+ghost use Rattle.sp_match.specs.inside.Kept.{kept, pairs};
+ghost use Rattle.sp_match.specs.inside.Good.{Good, IsNamed};
 
 use crate::run::Run;
 use sp_plan::{Element, Event, Plan, holds};

@@ -8,12 +8,12 @@ ghost use Rattle.sp_plan.specs.Runs.{State};
 ghost use Rattle.sp_plan.specs.Moves.{Told, OpenedTold, handling_of, still_wanted};
 ghost use Rattle.sp_plan.specs.Moves as definitions_of;
 ghost use Rattle.sp_plan.specs.Windows.{Numbered};
-ghost use Rattle.sp_match.specs.Kept.{Kept, kept, empty, started};
-ghost use Rattle.sp_match.specs.Good.{Good, Undoes};
-ghost use Rattle.sp_match.specs.Handled.{open_runs, bound_at, bound_told};
-ghost use Rattle.sp_match.specs.Going.{Going, IsReady, IsSet, acted_by};
-ghost use Rattle.sp_match.specs.Seen.{seen};
-ghost use Rattle.sp_match.specs.Event.{IsHandled};
+ghost use Rattle.sp_match.specs.inside.Kept.{Kept, kept, empty, started};
+ghost use Rattle.sp_match.specs.inside.Good.{Good, Undoes};
+ghost use Rattle.sp_match.specs.inside.Effects.{open_runs, runs_after_binding, runs_binding_told};
+ghost use Rattle.sp_match.specs.inside.Going.{Going, IsReady, IsSet, acted_by};
+ghost use Rattle.sp_match.specs.public.Seen.{seen};
+ghost use Rattle.sp_match.specs.inside.Handling.{IsHandled};
 
 use crate::Memory;
 use crate::handling::{Reception, bind, turn};
@@ -139,9 +139,9 @@ pub(crate) fn open(
     requires small { IsSmall event.now }
     requires below { count < number }
     ensures runs { OnOk result (map kept runs.new.items
-        ≡ bound_at plan.now name (number, event.now) (length runs.old.items) (map kept runs.old.items ++ empty (count + 1) ∷ [])) }
+        ≡ runs_after_binding plan.now name (number, event.now) (length runs.old.items) (map kept runs.old.items ++ empty (count + 1) ∷ [])) }
     ensures told { OnOk result (map seen list.new.items
-        ≡ map seen list.old.items ++ OpenedTold (count + 1) ∷ bound_told plan.now name (number, event.now) (length runs.old.items) (map kept runs.old.items ++ empty (count + 1) ∷ [])) }
+        ≡ map seen list.old.items ++ OpenedTold (count + 1) ∷ runs_binding_told plan.now name (number, event.now) (length runs.old.items) (map kept runs.old.items ++ empty (count + 1) ∷ [])) }
     ensures good { OnOk result (All (Good plan.now) (map kept runs.new.items)) }
     ensures undoes { Undoes plan.now (map kept runs.old.items) (take (length runs.old.items) (map kept runs.new.items)) }
 {

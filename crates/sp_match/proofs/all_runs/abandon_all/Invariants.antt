@@ -1,7 +1,7 @@
 use Rattle.std.proofs.Common.{◌≡◌, ◌++◌, map, take}
-use Rattle.sp_match.specs.Kept.{kept}
-use Rattle.sp_match.specs.Handled.{leaving_told}
-use Rattle.sp_match.specs.Seen.{seen}
+use Rattle.sp_match.specs.inside.Kept.{kept}
+use Rattle.sp_match.specs.inside.Effects.{leaving_told}
+use Rattle.sp_match.specs.public.Seen.{seen}
 use Rattle.sp_match.proofs.all_runs.abandon_all.Given as goal
 
 abbrev pub invariant-loop-run : goal.invariant-loop-run

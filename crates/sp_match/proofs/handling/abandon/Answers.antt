@@ -2,12 +2,12 @@ use Rattle.std.proofs.Common.{◌≡◌, ◌<◌, ◌≤◌, ◌++◌, map, leng
 use Rattle.std.specs.List.{All}
 use Rattle.std.proofs.lemmas.List.{map-set, get_or-map, length-map, append_assoc}
 use Rattle.std.proofs.lemmas.List.Elements.{All-get_or}
-use Rattle.sp_match.specs.Kept.{kept}
-use Rattle.sp_match.specs.Good.{Good, Undoes}
-use Rattle.sp_match.specs.Handled.{told_of}
-use Rattle.sp_match.specs.Seen.{seen}
-use Rattle.sp_match.proofs.Marking.{told_to, marks_undo, mark_more, mark_at, told_more, all_marked, all_told}
-use Rattle.sp_match.proofs.Undoing.{run_stays, undoes_set}
+use Rattle.sp_match.specs.inside.Kept.{kept}
+use Rattle.sp_match.specs.inside.Good.{Good, Undoes}
+use Rattle.sp_match.specs.inside.Effects.{use_told}
+use Rattle.sp_match.specs.public.Seen.{seen}
+use Rattle.sp_match.proofs.RunsAfterUse.{told_to, marks_undo, mark_more, mark_at, told_more, all_marked, all_told}
+use Rattle.sp_match.proofs.RunsUndo.{run_stays, undoes_set}
 use Rattle.sp_match.proofs.handling.abandon.Goals as goal
 
 pub leave_with-requires : goal.leave_with-requires
@@ -45,7 +45,7 @@ loop-i-preserved c =
     let at : k ≡ get_or (map kept rs) i k = sym (get_or-map kept rs i c.index-runs-i.result k within) in
     record {
       runs = map-set kept rs i c.leave_with.new.run ∙ ap (set (map kept rs) i) c.in_ok-leave_with.ensures.run ∙ mark_more ns ks (map kept rs) i k inside c.loop-i.invariant.runs at;
-      told = c.in_ok-leave_with.ensures.told ∙ ap (λ l. l ++ told_of ns k) c.loop-i.invariant.told ∙ append_assoc (map seen c.args.list.now.items) (told_to ns i ks) (told_of ns k)
+      told = c.in_ok-leave_with.ensures.told ∙ ap (λ l. l ++ use_told ns k) c.loop-i.invariant.told ∙ append_assoc (map seen c.args.list.now.items) (told_to ns i ks) (use_told ns k)
           ∙ ap (λ l. map seen c.args.list.now.items ++ l) (sym (told_more ns ks i k inside (mark_at ns ks (map kept rs) i k inside c.loop-i.invariant.runs at)));
     }
 

@@ -1,7 +1,7 @@
 use Rattle.std.proofs.Common.{◌≡◌, ◌++◌, map}
-use Rattle.sp_match.specs.Kept.{kept}
-use Rattle.sp_match.specs.Seen.{seen}
-use Rattle.sp_match.proofs.Marking.{marked_to, told_to}
+use Rattle.sp_match.specs.inside.Kept.{kept}
+use Rattle.sp_match.specs.public.Seen.{seen}
+use Rattle.sp_match.proofs.RunsAfterUse.{marked_to, told_to}
 use Rattle.sp_match.proofs.handling.abandon.Given as goal
 
 abbrev pub invariant-loop-i : goal.invariant-loop-i

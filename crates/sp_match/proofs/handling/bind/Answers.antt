@@ -5,11 +5,11 @@ use Rattle.std.proofs.lemmas.List.{append_assoc, get_or-set_same, map-set}
 use Rattle.sp_plan.specs.Windows.{Numbered}
 use Rattle.sp_plan.specs.Runs.{is_among}
 use Rattle.sp_match.specs.declared.run.Run.{Run}
-use Rattle.sp_match.specs.Kept.{Kept, kept}
-use Rattle.sp_match.specs.Handled.{completes, marked, told_of, turned, turned_told, turned_used}
-use Rattle.sp_match.specs.Seen.{seen}
-use Rattle.sp_match.proofs.Binding.{no_used, all_used, open_runs_are, open_told_is, whole_runs_are, whole_told_is}
-use Rattle.sp_match.proofs.Undoing.{here, undone_set, undoes_on}
+use Rattle.sp_match.specs.inside.Kept.{Kept, kept}
+use Rattle.sp_match.specs.inside.Effects.{completes, run_after_use, use_told, run_after_binding, binding_told, used_by_binding}
+use Rattle.sp_match.specs.public.Seen.{seen}
+use Rattle.sp_match.proofs.RunsAfterBinding.{no_used, all_used, open_runs_are, open_told_is, whole_runs_are, whole_told_is}
+use Rattle.sp_match.proofs.RunsUndo.{here, undone_set, undoes_on}
 use Rattle.sp_match.proofs.handling.bind.Goals as goal
 
 pub returns-in_err-is_whole-clause-undoes : goal.returns-in_err-is_whole-clause-undoes
@@ -26,7 +26,7 @@ returns-then-not-is_whole c =
     let same = here rs at c.index-runs-at.result c.requires.within in
     let open_yet : completes q name x k ≡ false = sym c.in_ok-is_whole.ensures.complete ∙ c.if-not-is_whole.true in
     record {
-      used = ap (λ ns. is_among ns c.args.number) (no_used q name x k open_yet) ∙ ap (λ k. is_among (turned_used q name x k) c.args.number) (sym same);
+      used = ap (λ ns. is_among ns c.args.number) (no_used q name x k open_yet) ∙ ap (λ k. is_among (used_by_binding q name x k) c.args.number) (sym same);
       runs = map-set kept rs at c.grow.new.run ∙ ap (set (map kept rs) at) c.in_ok-is_whole.ensures.run ∙ open_runs_are q name x at (map kept rs) k same open_yet;
       told = c.in_ok-is_whole.ensures.told ∙ ap (λ l. map seen c.args.list.now.items ++ l) (open_told_is q name x at (map kept rs) k same open_yet);
       undoes = undone_set q rs at c.index-runs-at.result c.grow.new.run c.requires.within c.requires.good c.in_ok-is_whole.ensures.undoes;
@@ -56,15 +56,15 @@ returns c =
     let done : completes q name x k ≡ true = sym c.in_ok-is_whole.ensures.complete ∙ c.if-not-is_whole.false in
     let ks = map kept rs in
     let ns = c.in_ok-used.used.list in
-    let set_is : map kept (set rs at c.grow.new.run) ≡ set ks at (turned q name x k) = map-set kept rs at c.grow.new.run ∙ ap (set ks at) c.in_ok-is_whole.ensures.run in
-    let used : ns ≡ (turned q name x k).used =
+    let set_is : map kept (set rs at c.grow.new.run) ≡ set ks at (run_after_binding q name x k) = map-set kept rs at c.grow.new.run ∙ ap (set ks at) c.in_ok-is_whole.ensures.run in
+    let used : ns ≡ (run_after_binding q name x k).used =
     c.in_ok-used.ensures ∙ ap (λ (r : Run). r.used.list) (get_or-set_same rs at c.grow.new.run c.index-runs-at-2.result c.requires.within) ∙ ap (λ (k : Kept). k.used) c.in_ok-is_whole.ensures.run in
     let before = map seen c.args.list.now.items in
     record {
-      used = c.has.ensures ∙ ap (λ ns. is_among ns c.args.number) (used ∙ all_used q name x k done) ∙ ap (λ k. is_among (turned_used q name x k) c.args.number) (sym same);
-      runs = c.in_ok-abandon.ensures.runs ∙ ap (map (marked ns)) set_is ∙ whole_runs_are q name x at ks k ns same done used;
-      told = c.in_ok-abandon.ensures.told ∙ (λ i. c.in_ok-is_whole.ensures.told i ++ flat_map (told_of ns) (set_is i))
-          ∙ append_assoc before (turned_told q name x k) (flat_map (told_of ns) (set ks at (turned q name x k))) ∙ ap (λ l. before ++ l) (whole_told_is q name x at ks k ns same done used);
+      used = c.has.ensures ∙ ap (λ ns. is_among ns c.args.number) (used ∙ all_used q name x k done) ∙ ap (λ k. is_among (used_by_binding q name x k) c.args.number) (sym same);
+      runs = c.in_ok-abandon.ensures.runs ∙ ap (map (run_after_use ns)) set_is ∙ whole_runs_are q name x at ks k ns same done used;
+      told = c.in_ok-abandon.ensures.told ∙ (λ i. c.in_ok-is_whole.ensures.told i ++ flat_map (use_told ns) (set_is i))
+          ∙ append_assoc before (binding_told q name x k) (flat_map (use_told ns) (set ks at (run_after_binding q name x k))) ∙ ap (λ l. before ++ l) (whole_told_is q name x at ks k ns same done used);
       undoes = undoes_on q ks (map kept (set rs at c.grow.new.run)) (map kept c.abandon.new.runs)
           (undone_set q rs at c.index-runs-at.result c.grow.new.run c.requires.within c.requires.good c.in_ok-is_whole.ensures.undoes) (c.in_ok-abandon.ensures.undoes q (undone_set c.args.plan.now c.args.runs.now c.args.at c.index-runs-at.result c.grow.new.run c.requires.within c.requires.good c.in_ok-is_whole.ensures.undoes).good);
     }

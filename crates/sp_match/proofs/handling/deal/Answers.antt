@@ -5,11 +5,11 @@ use Rattle.std.proofs.lemmas.List.{map-set}
 use Rattle.sp_plan.specs.Windows.{Numbered}
 use Rattle.sp_plan.specs.Runs.{takes}
 use Rattle.sp_match.specs.declared.run.Fate.TheVariants.{Leaves}
-use Rattle.sp_match.specs.Kept.{Kept, kept, pairs}
-use Rattle.sp_match.specs.Good.{RunUndoes}
-use Rattle.sp_match.specs.Handled.{dealt, left_at, run_at}
-use Rattle.sp_match.proofs.Takes.{takes_named}
-use Rattle.sp_match.proofs.Undoing.{here, good_here, run_fate, run_stays, undone_set}
+use Rattle.sp_match.specs.inside.Kept.{Kept, kept, pairs}
+use Rattle.sp_match.specs.inside.Good.{RunUndoes}
+use Rattle.sp_match.specs.inside.Effects.{runs_after_offer, runs_after_leaving, run_at}
+use Rattle.sp_match.proofs.TakenIsNamed.{takes_named}
+use Rattle.sp_match.proofs.RunsUndo.{here, good_here, run_fate, run_stays, undone_set}
 use Rattle.sp_match.proofs.handling.deal.Goals as goal
 
 pub bind-requires-clause-named : goal.bind-requires-clause-named
@@ -42,7 +42,7 @@ returns-in_ok-leave-in-None-clause-runs c =
     let none : None ≡ takes q (pairs (run_at ks at)) c.args.event.now = sym c.in-None.is ∙ c.takes.ensures ∙ ap (λ k. takes q (pairs k) c.args.event.now) (sym first) in
     map-set kept rs at c.leave.new.run ∙ ap (set ks at) c.in_ok-leave-in-None.ensures.run
     ∙ ap (λ (k : Kept). set ks at (record k { fate = Leaves })) (sym (here rs at c.index-runs-at-in-None.result c.requires.within))
-    ∙ (λ i. if sym c.if-begins.true i then left_at at ks else ks) ∙ ap (dealt q c.args.begins at x ks) none
+    ∙ (λ i. if sym c.if-begins.true i then runs_after_leaving at ks else ks) ∙ ap (runs_after_offer q c.args.begins at x ks) none
 
 pub takes-requires-clause-good : goal.takes-requires-clause-good
 takes-requires-clause-good c = grind (arith, common_steps)

@@ -2,12 +2,12 @@ use Rattle.std.proofs.Common.{◌≡◌, [], ◌∷◌, ◌++◌, map, sym, ap, 
 use Rattle.std.proofs.lemmas.List.{append_assoc, map_push}
 use Rattle.sp_plan.specs.Runs.{is_complete}
 use Rattle.sp_plan.specs.Moves.{Told, GrownTold}
-use Rattle.sp_match.specs.Kept.{Kept, grown, kept, pairs}
-use Rattle.sp_match.specs.Good.{Good, RunUndoes}
-use Rattle.sp_match.specs.Handled.{bound, finished, finished_told}
-use Rattle.sp_match.specs.Seen.{seen}
-use Rattle.sp_match.proofs.Binding.{used_below}
-use Rattle.sp_match.proofs.Undoing.{run_fate, run_grown}
+use Rattle.sp_match.specs.inside.Kept.{Kept, grown, kept, pairs}
+use Rattle.sp_match.specs.inside.Good.{Good, RunUndoes}
+use Rattle.sp_match.specs.inside.Effects.{run_with_event, run_if_complete, told_if_complete}
+use Rattle.sp_match.specs.public.Seen.{seen}
+use Rattle.sp_match.proofs.RunsAfterBinding.{used_below}
+use Rattle.sp_match.proofs.RunsUndo.{run_fate, run_grown}
 use Rattle.sp_match.proofs.handling.grow.Goals as goal
 
 pub grow-requires : goal.grow-requires
@@ -21,38 +21,38 @@ pub returns-in_err-push-clause-undoes : goal.returns-in_err-push-clause-undoes
 returns-in_err-push-clause-undoes c =
     let q = c.args.plan.now in
     let k = kept c.args.run.now in
-    let is : kept c.grow.new.self ≡ bound q c.args.name (c.args.number, c.args.event.now) k = c.in_ok-grow.ensures.grown ∙ ap (λ b. grown c.args.name b c.args.number c.args.event.now k) c.is_consumed-consumed.ensures in
+    let is : kept c.grow.new.self ≡ run_with_event q c.args.name (c.args.number, c.args.event.now) k = c.in_ok-grow.ensures.grown ∙ ap (λ b. grown c.args.name b c.args.number c.args.event.now k) c.is_consumed-consumed.ensures in
     subst (RunUndoes q k) (sym is) (run_grown q c.args.name c.args.number c.args.event.now k c.requires.good c.requires.idle c.requires.named c.requires.compiled.names c.requires.small c.requires.below)
 
 pub finish-requires-clause-good : goal.finish-requires-clause-good
 finish-requires-clause-good c =
     let q = c.args.plan.now in
     let k = kept c.args.run.now in
-    let is : kept c.grow.new.self ≡ bound q c.args.name (c.args.number, c.args.event.now) k = c.in_ok-grow.ensures.grown ∙ ap (λ b. grown c.args.name b c.args.number c.args.event.now k) c.is_consumed-consumed.ensures in
+    let is : kept c.grow.new.self ≡ run_with_event q c.args.name (c.args.number, c.args.event.now) k = c.in_ok-grow.ensures.grown ∙ ap (λ b. grown c.args.name b c.args.number c.args.event.now k) c.is_consumed-consumed.ensures in
     subst (Good q) (sym is) (run_grown q c.args.name c.args.number c.args.event.now k c.requires.good c.requires.idle c.requires.named c.requires.compiled.names c.requires.small c.requires.below).good
 
 pub returns-in_err-is_whole-clause-undoes : goal.returns-in_err-is_whole-clause-undoes
 returns-in_err-is_whole-clause-undoes c =
     let q = c.args.plan.now in
     let k = kept c.args.run.now in
-    let is : kept c.grow.new.self ≡ bound q c.args.name (c.args.number, c.args.event.now) k = c.in_ok-grow.ensures.grown ∙ ap (λ b. grown c.args.name b c.args.number c.args.event.now k) c.is_consumed-consumed.ensures in
+    let is : kept c.grow.new.self ≡ run_with_event q c.args.name (c.args.number, c.args.event.now) k = c.in_ok-grow.ensures.grown ∙ ap (λ b. grown c.args.name b c.args.number c.args.event.now k) c.is_consumed-consumed.ensures in
     subst (RunUndoes q k) (sym (c.in_err-is_whole.ensures.err ∙ is)) (run_grown q c.args.name c.args.number c.args.event.now k c.requires.good c.requires.idle c.requires.named c.requires.compiled.names c.requires.small c.requires.below)
 
 pub returns : goal.returns
 returns c =
     let q = c.args.plan.now in
     let k = kept c.args.run.now in
-    let k' = bound q c.args.name (c.args.number, c.args.event.now) k in
+    let k' = run_with_event q c.args.name (c.args.number, c.args.event.now) k in
     let is : kept c.grow.new.self ≡ k' = c.in_ok-grow.ensures.grown ∙ ap (λ b. grown c.args.name b c.args.number c.args.event.now k) c.is_consumed-consumed.ensures in
     let undoes = run_grown q c.args.name c.args.number c.args.event.now k c.requires.good c.requires.idle c.requires.named c.requires.compiled.names c.requires.small c.requires.below in
-    let now : kept c.finish.new.run ≡ finished q k' = c.in_ok-is_whole.ensures.run ∙ ap (finished q) is in
+    let now : kept c.finish.new.run ≡ run_if_complete q k' = c.in_ok-is_whole.ensures.run ∙ ap (run_if_complete q) is in
     let before = map seen c.args.list.now.items in
     let grew : Told = GrownTold k.number c.args.number in
     record {
       run = now;
       told = c.in_ok-is_whole.ensures.told
-          ∙ (λ i. (ap (map seen) c.in_ok-push.ensures.items ∙ map_push seen c.args.list.now.items _ ∙ ap (λ (n : Kept). before ++ GrownTold n.number c.args.number ∷ []) is) i ++ finished_told q (is i))
-          ∙ append_assoc before (grew ∷ []) (finished_told q k');
+          ∙ (λ i. (ap (map seen) c.in_ok-push.ensures.items ∙ map_push seen c.args.list.now.items _ ∙ ap (λ (n : Kept). before ++ GrownTold n.number c.args.number ∷ []) is) i ++ told_if_complete q (is i))
+          ∙ append_assoc before (grew ∷ []) (told_if_complete q k');
       complete = c.in_ok-is_whole.ensures.complete ∙ ap (λ n. is_complete q (pairs n)) is;
-      undoes = subst (RunUndoes q k) (sym now) (run_fate q k k' (finished q k').fate undoes);
+      undoes = subst (RunUndoes q k) (sym now) (run_fate q k k' (run_if_complete q k').fate undoes);
     }

@@ -1,8 +1,8 @@
 use Rattle.std.proofs.Common.{◌&&◌, sym, ap, ◌∙◌}
 use Rattle.sp_base.specs.Numbers.{has}
 use Rattle.sp_plan.specs.Runs.{holds_one}
-use Rattle.sp_match.specs.Kept.{kept, pairs}
-use Rattle.sp_match.proofs.Pairs.{holds_pairs}
+use Rattle.sp_match.specs.inside.Kept.{kept, pairs}
+use Rattle.sp_match.proofs.PairsOfRuns.{holds_pairs}
 use Rattle.sp_match.proofs.handling.loses.Goals as goal
 
 pub returns-then-stays : goal.returns-then-stays

@@ -1,6 +1,6 @@
 use Rattle.std.proofs.Common.{sym, subst}
-use Rattle.sp_match.specs.Good.{Good}
-use Rattle.sp_match.proofs.Bound.{good_empty}
+use Rattle.sp_match.specs.inside.Good.{Good}
+use Rattle.sp_match.proofs.GrownRunIsGood.{good_empty}
 use Rattle.sp_match.proofs.turns.begins.Goals as goal
 
 pub takes-requires-clause-good : goal.takes-requires-clause-good

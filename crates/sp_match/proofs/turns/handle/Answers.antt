@@ -8,15 +8,15 @@ use Rattle.sp_plan.specs.Runs.{State}
 use Rattle.sp_plan.specs.Moves.{Told, OpenedTold}
 use Rattle.sp_match.specs.declared.handling.Reception.{Reception}
 use Rattle.sp_match.specs.declared.run.Run.{Run}
-use Rattle.sp_match.specs.Kept.{Kept, empty, kept, started}
-use Rattle.sp_match.specs.Good.{Good, Undoes}
-use Rattle.sp_match.specs.Handled.{bound_at, bound_told}
-use Rattle.sp_match.specs.Going.{Going, IsReady, standing}
-use Rattle.sp_match.specs.Event.{IsHandled}
-use Rattle.sp_match.specs.Seen.{seen}
-use Rattle.sp_match.proofs.Takes.{takes_named}
-use Rattle.sp_match.proofs.Undoing.{undoes_on}
-use Rattle.sp_match.proofs.Whole.{none_starts, one_starts, starting, started_name}
+use Rattle.sp_match.specs.inside.Kept.{Kept, empty, kept, started}
+use Rattle.sp_match.specs.inside.Good.{Good, Undoes}
+use Rattle.sp_match.specs.inside.Effects.{runs_after_binding, runs_binding_told}
+use Rattle.sp_match.specs.inside.Going.{Going, IsReady, standing}
+use Rattle.sp_match.specs.inside.Handling.{IsHandled}
+use Rattle.sp_match.specs.public.Seen.{seen}
+use Rattle.sp_match.proofs.TakenIsNamed.{takes_named}
+use Rattle.sp_match.proofs.RunsUndo.{undoes_on}
+use Rattle.sp_match.proofs.EventIsHandled.{none_starts, one_starts, starting, started_name}
 use Rattle.sp_match.proofs.turns.handle.Goals as goal
 
 -- what is known when all runs had their turn, of the vectors of runs before and after
@@ -62,13 +62,13 @@ undone_more q x count old new now ts r name more t u =
     (undoes_on q (map kept old) (map kept new) (take (length now) more) t.undoes (subst (λ (l : List Run). Undoes q (map kept l) (take (length now) more)) t.now_is u))
 
 a_run : (q : Plan) (x : Numbered) (count : ℕ) (old new now : List Run) (ts : List Told) (r : Reception) (name : ℕ) (o : Option ℕ) (more : List Kept) (told : List Told) → Turned q x count old new now ts r o → o ≡ Some name
-    → more ≡ bound_at q name x (length now) (map kept now ++ empty (count + 1) ∷ []) → told ≡ ts ++ OpenedTold (count + 1) ∷ bound_told q name x (length now) (map kept now ++ empty (count + 1) ∷ [])
+    → more ≡ runs_after_binding q name x (length now) (map kept now ++ empty (count + 1) ∷ []) → told ≡ ts ++ OpenedTold (count + 1) ∷ runs_binding_told q name x (length now) (map kept now ++ empty (count + 1) ∷ [])
     → All (Good q) more → IsHandled q x count (map kept old) true more told
 a_run q x count old new now ts r name o more told t some runs_are told_are good =
     let whole : map kept now ≡ map kept new = ap (map kept) t.now_is in
     let size : length now ≡ length (map kept new) = ap length t.now_is ∙ sym (length-map new kept) in
     one_starts q x count (map kept old) (map kept new) ts r t.ready t.undoes t.going name (λ s is. sym some ∙ t.name_is s is) more told
-    (runs_are ∙ λ i. bound_at q name x (size i) (whole i ++ empty (count + 1) ∷ [])) (told_are ∙ λ i. ts ++ OpenedTold (count + 1) ∷ bound_told q name x (size i) (whole i ++ empty (count + 1) ∷ [])) good
+    (runs_are ∙ λ i. runs_after_binding q name x (size i) (whole i ++ empty (count + 1) ∷ [])) (told_are ∙ λ i. ts ++ OpenedTold (count + 1) ∷ runs_binding_told q name x (size i) (whole i ++ empty (count + 1) ∷ [])) good
 
 pub open-requires-clause-named : goal.open-requires-clause-named
 open-requires-clause-named c =

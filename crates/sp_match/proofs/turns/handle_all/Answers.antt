@@ -5,10 +5,10 @@ use Rattle.std.proofs.lemmas.List.{length-map}
 use Rattle.sp_plan.specs.Windows.{Numbered}
 use Rattle.sp_plan.specs.Moves.{act, left}
 use Rattle.sp_match.specs.declared.run.Run.{Run}
-use Rattle.sp_match.specs.Kept.{Kept, kept, pairs}
-use Rattle.sp_match.specs.Tally.{Tally}
-use Rattle.sp_match.specs.Wanted.{all_left, wanted_all}
-use Rattle.sp_match.proofs.Wantings.{wanted_is}
+use Rattle.sp_match.specs.inside.Kept.{Kept, kept, pairs}
+use Rattle.sp_match.specs.inside.Tally.{Tally}
+use Rattle.sp_match.specs.inside.Wanted.{all_left, wanted_all}
+use Rattle.sp_match.proofs.WantedIsTold.{wanted_is}
 use Rattle.sp_match.proofs.turns.handle_all.Goals as goal
 
 pub returns-clause-wanted : goal.returns-clause-wanted

@@ -2,13 +2,13 @@ use Rattle.std.proofs.Common.{◌≡◌, ℕ, ◌<◌, Bool, List, map, length, 
 use Rattle.std.proofs.lemmas.List.{length-map}
 use Rattle.sp_plan.specs.Windows.{Numbered}
 use Rattle.sp_plan.specs.Moves.{Told}
-use Rattle.sp_match.specs.Kept.{kept}
-use Rattle.sp_match.specs.Seen.{seen}
-use Rattle.sp_match.specs.Turn.{IsTurn}
-use Rattle.sp_match.specs.Going.{Going, standing}
+use Rattle.sp_match.specs.inside.Kept.{kept}
+use Rattle.sp_match.specs.public.Seen.{seen}
+use Rattle.sp_match.specs.inside.Turn.{IsTurn}
+use Rattle.sp_match.specs.inside.Going.{Going, standing}
 use Rattle.sp_match.specs.declared.handling.Reception.TheVariants.{Passed}
-use Rattle.sp_match.proofs.Undoing.{all_stay, undoes_on}
-use Rattle.sp_match.proofs.Further.{below_at_hand, going_more, going_start, idle_at_hand}
+use Rattle.sp_match.proofs.RunsUndo.{all_stay, undoes_on}
+use Rattle.sp_match.proofs.AllTurnsGoOn.{below_at_hand, going_more, going_start, idle_at_hand}
 use Rattle.sp_match.proofs.turns.offer_to_all.Goals as goal
 
 pub loop-at-init : goal.loop-at-init

@@ -1,9 +1,9 @@
 use Rattle.std.proofs.Common.{◌≡◌, map}
 use Rattle.sp_plan.specs.Runs.{State}
-use Rattle.sp_match.specs.Kept.{kept, started}
-use Rattle.sp_match.specs.Good.{Undoes}
-use Rattle.sp_match.specs.Going.{Going}
-use Rattle.sp_match.specs.Seen.{seen}
+use Rattle.sp_match.specs.inside.Kept.{kept, started}
+use Rattle.sp_match.specs.inside.Good.{Undoes}
+use Rattle.sp_match.specs.inside.Going.{Going}
+use Rattle.sp_match.specs.public.Seen.{seen}
 use Rattle.sp_match.proofs.turns.offer_to_all.Given as goal
 
 abbrev pub invariant-loop-at : goal.invariant-loop-at

@@ -5,10 +5,10 @@ use Rattle.std.proofs.lemmas.List.{length-map, map_push, take_at}
 use Rattle.std.proofs.lemmas.List.Elements.{All-push}
 use Rattle.sp_plan.specs.declared.plan.Plan.{Plan}
 use Rattle.sp_match.specs.declared.run.Run.{Run}
-use Rattle.sp_match.specs.Kept.{Kept, empty, kept}
-use Rattle.sp_match.specs.Good.{Good, Undoes}
-use Rattle.sp_match.proofs.Bound.{good_empty}
-use Rattle.sp_match.proofs.Undoing.{undoes_take}
+use Rattle.sp_match.specs.inside.Kept.{Kept, empty, kept}
+use Rattle.sp_match.specs.inside.Good.{Good, Undoes}
+use Rattle.sp_match.proofs.GrownRunIsGood.{good_empty}
+use Rattle.sp_match.proofs.RunsUndo.{undoes_take}
 use Rattle.sp_match.proofs.turns.open.Goals as goal
 
 -- the runs with a new one behind them

@@ -1,6 +1,6 @@
 use Rattle.std.proofs.Common.{◌≡◌, ◌≤◌, map, length, take}
-use Rattle.sp_match.specs.Kept.{kept}
-use Rattle.sp_match.specs.Handled.{open_runs}
+use Rattle.sp_match.specs.inside.Kept.{kept}
+use Rattle.sp_match.specs.inside.Effects.{open_runs}
 use Rattle.sp_match.proofs.turns.open_count.Given as goal
 
 abbrev pub invariant-loop-run : goal.invariant-loop-run
