@@ -9,8 +9,8 @@ use Rattle.sp_plan.specs.declared.plan.Plan.{Plan}
 use Rattle.sp_plan.specs.Windows.{Numbered}
 use Rattle.sp_plan.specs.Runs.{Started, State, is_among, leaves, takes}
 use Rattle.sp_plan.specs.Moves.{Acting, Told, act_run}
-use Rattle.sp_match.specs.declared.handling.Reception.{Reception}
-use Rattle.sp_match.specs.declared.handling.Reception.TheVariants.{Passed}
+use Rattle.sp_match.specs.declared.turns.Reception.{Reception}
+use Rattle.sp_match.specs.declared.turns.Reception.TheVariants.{Passed}
 use Rattle.sp_match.specs.declared.run.Turn.TheVariants.{Idle}
 use Rattle.sp_match.specs.inside.Kept.{Kept, empty, pairs, started, stays}
 use Rattle.sp_match.specs.inside.Good.{Good, NumbersBelow, Undoes}

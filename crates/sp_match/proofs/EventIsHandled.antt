@@ -8,13 +8,13 @@ use Rattle.sp_plan.specs.declared.plan.Plan.{Plan}
 use Rattle.sp_plan.specs.Windows.{Numbered}
 use Rattle.sp_plan.specs.Runs.{Started, State, may_start, takes}
 use Rattle.sp_plan.specs.Moves.{Acting, Told, Opened, OpenedTold, act, growing, act_start, handling_of}
-use Rattle.sp_match.specs.declared.handling.Reception.{Reception}
+use Rattle.sp_match.specs.declared.turns.Reception.{Reception}
 use Rattle.sp_match.specs.inside.Kept.{Kept, empty, started}
 use Rattle.sp_match.specs.inside.Good.{Good, Undoes}
 use Rattle.sp_match.specs.inside.Effects.{runs_after_binding, runs_binding_told, run_after_use, run_after_binding, used_by_binding}
 use Rattle.sp_match.specs.inside.Shows.{Shows}
 use Rattle.sp_match.specs.inside.Tally.{Tally}
-use Rattle.sp_match.specs.inside.Going.{Going, IsReady, acted_by, standing}
+use Rattle.sp_match.specs.inside.Going.{Going, IsReady, acted_by, standing, starting}
 use Rattle.sp_match.specs.inside.Handling.{IsHandled}
 use Rattle.sp_match.proofs.RunNumbersRise.{Rising}
 use Rattle.sp_match.proofs.MovesAreHandling.{ordered_rises, rising_ordered}
@@ -22,10 +22,6 @@ use Rattle.sp_match.proofs.RunsAfterBinding.{bound_at_is}
 use Rattle.sp_match.proofs.TurnTallies.{start_tallies}
 use Rattle.sp_match.proofs.RunNumbersStay.{rising_same, same_numbers}
 use Rattle.sp_match.proofs.StartShows.{acted_started, bound_numbers_stay, new_shows, new_started, rising_new}
-
--- the name under which a run starts, by the definitions
-abbrev pub starting : Plan → Numbered → State → Option ℕ
-starting q x s = if may_start q.select q s (handling_of (acted_by q x s s.open_runs)) x then takes q [] x.1 else None
 
 module _ (q : Plan) (x : Numbered) (count : ℕ) (old new : List Kept) (ts : List Told) (r : Reception) (ready : IsReady q x.0 count old) (undoes : Undoes q old new)
     (going : (s : State) → s.open_runs ≡ map started old → Going q x s old (length old) new ts r) where

@@ -8,8 +8,8 @@ use Rattle.sp_plan.specs.declared.plan.Plan.{Plan}
 use Rattle.sp_plan.specs.Windows.{Numbered}
 use Rattle.sp_plan.specs.Runs.{Pair, Started, State, holds_one, is_among, is_complete, leaves, takes, used}
 use Rattle.sp_plan.specs.Moves.{Acting, Told, abandoned, act_run, acted, acting_on, used_if_complete}
-use Rattle.sp_match.specs.declared.handling.Reception.{Reception}
-use Rattle.sp_match.specs.declared.handling.Reception.TheVariants.{Taken, Used}
+use Rattle.sp_match.specs.declared.turns.Reception.{Reception}
+use Rattle.sp_match.specs.declared.turns.Reception.TheVariants.{Taken, Used}
 use Rattle.sp_match.specs.declared.run.Fate.{Fate}
 use Rattle.sp_match.specs.declared.run.Fate.TheVariants.{Stays, Completes, Leaves}
 use Rattle.sp_match.specs.inside.Kept.{Kept, empty, pairs, started, stays}

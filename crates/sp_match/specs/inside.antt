@@ -3,6 +3,7 @@ pub mod Kept
 pub mod Good
 pub mod Keeping
 -- What an event does to the runs, and how far its handling has come.
+pub mod Offer
 pub mod Effects
 pub mod Turn
 pub mod Shows

@@ -1,26 +1,13 @@
-// All open runs at once: told to be abandoned, copied, compared.
-ghost use Rattle.std.specs.Prelude.{◌≡◌, ◌↔◌, ◌++◌, map, IsTrue, IfOk, OnOk};
+// All open runs at once: copied, and compared.
+ghost use Rattle.std.specs.Prelude.{◌≡◌, ◌↔◌, map, IsTrue, IfOk};
 ghost use Rattle.std.specs.List.{All};
 ghost use Rattle.sp_plan.specs.declared.plan.Plan.{Plan};
 ghost use Rattle.sp_match.specs.inside.Kept.{kept, started};
 ghost use Rattle.sp_match.specs.inside.Good.{Good};
-ghost use Rattle.sp_match.specs.inside.Effects.{leaving_told};
-ghost use Rattle.sp_match.specs.public.Seen.{seen};
 
 use crate::Memory;
-use crate::moves::Move;
 use crate::run::Run;
 use std::alloc::Global;
-
-/// Tells that all runs are abandoned.
-pub(crate) fn abandon_all(runs: &[Run], list: &mut Vec<Move>) -> Result<(), Memory>
-    ensures { OnOk result (map seen list.new.items ≡ map seen list.old.items ++ map leaving_told (map kept runs.now)) }
-{
-    for run in runs {
-        list.push(Move::Abandoned { run: run.number })?;
-    }
-    Ok(())
-}
 
 /// The same runs once more.
 pub(crate) fn copies(alloc: Global, runs: &[Run]) -> Result<Vec<Run>, Memory>

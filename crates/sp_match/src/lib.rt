@@ -4,14 +4,18 @@
 #![tactic(auto)]
 
 mod all_runs;
+mod binding;
 mod completing;
 mod found;
 mod handling;
 mod laws;
+mod leaving;
 mod matcher;
 mod moves;
+mod offer;
 mod run;
 mod settling;
+mod starting;
 mod taking;
 mod turns;
 mod wanting;

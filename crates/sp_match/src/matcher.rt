@@ -9,11 +9,13 @@ ghost use Rattle.sp_match.specs.public.Laws.{Below};
 ghost use Rattle.sp_match.specs.public.Seen.{seen, seen_run};
 
 use crate::Memory;
-use crate::all_runs::{abandon_all, copies, same_runs};
+use crate::all_runs::{copies, same_runs};
+use crate::handling::handle_all;
+use crate::leaving::abandon_all;
 use crate::moves::Moves;
+use crate::offer::Offer;
 use crate::run::Run;
 use crate::settling::{settle, undo};
-use crate::turns::handle_all;
 use crate::wanting::left;
 use sp_plan::{Event, Plan, fitting_events_are_small, plans_are_themselves};
 use std::alloc::Global;
@@ -98,7 +100,7 @@ impl Matcher {
 
     /// Handles the next visible event: the open runs are offered it, the oldest first, and then it may
     /// start one. The moves are cleared first, and tell of it then; their room is used again. After want
-    /// of memory the matcher is as before, and nothing is said of the moves.
+    /// of memory the matcher is as before, and there are no moves.
     pub fn offer_into(
         &mut self,
         alloc: Global,
@@ -116,17 +118,18 @@ impl Matcher {
         ensures below { OnOk result (Below (number + 1) (runs_of self.new)) }
         ensures plan { self.new.plan ≡ self.old.plan }
         ensures err { OnErr result (self.new ≡ self.old) }
+        ensures none { OnErr result
+            ((moves.new.list.items ≡ []) × (moves.new.wanted.items ≡ [])) }
     {
         fitting_events_are_small();
         let open = self.runs.len();
+        let offer = Offer::new(alloc, &self.plan, number, event);
         match handle_all(
             alloc,
-            &self.plan,
+            &offer,
             &mut self.runs,
             &mut self.lefts,
             self.count,
-            number,
-            event,
             moves,
         ) {
             Ok(started) => {
@@ -136,6 +139,7 @@ impl Matcher {
             }
             Err(memory) => {
                 undo(&mut self.runs, open);
+                moves.clear();
                 Err(memory)
             }
         }

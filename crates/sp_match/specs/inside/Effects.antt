@@ -1,14 +1,20 @@
 -- What the handling of an event does to the runs in plain values, and what is told of it.
-use Rattle.std.specs.Prelude.{ℕ, Bool, true, false, not, ◌&&◌, ◌||◌, List, [], ◌∷◌, ◌++◌, map, filter, Option, Some, None, slice_get, slice_set, slice_index_or, if◌then◌else◌}
+use Rattle.std.specs.Prelude.{◌≡◌, ℕ, Bool, true, false, not, ◌&&◌, ◌||◌, List, [], ◌∷◌, ◌++◌, map, filter, Option, Some, None, slice_get, slice_set, slice_index_or, if◌then◌else◌}
 use Rattle.std.specs.List.{flat_map}
 use Rattle.sp_plan.specs.declared.plan.Plan.{Plan}
 use Rattle.sp_plan.specs.Windows.{Numbered}
 use Rattle.sp_plan.specs.Runs.{Started, bindings, holds_one, is_complete, is_consumed, is_among, used}
 use Rattle.sp_plan.specs.Moves.{Told, GrownTold, CompletedTold, AbandonedTold}
-use Rattle.sp_match.specs.declared.handling.Reception.{Reception}
-use Rattle.sp_match.specs.declared.handling.Reception.TheVariants.{Passed, Taken, Used}
+use Rattle.sp_match.specs.declared.turns.Reception.{Reception}
+use Rattle.sp_match.specs.declared.turns.Reception.TheVariants.{Passed, Taken, Used}
 use Rattle.sp_match.specs.declared.run.Fate.TheVariants.{Completes, Leaves}
+use Rattle.sp_match.specs.declared.moves.Move.{Move}
+use Rattle.sp_match.specs.public.Seen.{seen}
 use Rattle.sp_match.specs.inside.Kept.{Kept, empty, grown, pairs, started, stays}
+
+-- Of the moves told, these come behind the old ones.
+abbrev pub Adds : List Move → List Move → List Told → Type 0
+Adds old new more = map seen new ≡ map seen old ++ more
 
 -- whether a run is open and holds one of these numbers
 abbrev pub loses : List ℕ → Kept → Bool

@@ -1,11 +1,11 @@
 -- How far the handling of an event has come among the runs that were open when it came.
-use Rattle.std.specs.Prelude.{◌≡◌, ℕ, Bool, false, not, List, [], ◌++◌, length, map, take, drop, is_none}
+use Rattle.std.specs.Prelude.{◌≡◌, ℕ, Bool, false, not, Option, None, if◌then◌else◌, List, [], ◌++◌, length, map, take, drop, is_none}
 use Rattle.std.specs.List.{All, fold, list_all}
 use Rattle.sp_plan.specs.declared.plan.Plan.{Plan}
 use Rattle.sp_plan.specs.Windows.{Numbered}
-use Rattle.sp_plan.specs.Runs.{Started, State, is_among, takes}
-use Rattle.sp_plan.specs.Moves.{Acting, Told, act_run}
-use Rattle.sp_match.specs.declared.handling.Reception.{Reception}
+use Rattle.sp_plan.specs.Runs.{Started, State, is_among, may_start, takes}
+use Rattle.sp_plan.specs.Moves.{Acting, Told, act_run, handling_of}
+use Rattle.sp_match.specs.declared.turns.Reception.{Reception}
 use Rattle.sp_match.specs.declared.run.Turn.TheVariants.{Idle}
 use Rattle.sp_match.specs.declared.run.Fate.TheVariants.{Stays}
 use Rattle.sp_match.specs.public.Laws.{Ordered}
@@ -50,3 +50,15 @@ pub record Going (q : Plan) (x : Numbered) (s : State) (old : List Kept) (i : �
   pub used : is_used r ≡ is_among (acted_by q x s (take i (map started old))).taken x.0
   pub taken : is_taken r ≡ not (none_takes q x (take i (map started old)))
   pub unused : is_taken r ≡ false → (acted_by q x s (take i (map started old))).taken ≡ []
+
+-- All runs have had their turn.
+abbrev pub AllHadTurns : Plan → Numbered → List Kept → List Kept → List Told → Reception → Type 0
+AllHadTurns q x old ks ts r = (s : State) → s.open_runs ≡ map started old → Going q x s old (length old) ks ts r
+
+-- whether the policy lets the event start a run then
+abbrev pub lets_start : Plan → Numbered → State → Bool
+lets_start q x s = may_start q.select q s (handling_of (acted_by q x s s.open_runs)) x
+
+-- the name under which the event starts a run, if it starts one
+abbrev pub starting : Plan → Numbered → State → Option ℕ
+starting q x s = if lets_start q x s then takes q [] x.1 else None

@@ -24,6 +24,10 @@ pub record Kept : Type 0 where
 abbrev pub kept : Run → Kept
 kept r = record { number = r.number; bound = r.bound.items; used = r.used.list; events = r.events; names = r.names; filled = r.filled; turn = r.turn; fate = r.fate }
 
+-- those of all runs
+abbrev pub all_kept : List Run → List Kept
+all_kept rs = map kept rs
+
 -- a pair, of what a run keeps of it in two lists
 abbrev pub pair_of : (ℕ × ℕ) × (ℕ × Event) → Pair
 pair_of both = record { name = both.0.0; number = both.0.1; event = both.1.1 }

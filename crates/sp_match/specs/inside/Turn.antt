@@ -4,7 +4,7 @@ use Rattle.sp_plan.specs.declared.plan.Plan.{Plan}
 use Rattle.sp_plan.specs.Windows.{Numbered}
 use Rattle.sp_plan.specs.Runs.{takes}
 use Rattle.sp_plan.specs.Moves.{Told}
-use Rattle.sp_match.specs.declared.handling.Reception.{Reception}
+use Rattle.sp_match.specs.declared.turns.Reception.{Reception}
 use Rattle.sp_match.specs.inside.Kept.{Kept, pairs}
 use Rattle.sp_match.specs.inside.Effects.{runs_after_offer, offer_told, is_skipped, reception_after_offer, run_at}
 

@@ -21,3 +21,7 @@ seen (m.Opened run) = OpenedTold run
 seen (m.Grown run number) = GrownTold run number
 seen (m.Completed run bound used) = CompletedTold run (map seen_name bound) used.list
 seen (m.Abandoned run) = AbandonedTold run
+
+-- moves as they are told
+abbrev pub all_seen : List Move → List Told
+all_seen ms = map seen ms

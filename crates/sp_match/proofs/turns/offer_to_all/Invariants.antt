@@ -8,6 +8,6 @@ use Rattle.sp_match.proofs.turns.offer_to_all.Given as goal
 
 abbrev pub invariant-loop-at : goal.invariant-loop-at
 invariant-loop-at l = record {
-  going : (s : State) → s.open_runs ≡ map started (map kept l.initial.runs) → Going l.plan (l.number, l.event) s (map kept l.initial.runs) l.at (map kept l.runs) (map seen l.list.items) l.so_far;
-  undoes : Undoes l.plan (map kept l.initial.runs) (map kept l.runs);
+  going : (s : State) → s.open_runs ≡ map started (map kept l.initial.runs) → Going l.offer.plan.now (l.offer.number, l.offer.event.now) s (map kept l.initial.runs) l.at (map kept l.runs) (map seen l.list.items) l.so_far;
+  undoes : Undoes l.offer.plan.now (map kept l.initial.runs) (map kept l.runs);
 }
