@@ -2,7 +2,7 @@
 ghost use Rattle.std.specs.Prelude.{◌≡◌, ◌↔◌, map, IsTrue, IfOk};
 ghost use Rattle.std.specs.List.{All};
 ghost use Rattle.sp_plan.specs.declared.plan.Plan.{Plan};
-ghost use Rattle.sp_match.specs.inside.Kept.{kept, started};
+ghost use Rattle.sp_match.specs.inside.Kept.{kept, all_kept, started};
 ghost use Rattle.sp_match.specs.inside.Good.{Good};
 
 use crate::Memory;
@@ -11,7 +11,7 @@ use std::alloc::Global;
 
 /// The same runs once more.
 pub(crate) fn copies(alloc: Global, runs: &[Run]) -> Result<Vec<Run>, Memory>
-    ensures { IfOk result (λ copies. map kept copies.items ≡ map kept runs.now) }
+    ensures { IfOk result (λ copies. all_kept copies.items ≡ all_kept runs.now) }
 {
     let mut copies = Vec::with_capacity(alloc, runs.len())?;
     for run in runs {
@@ -59,9 +59,10 @@ fn same_run(one: &Run, other: &Run) -> bool
 
 /// Whether both are the same runs with the same pairs.
 pub(crate) fn same_runs(ones: &[Run], others: &[Run]) -> bool
-    requires one { (q : Plan) × All (Good q) (map kept ones.now) }
-    requires other { (q : Plan) × All (Good q) (map kept others.now) }
-    ensures { IsTrue result ↔ (map started (map kept ones.now) ≡ map started (map kept others.now)) }
+    requires one { (q : Plan) × All (Good q) (all_kept ones.now) }
+    requires other { (q : Plan) × All (Good q) (all_kept others.now) }
+    ensures { IsTrue result
+        ↔ (map started (all_kept ones.now) ≡ map started (all_kept others.now)) }
 {
     if ones.len() != others.len() {
         return false;

@@ -75,8 +75,8 @@ pub(crate) fn bind(
     requires within { at < length runs.old }
     requires idle { (run_at (all_kept runs.old) at).turn ≡ Idle }
     ensures used { IfOk result (λ used. used ≡ definitions.is_among
-        (used_by_binding offer.now.plan.now name (numbered offer.now) (run_at (all_kept runs.old) at))
-        offer.now.number) }
+        (used_by_binding offer.now.plan.now name (numbered offer.now)
+        (run_at (all_kept runs.old) at)) offer.now.number) }
     ensures runs { OnOk result (all_kept runs.new
         ≡ runs_after_binding offer.now.plan.now name (numbered offer.now) at (all_kept runs.old)) }
     ensures told { OnOk result (Adds list.old.items list.new.items

@@ -37,7 +37,12 @@ pub fn match_of(
     bound: &[(u8, Numbers)],
     used: &Numbers,
 ) -> Result<Match, Memory>
-    ensures { IfOk result (λ one. one ≡ record { window = window; number = number; bound = map seen_name bound.now; used = used.now.list }) }
+    ensures { IfOk result (λ one. one ≡ record {
+      window = window;
+      number = number;
+      bound = map seen_name bound.now;
+      used = used.now.list;
+    }) }
 {
     Ok(Match {
         window,

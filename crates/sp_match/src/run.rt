@@ -98,7 +98,8 @@ impl Run {
         event: &Event,
     ) -> Result<(), Memory>
         requires { CanGrow name number (kept self.old) }
-        ensures grown { OnOk result (kept self.new ≡ grown name consumed number event.now (kept self.old)) }
+        ensures grown { OnOk result
+            (kept self.new ≡ grown name consumed number event.now (kept self.old)) }
         ensures err { OnErr result (kept self.new ≡ kept self.old) }
     {
         self.bound.reserve(1)?;

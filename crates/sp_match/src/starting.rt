@@ -57,7 +57,8 @@ pub(crate) fn start_name(
     requires { IsOffer offer.now }
     ensures { (s : State) (old : List Kept) (ts : List Told)
         → s.open_runs ≡ map started old → length old ≡ length runs.now
-        → Going offer.now.plan.now (numbered offer.now) s old (length old) (all_kept runs.now) ts so_far
+        → Going offer.now.plan.now (numbered offer.now) s old (length old) (all_kept runs.now) ts
+        so_far
         → result ≡ starting offer.now.plan.now (numbered offer.now) s }
 {
     let may = may_start(offer.plan, runs, so_far);

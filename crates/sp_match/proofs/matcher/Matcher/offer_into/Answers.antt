@@ -99,7 +99,7 @@ returns-in-Ok c =
     offered q c.new-offer.result.plan.now x (numbered c.new-offer.result) c.self.inside.count (map kept c.self.inside.runs.items) c.in-Ok.started (map kept c.handle_all.new.runs.items) settled (map seen c.handle_all.new.moves.list.items) c.args.self.now after
     (c.new-offer.ensures.plan ∙ c.deref.ensures) (λ i. (c.new-offer.ensures.number i, c.new-offer.ensures.event i)) c.self.view_is c.self.invariant c.in-Ok.ensures.handled c.settle.ensures.runs (λ i. record { plan = q; open_runs = map started settled; started = c.count_after-self-inside.ensures i })
     c.handle_all.new.moves.wanted.items c.in-Ok.ensures.wanted c.requires.below in
-    record { stands = o.stands; told = o.tells; wanted = o.wants; below = o.stays_below; plan = search rules; err = search rules; none = search rules }
+    record { stands = o.stands; told = o.tells; wanted = o.wants; below = o.stays_below; plan = search rules; err = search rules; cleared = search rules }
 
 -- the runs as before
 back : (q q' : Plan) (old new after : List Kept) (size n : ℕ) → All IsIdle old → n ≡ size → Undoes q' old (take size new) → after ≡ map before (take n new) → after ≡ old
