@@ -22,7 +22,7 @@ use Rattle.sp_match.specs.inside.Turn.{IsTurn}
 use Rattle.sp_match.specs.inside.Going.{Going, IsIdle, IsReady, acted_by, none_takes, standing}
 use Rattle.sp_match.proofs.RunNumbersRise.{Rising}
 use Rattle.sp_match.proofs.MovesAreHandling.{ordered_rises}
-use Rattle.sp_match.proofs.RunsAfterBinding.{none_marked}
+use Rattle.sp_match.proofs.RunsAfterBinding.{none_after_use}
 use Rattle.sp_match.proofs.RunNumbersStay.{rising_same, same_numbers}
 use Rattle.sp_match.proofs.TurnGoesOn.{Gone, turn_goes}
 
@@ -129,7 +129,7 @@ idle_tally k idle = record {
 pub going_start : (q : Plan) (x : Numbered) (s : State) (n count : ℕ) (old : List Kept) → IsReady q n count old → s.open_runs ≡ map started old → Going q x s old 0 old [] Passed
 going_start q x s n count old ready is = record {
   shows = record { now = open_all old ready.idle ∙ sym is; told = refl; led = refl };
-  front = ([], refl, sym (none_marked old));
+  front = ([], refl, sym (none_after_use old));
   tally = λ i k within. idle_tally (get_or old i k) (ready.idle i k within);
   used = refl;
   taken = refl;

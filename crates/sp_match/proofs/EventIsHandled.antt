@@ -18,7 +18,7 @@ use Rattle.sp_match.specs.inside.Going.{Going, IsReady, acted_by, standing, star
 use Rattle.sp_match.specs.inside.Handling.{IsHandled}
 use Rattle.sp_match.proofs.RunNumbersRise.{Rising}
 use Rattle.sp_match.proofs.MovesAreHandling.{ordered_rises, rising_ordered}
-use Rattle.sp_match.proofs.RunsAfterBinding.{bound_at_is}
+use Rattle.sp_match.proofs.RunsAfterBinding.{runs_after_binding_is}
 use Rattle.sp_match.proofs.TurnTallies.{start_tallies}
 use Rattle.sp_match.proofs.RunNumbersStay.{rising_same, same_numbers}
 use Rattle.sp_match.proofs.StartShows.{acted_started, bound_numbers_stay, new_shows, new_started, rising_new}
@@ -66,7 +66,7 @@ module _ (q : Plan) (x : Numbered) (count : ℕ) (old new : List Kept) (ts : Lis
         let a = acted_by q x s s.open_runs in
         let starts : a.now.started ≡ count = acted_started q x s s.open_runs ∙ count_is in
         let front : take (length old) more ≡ map (run_after_use (used_by_binding q name x (empty (count + 1)))) new =
-        ap (take (length old)) (runs_are ∙ bound_at_is q name x new [] (empty (count + 1)) ∙ map-append (run_after_use (used_by_binding q name x (empty (count + 1)))) new (run_after_binding q name x (empty (count + 1)) ∷ []))
+        ap (take (length old)) (runs_are ∙ runs_after_binding_is q name x new [] (empty (count + 1)) ∙ map-append (run_after_use (used_by_binding q name x (empty (count + 1)))) new (run_after_binding q name x (empty (count + 1)) ∷ []))
         ∙ take_at (map (run_after_use (used_by_binding q name x (empty (count + 1)))) new) (run_after_use (used_by_binding q name x (empty (count + 1))) (run_after_binding q name x (empty (count + 1))) ∷ []) (length old)
         (length-map new (run_after_use (used_by_binding q name x (empty (count + 1)))) ∙ size) in
         subst (All (Tally (act q s x).moves)) (sym front)

@@ -24,8 +24,8 @@ pub shut_at : (fs bs : List Kept) (k : Kept) → stays k.fate ≡ false → open
 shut_at fs bs k gone = open_append fs (k ∷ bs) ∙ λ i. open_runs fs ++ map started (cond (gone i) (k ∷ filter (λ k. stays k.fate) bs) (filter (λ k. stays k.fate) bs))
 
 -- whether a run stays that is marked
-pub marked_stays : (ns : List ℕ) (k : Kept) → stays (run_after_use ns k).fate ≡ (stays k.fate && not (holds_one ns (pairs k)))
-marked_stays ns k = one k.fate (holds_one ns (pairs k))
+pub stays_after_use : (ns : List ℕ) (k : Kept) → stays (run_after_use ns k).fate ≡ (stays k.fate && not (holds_one ns (pairs k)))
+stays_after_use ns k = one k.fate (holds_one ns (pairs k))
   where
     one : (f : Fate) (b : Bool) → stays (cond (stays f && b) Leaves f) ≡ (stays f && not b)
     one Stays true = refl
@@ -34,11 +34,11 @@ marked_stays ns k = one k.fate (holds_one ns (pairs k))
     one Leaves b = refl
 
 -- the open runs that are left when those that hold one of these numbers are marked
-pub open_marked : (ns : List ℕ) (ks : List Kept) → open_runs (map (run_after_use ns) ks) ≡ filter (frees ns) (open_runs ks)
-open_marked ns [] = refl
-open_marked ns (k ∷ ks) =
-    (λ i. map started (cond (marked_stays ns k i) (run_after_use ns k ∷ filter (λ k. stays k.fate) (map (run_after_use ns) ks)) (filter (λ k. stays k.fate) (map (run_after_use ns) ks))))
-    ∙ one (stays k.fate) (holds_one ns (pairs k)) refl (open_marked ns ks)
+pub open_after_use : (ns : List ℕ) (ks : List Kept) → open_runs (map (run_after_use ns) ks) ≡ filter (frees ns) (open_runs ks)
+open_after_use ns [] = refl
+open_after_use ns (k ∷ ks) =
+    (λ i. map started (cond (stays_after_use ns k i) (run_after_use ns k ∷ filter (λ k. stays k.fate) (map (run_after_use ns) ks)) (filter (λ k. stays k.fate) (map (run_after_use ns) ks))))
+    ∙ one (stays k.fate) (holds_one ns (pairs k)) refl (open_after_use ns ks)
   where
     one : (b c : Bool) → holds_one ns (pairs k) ≡ c → open_runs (map (run_after_use ns) ks) ≡ filter (frees ns) (open_runs ks)
         → map started (cond (b && not c) (run_after_use ns k ∷ filter (λ k. stays k.fate) (map (run_after_use ns) ks)) (filter (λ k. stays k.fate) (map (run_after_use ns) ks)))

@@ -39,9 +39,9 @@ none_loses k = one (stays k.fate)
     one true = holds_none (pairs k)
     one false = refl
 
-pub none_marked : (ks : List Kept) → map (run_after_use []) ks ≡ ks
-none_marked [] = refl
-none_marked (k ∷ ks) = λ i. record k { fate = if none_loses k i then Leaves else k.fate } ∷ none_marked ks i
+pub none_after_use : (ks : List Kept) → map (run_after_use []) ks ≡ ks
+none_after_use [] = refl
+none_after_use (k ∷ ks) = λ i. record k { fate = if none_loses k i then Leaves else k.fate } ∷ none_after_use ks i
 
 pub none_told : (ks : List Kept) → flat_map (use_told []) ks ≡ []
 none_told [] = refl
@@ -62,7 +62,7 @@ told_with q name x at ks k ns = binding_told q name x k ++ flat_map (use_told ns
 
 pub open_runs_are : (q : Plan) (name : ℕ) (x : Numbered) (at : ℕ) (ks : List Kept) (k : Kept) → run_at ks at ≡ k → completes q name x k ≡ false → set ks at (run_after_binding q name x k) ≡ runs_after_binding q name x at ks
 open_runs_are q name x at ks k same not =
-    sym (none_marked (set ks at (run_after_binding q name x k))) ∙ ap (runs_with q name x at ks k) (no_used q name x k not) ∙ ap (λ k. runs_with q name x at ks k (used_by_binding q name x k)) (sym same)
+    sym (none_after_use (set ks at (run_after_binding q name x k))) ∙ ap (runs_with q name x at ks k) (no_used q name x k not) ∙ ap (λ k. runs_with q name x at ks k (used_by_binding q name x k)) (sym same)
 
 pub open_told_is : (q : Plan) (name : ℕ) (x : Numbered) (at : ℕ) (ks : List Kept) (k : Kept) → run_at ks at ≡ k → completes q name x k ≡ false → binding_told q name x k ≡ runs_binding_told q name x at ks
 open_told_is q name x at ks k same not =
@@ -80,13 +80,13 @@ whole_told_is q name x at ks k ns same whole used =
     ap (told_with q name x at ks k) (used ∙ all_used q name x k whole) ∙ ap (λ k. told_with q name x at ks k (used_by_binding q name x k)) (sym same)
 
 -- the runs around the one that binds
-pub bound_at_is : (q : Plan) (name : ℕ) (x : Numbered) (fs bs : List Kept) (k : Kept) → runs_after_binding q name x (length fs) (fs ++ k ∷ bs) ≡ map (run_after_use (used_by_binding q name x k)) (fs ++ run_after_binding q name x k ∷ bs)
-bound_at_is q name x fs bs k =
+pub runs_after_binding_is : (q : Plan) (name : ℕ) (x : Numbered) (fs bs : List Kept) (k : Kept) → runs_after_binding q name x (length fs) (fs ++ k ∷ bs) ≡ map (run_after_use (used_by_binding q name x k)) (fs ++ run_after_binding q name x k ∷ bs)
+runs_after_binding_is q name x fs bs k =
     ap (λ (m : Kept). map (run_after_use (used_by_binding q name x m)) (set (fs ++ k ∷ bs) (length fs) (run_after_binding q name x m))) (get_or_at fs k bs (empty 0) (length fs) refl)
     ∙ ap (map (run_after_use (used_by_binding q name x k))) (set_at fs k bs (run_after_binding q name x k) (length fs) refl)
 
-pub bound_told_is : (q : Plan) (name : ℕ) (x : Numbered) (fs bs : List Kept) (k : Kept)
+pub runs_binding_told_is : (q : Plan) (name : ℕ) (x : Numbered) (fs bs : List Kept) (k : Kept)
     → runs_binding_told q name x (length fs) (fs ++ k ∷ bs) ≡ binding_told q name x k ++ flat_map (use_told (used_by_binding q name x k)) (fs ++ run_after_binding q name x k ∷ bs)
-bound_told_is q name x fs bs k =
+runs_binding_told_is q name x fs bs k =
     ap (λ (m : Kept). binding_told q name x m ++ flat_map (use_told (used_by_binding q name x m)) (set (fs ++ k ∷ bs) (length fs) (run_after_binding q name x m))) (get_or_at fs k bs (empty 0) (length fs) refl)
     ∙ ap (λ (l : List Kept). binding_told q name x k ++ flat_map (use_told (used_by_binding q name x k)) l) (set_at fs k bs (run_after_binding q name x k) (length fs) refl)

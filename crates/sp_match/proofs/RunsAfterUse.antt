@@ -13,8 +13,8 @@ use Rattle.sp_match.specs.inside.Effects.{run_after_use, use_told}
 use Rattle.sp_match.proofs.GrownRunIsGood.{before_fate, good_fate}
 
 -- the first runs marked, the others as they were
-abbrev pub marked_to : List ℕ → ℕ → List Kept → List Kept
-marked_to ns i ks = map (run_after_use ns) (take i ks) ++ drop i ks
+abbrev pub after_use_to : List ℕ → ℕ → List Kept → List Kept
+after_use_to ns i ks = map (run_after_use ns) (take i ks) ++ drop i ks
 
 -- what is told of the first runs
 abbrev pub told_to : List ℕ → ℕ → List Kept → List Told
@@ -34,16 +34,16 @@ pub all_good : (q : Plan) (ns : List ℕ) (ks : List Kept) → All (Good q) ks �
 all_good q ns ks good = All-map (Good q) (run_after_use ns) ks (All-weaker (Good q) (λ k. Good q (run_after_use ns k)) (marked_good q ns) ks good)
 
 -- runs that are marked can be undone
-pub marks_undo : (q : Plan) (ns : List ℕ) (i : ℕ) (ks : List Kept) → All (Good q) ks → Undoes q ks (marked_to ns i ks)
-marks_undo q ns i ks good = record {
+pub after_use_undoes : (q : Plan) (ns : List ℕ) (i : ℕ) (ks : List Kept) → All (Good q) ks → Undoes q ks (after_use_to ns i ks)
+after_use_undoes q ns i ks good = record {
   good = All-append (Good q) (map (run_after_use ns) (take i ks)) (drop i ks) (all_good q ns (take i ks) (All-take (Good q) i ks good)) (All-drop (Good q) i ks good);
   before = map-append before (map (run_after_use ns) (take i ks)) (drop i ks) ∙ ap (λ rest. rest ++ map before (drop i ks)) (all_before ns (take i ks))
       ∙ sym (map-append before (take i ks) (drop i ks)) ∙ ap (map before) (take-append-drop i ks);
 }
 
 -- one run more
-pub mark_more : (ns : List ℕ) (ks ys : List Kept) (i : ℕ) (k : Kept) → i < length ks → ys ≡ marked_to ns i ks → k ≡ get_or ys i k → set ys i (run_after_use ns k) ≡ marked_to ns (i + 1) ks
-mark_more ns ks ys i k within is at = map_over_more (run_after_use ns) ks ys i k within is at
+pub after_use_more : (ns : List ℕ) (ks ys : List Kept) (i : ℕ) (k : Kept) → i < length ks → ys ≡ after_use_to ns i ks → k ≡ get_or ys i k → set ys i (run_after_use ns k) ≡ after_use_to ns (i + 1) ks
+after_use_more ns ks ys i k within is at = map_over_more (run_after_use ns) ks ys i k within is at
 
 -- where the first elements have been mapped, the one at hand is as it was
 pub over_at : {X : Type 0} (f : X → X) (xs ys : List X) (i : ℕ) (x : X) → i < length xs → ys ≡ map f (take i xs) ++ drop i xs → x ≡ get_or ys i x → x ≡ get_or xs i x
@@ -55,16 +55,16 @@ over_at f xs ys i x within is at =
     ∙ ap (λ n. get_or (drop i xs) n x) here ∙ get_or-drop i xs 0 x ∙ ap (λ n. get_or xs n x) there
 
 -- the run at hand is as it was
-pub mark_at : (ns : List ℕ) (ks ys : List Kept) (i : ℕ) (k : Kept) → i < length ks → ys ≡ marked_to ns i ks → k ≡ get_or ys i k → k ≡ get_or ks i k
-mark_at ns ks ys i k within is at = over_at (run_after_use ns) ks ys i k within is at
+pub after_use_at : (ns : List ℕ) (ks ys : List Kept) (i : ℕ) (k : Kept) → i < length ks → ys ≡ after_use_to ns i ks → k ≡ get_or ys i k → k ≡ get_or ks i k
+after_use_at ns ks ys i k within is at = over_at (run_after_use ns) ks ys i k within is at
 
 pub told_more : (ns : List ℕ) (ks : List Kept) (i : ℕ) (k : Kept) → i < length ks → k ≡ get_or ks i k → told_to ns (i + 1) ks ≡ told_to ns i ks ++ use_told ns k
 told_more ns ks i k within at =
     ap (flat_map (use_told ns)) (take_more ks i k within ∙ ap (λ x. take i ks ++ x ∷ []) (sym at))
     ∙ flat_map-append (use_told ns) (take i ks) (k ∷ []) ∙ ap (λ l. told_to ns i ks ++ l) (append-nil (use_told ns k))
 
-pub all_marked : (ns : List ℕ) (i : ℕ) (ks : List Kept) → length ks ≤ i → marked_to ns i ks ≡ map (run_after_use ns) ks
-all_marked ns i ks done = (λ j. map (run_after_use ns) (take_all i ks done j) ++ drop_all i ks done j) ∙ append-nil (map (run_after_use ns) ks)
+pub all_after_use : (ns : List ℕ) (i : ℕ) (ks : List Kept) → length ks ≤ i → after_use_to ns i ks ≡ map (run_after_use ns) ks
+all_after_use ns i ks done = (λ j. map (run_after_use ns) (take_all i ks done j) ++ drop_all i ks done j) ∙ append-nil (map (run_after_use ns) ks)
 
 pub all_told : (ns : List ℕ) (i : ℕ) (ks : List Kept) → length ks ≤ i → told_to ns i ks ≡ flat_map (use_told ns) ks
 all_told ns i ks done = ap (flat_map (use_told ns)) (take_all i ks done)

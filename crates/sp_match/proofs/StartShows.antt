@@ -16,7 +16,7 @@ use Rattle.sp_match.proofs.MovesFollowRuns.{led_on}
 use Rattle.sp_match.proofs.MovesAreTold.{told_then}
 use Rattle.sp_match.proofs.OpenRuns.{open_append}
 use Rattle.sp_match.proofs.GrownRunIsGood.{used_grown}
-use Rattle.sp_match.proofs.RunsAfterBinding.{bound_at_is, bound_told_is}
+use Rattle.sp_match.proofs.RunsAfterBinding.{runs_after_binding_is, runs_binding_told_is}
 use Rattle.sp_match.proofs.TurnShows.{bind_shows}
 
 -- no turn of an open run starts another
@@ -78,8 +78,8 @@ start_shows q x s a ks ts name up shows =
     let opened : Acting = acting_on a (Opened ∷ []) [] in
     let ns = used_by_binding q name x k in
     let grew = bind_shows q x ks [] k name (n + 1) refl refl (used_grown q name x.0 x.1 k refl refl) (rising_new n ks up) s opened (ts ++ OpenedTold (n + 1) ∷ []) (used_if_complete q (pair ∷ [])) (opened_shows q s a ks ts shows) in
-    subst (λ (l : List Kept). Shows q s (act_start q x a (Some name)) l (ts ++ OpenedTold (n + 1) ∷ runs_binding_told q name x (length ks) (ks ++ k ∷ []))) (sym (bound_at_is q name x ks [] k))
-    (subst (λ (l : List Told). Shows q s (act_start q x a (Some name)) (map (run_after_use ns) (ks ++ run_after_binding q name x k ∷ [])) (ts ++ OpenedTold (n + 1) ∷ l)) (sym (bound_told_is q name x ks [] k))
+    subst (λ (l : List Kept). Shows q s (act_start q x a (Some name)) l (ts ++ OpenedTold (n + 1) ∷ runs_binding_told q name x (length ks) (ks ++ k ∷ []))) (sym (runs_after_binding_is q name x ks [] k))
+    (subst (λ (l : List Told). Shows q s (act_start q x a (Some name)) (map (run_after_use ns) (ks ++ run_after_binding q name x k ∷ [])) (ts ++ OpenedTold (n + 1) ∷ l)) (sym (runs_binding_told_is q name x ks [] k))
     (subst (λ (l : List Told). Shows q s (act_start q x a (Some name)) (map (run_after_use ns) (ks ++ run_after_binding q name x k ∷ [])) l)
     (append_assoc ts (OpenedTold (n + 1) ∷ []) (binding_told q name x k ++ flat_map (use_told ns) (ks ++ run_after_binding q name x k ∷ []))) grew))
 
@@ -101,5 +101,5 @@ marked_numbers ns (k ∷ ks) = ap (λ (l : List ℕ). k.number ∷ l) (marked_nu
 
 pub bound_numbers_stay : (q : Plan) (name : ℕ) (x : Numbered) (fs bs : List Kept) (k : Kept) → map (λ k. k.number) (runs_after_binding q name x (length fs) (fs ++ k ∷ bs)) ≡ map (λ k. k.number) (fs ++ k ∷ bs)
 bound_numbers_stay q name x fs bs k =
-    ap (map (λ (k : Kept). k.number)) (bound_at_is q name x fs bs k) ∙ marked_numbers (used_by_binding q name x k) (fs ++ run_after_binding q name x k ∷ bs)
+    ap (map (λ (k : Kept). k.number)) (runs_after_binding_is q name x fs bs k) ∙ marked_numbers (used_by_binding q name x k) (fs ++ run_after_binding q name x k ∷ bs)
     ∙ map-append (λ (k : Kept). k.number) fs (run_after_binding q name x k ∷ bs) ∙ sym (map-append (λ (k : Kept). k.number) fs (k ∷ bs))

@@ -20,9 +20,9 @@ use Rattle.sp_match.specs.declared.run.Turn.TheVariants.{Idle}
 use Rattle.sp_match.specs.inside.Going.{none_takes}
 use Rattle.sp_match.proofs.RunNumbersRise.{Rising}
 use Rattle.sp_match.proofs.MovesFollowRuns.{holds_either}
-use Rattle.sp_match.proofs.OpenRuns.{marked_stays, open_at}
+use Rattle.sp_match.proofs.OpenRuns.{stays_after_use, open_at}
 use Rattle.sp_match.proofs.TurnTallies.{bind_tallies, leave_tallies}
-use Rattle.sp_match.proofs.RunsAfterBinding.{bound_at_is, bound_told_is, holds_none}
+use Rattle.sp_match.proofs.RunsAfterBinding.{runs_after_binding_is, runs_binding_told_is, holds_none}
 use Rattle.sp_match.proofs.GrownRunIsGood.{used_grown}
 use Rattle.sp_match.proofs.PairsOfRuns.{pairs_push}
 use Rattle.sp_match.proofs.TurnShows.{bind_shows, leave_shows}
@@ -37,8 +37,8 @@ pub record Gone (q : Plan) (x : Numbered) (s : State) (a : Acting) (done : List 
   pub unused : is_taken r ≡ false → a.taken ≡ []
 
 -- marked by some numbers and then by others
-marked_twice : (ns ms : List ℕ) (k : Kept) → run_after_use ms (run_after_use ns k) ≡ run_after_use (ns ++ ms) k
-marked_twice ns ms k =
+after_use_twice : (ns ms : List ℕ) (k : Kept) → run_after_use ms (run_after_use ns k) ≡ run_after_use (ns ++ ms) k
+after_use_twice ns ms k =
     (λ i. record k { fate = one k.fate (holds_one ns (pairs k)) (holds_one ms (pairs k)) i })
     ∙ λ i. record k { fate = if stays k.fate && sym (holds_either ns ms (pairs k)) i then Leaves else k.fate }
   where
@@ -50,7 +50,7 @@ marked_twice ns ms k =
 
 all_twice : (ns ms : List ℕ) (ks : List Kept) → map (run_after_use ms) (map (run_after_use ns) ks) ≡ map (run_after_use (ns ++ ms)) ks
 all_twice ns ms [] = refl
-all_twice ns ms (k ∷ ks) = λ i. marked_twice ns ms k i ∷ all_twice ns ms ks i
+all_twice ns ms (k ∷ ks) = λ i. after_use_twice ns ms k i ∷ all_twice ns ms ks i
 
 among_either : (ns ms : List ℕ) (n : ℕ) → is_among (ns ++ ms) n ≡ (is_among ns n || is_among ms n)
 among_either ns ms n = list_any-append (λ m. m == n) ns ms
@@ -112,8 +112,8 @@ module _ (q : Plan) (x : Numbered) (s : State) (fs rest : List Kept) (k0 : Kept)
       let pair : Pair = record { name = name; number = x.0; event = x.1 } in
       let used_is : used_if_complete q (run.1 ++ pair ∷ []) ≡ ns =
       sym ((λ i. if is_complete q (pairs (run_with_event q name x k)) then uses i else []) ∙ ap (used_if_complete q) (pairs_push k.bound k.events name x.0 x.1 same)) in
-      let runs = bound_at_is q name x fs bs k in
-      let told = bound_told_is q name x fs bs k in
+      let runs = runs_after_binding_is q name x fs bs k in
+      let told = runs_binding_told_is q name x fs bs k in
       let taken_is : (acted q x a run (Some name)).taken ≡ a.taken ++ ns = ap (λ (l : List ℕ). a.taken ++ l) used_is in
       record {
         shows = subst (λ (l : List Kept). Shows q s (acted q x a run (Some name)) l (ts ++ runs_binding_told q name x here ks)) (sym runs)
@@ -181,7 +181,7 @@ module _ (q : Plan) (x : Numbered) (s : State) (fs rest : List Kept) (k0 : Kept)
       (one (holds_one a.taken run.1) (is_among a.taken x.0) refl refl)
     where
       stay_is : stays k.fate ≡ not (holds_one a.taken run.1)
-      stay_is = marked_stays a.taken k0 ∙ λ i. stays (stands i) && not (holds_one a.taken run.1)
+      stay_is = stays_after_use a.taken k0 ∙ λ i. stays (stands i) && not (holds_one a.taken run.1)
 
       twice : (b : Bool) → not (not b) ≡ b
       twice true = refl

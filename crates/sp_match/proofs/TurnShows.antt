@@ -17,8 +17,8 @@ use Rattle.sp_match.proofs.RunInTheMiddle.{without_middle}
 use Rattle.sp_match.proofs.GrowingMoves.{at, frees, grown_to}
 use Rattle.sp_match.proofs.MovesFollowRuns.{led_on}
 use Rattle.sp_match.proofs.MovesAreTold.{growing_told, left_told, told_then}
-use Rattle.sp_match.proofs.OpenRuns.{open_at, open_marked, open_told, rising_cut, rising_open, shut_at}
-use Rattle.sp_match.proofs.RunsAfterBinding.{none_marked, none_told}
+use Rattle.sp_match.proofs.OpenRuns.{open_at, open_after_use, open_told, rising_cut, rising_open, shut_at}
+use Rattle.sp_match.proofs.RunsAfterBinding.{none_after_use, none_told}
 use Rattle.sp_match.proofs.PairsOfRuns.{pairs_push}
 
 -- one of the runs, between these, binds the event to the name
@@ -59,12 +59,12 @@ module _ (q : Plan) (x : Numbered) (fs bs : List Kept) (k : Kept) (name top : �
       let whole : completes q name x k ≡ true = ap (is_complete q) pairs_are ∙ done in
       let ns : used_by_binding q name x k ≡ used q grown = (λ i. if whole i then (run_with_event q name x k).used else []) ∙ uses ∙ ap (used q) pairs_are in
       let gone : stays (run_after_binding q name x k).fate ≡ false = λ i. stays (if whole i then Completes else k.fate) in
-      open_marked (used_by_binding q name x k) (fs ++ run_after_binding q name x k ∷ bs) ∙ (λ i. filter (frees (ns i)) (shut_at fs bs (run_after_binding q name x k) gone i)) ∙ filter-append (frees (used q grown)) xs ys
+      open_after_use (used_by_binding q name x k) (fs ++ run_after_binding q name x k ∷ bs) ∙ (λ i. filter (frees (ns i)) (shut_at fs bs (run_after_binding q name x k) gone i)) ∙ filter-append (frees (used q grown)) xs ys
   open_after false not_yet =
       let part : completes q name x k ≡ false = ap (is_complete q) pairs_are ∙ not_yet in
       let ns : used_by_binding q name x k ≡ [] = λ i. if part i then (run_with_event q name x k).used else [] in
       let stays_on : stays (run_after_binding q name x k).fate ≡ true = (λ i. stays (if part i then Completes else k.fate)) ∙ open_yet in
-      (λ i. open_runs (map (run_after_use (ns i)) (fs ++ run_after_binding q name x k ∷ bs))) ∙ ap open_runs (none_marked (fs ++ run_after_binding q name x k ∷ bs)) ∙ open_at fs bs (run_after_binding q name x k) stays_on
+      (λ i. open_runs (map (run_after_use (ns i)) (fs ++ run_after_binding q name x k ∷ bs))) ∙ ap open_runs (none_after_use (fs ++ run_after_binding q name x k ∷ bs)) ∙ open_at fs bs (run_after_binding q name x k) stays_on
       ∙ ap (λ (r : List Pair). xs ++ (k.number, r) ∷ ys) pairs_are
 
   -- what is told

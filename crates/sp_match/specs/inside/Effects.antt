@@ -20,23 +20,23 @@ Adds old new more = map seen new ≡ map seen old ++ more
 abbrev pub loses : List ℕ → Kept → Bool
 loses ns k = stays k.fate && holds_one ns (pairs k)
 
--- such a run leaves
+-- a run after these numbers were used: it leaves where it is open and holds one of them
 abbrev pub run_after_use : List ℕ → Kept → Kept
 run_after_use ns k = record k { fate = if loses ns k then Leaves else k.fate }
 
--- a run is told to leave
+-- the move told of a run that is abandoned
 abbrev pub leaving_told : Kept → Told
 leaving_told k = AbandonedTold k.number
 
--- what is told of it
+-- what is told of a run when these numbers are used
 abbrev pub use_told : List ℕ → Kept → List Told
 use_told ns k = if loses ns k then leaving_told k ∷ [] else []
 
--- a run with the event bound to the name
+-- a run with the event bound to the name, before it is looked whether it is complete
 abbrev pub run_with_event : Plan → ℕ → Numbered → Kept → Kept
 run_with_event q name x k = grown name (is_consumed (slice_get q.names name)) x.0 x.1 k
 
--- whether it is complete then
+-- whether a run is complete that binds the event to the name
 abbrev pub completes : Plan → ℕ → Numbered → Kept → Bool
 completes q name x k = is_complete q (pairs (run_with_event q name x k))
 
@@ -56,11 +56,11 @@ told_if_complete q k = if is_complete q (pairs k) then completion_told q k ∷ [
 abbrev pub run_after_binding : Plan → ℕ → Numbered → Kept → Kept
 run_after_binding q name x k = run_if_complete q (run_with_event q name x k)
 
--- what is told of it
+-- what is told of a run that binds the event to the name
 abbrev pub binding_told : Plan → ℕ → Numbered → Kept → List Told
 binding_told q name x k = GrownTold k.number x.0 ∷ told_if_complete q (run_with_event q name x k)
 
--- the numbers that it uses, where it is complete
+-- the numbers that a run uses which binds the event to the name: those of its consumed names where it is complete, else none
 abbrev pub used_by_binding : Plan → ℕ → Numbered → Kept → List ℕ
 used_by_binding q name x k = if completes q name x k then (run_with_event q name x k).used else []
 
@@ -68,25 +68,25 @@ used_by_binding q name x k = if completes q name x k then (run_with_event q name
 abbrev pub run_at : List Kept → ℕ → Kept
 run_at ks at = slice_index_or ks at (empty 0)
 
--- the runs after the one at a place bound the event to the name
+-- all runs after the one at a place bound the event to the name
 abbrev pub runs_after_binding : Plan → ℕ → Numbered → ℕ → List Kept → List Kept
 runs_after_binding q name x at ks = map (run_after_use (used_by_binding q name x (run_at ks at))) (slice_set ks at (run_after_binding q name x (run_at ks at)))
 
--- what is told of that
+-- what is told of all runs then
 abbrev pub runs_binding_told : Plan → ℕ → Numbered → ℕ → List Kept → List Told
 runs_binding_told q name x at ks =
     binding_told q name x (run_at ks at) ++ flat_map (use_told (used_by_binding q name x (run_at ks at))) (slice_set ks at (run_after_binding q name x (run_at ks at)))
 
--- a run leaves
+-- all runs after the one at a place was abandoned
 abbrev pub runs_after_leaving : ℕ → List Kept → List Kept
 runs_after_leaving at ks = slice_set ks at (record (run_at ks at) { fate = Leaves })
 
--- the runs after the one at a place was offered an event, by the name under which it takes it: without one it leaves where it may
+-- all runs after the open one at a place was offered the event, by the name under which it takes it: without one it leaves where the event says so
 abbrev pub runs_after_offer : Plan → Bool → ℕ → Numbered → List Kept → Option ℕ → List Kept
 runs_after_offer q leaves at x ks (Some name) = runs_after_binding q name x at ks
 runs_after_offer q leaves at x ks None = if leaves then runs_after_leaving at ks else ks
 
--- what is told of that
+-- what is told of all runs then
 abbrev pub offer_told : Plan → Bool → ℕ → Numbered → List Kept → Option ℕ → List Told
 offer_told q leaves at x ks (Some name) = runs_binding_told q name x at ks
 offer_told q leaves at x ks None = if leaves then leaving_told (run_at ks at) ∷ [] else []
@@ -103,7 +103,7 @@ is_taken Passed = false
 is_taken Taken = true
 is_taken Used = true
 
--- what the event has met with then
+-- what the event has met with when the run was offered it
 abbrev pub reception_after_offer : Plan → Numbered → Kept → Reception → Option ℕ → Reception
 reception_after_offer q x k r (Some name) = if is_among (used_by_binding q name x k) x.0 then Used else Taken
 reception_after_offer q x k r None = r
