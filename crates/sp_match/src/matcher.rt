@@ -125,7 +125,11 @@ impl Matcher {
     {
         fitting_events_are_small();
         let open = self.runs.len();
-        let offer = Offer::new(alloc, &self.plan, number, event);
+        let offer = Offer {
+            plan: &self.plan,
+            number,
+            event,
+        };
         match handle_all(
             alloc,
             &offer,

@@ -1,8 +1,7 @@
 // An event that is offered to the runs of a window.
 ghost use Rattle.std.specs.Prelude.{◌≡◌, []};
-ghost use Rattle.sp_plan.specs.Bounds.{IsSmall};
-ghost use Rattle.sp_plan.specs.Compiled.{IsCompiled};
-ghost use Rattle.sp_plan.specs.Runs as definitions;
+ghost use Rattle.sp_plan.specs.Runs.{takes};
+ghost use Rattle.sp_match.specs.inside.Offer.{IsOffer, lets_leave};
 
 use crate::run::Run;
 use crate::taking::takes;
@@ -17,49 +16,24 @@ pub(crate) struct Offer<'a> {
     /// The event's number, from 1.
     pub(crate) number: u32,
     pub(crate) event: &'a Event,
-    /// Whether a run leaves that doesn't take the event: under LAST, where the event begins a run.
-    pub(crate) leaves: bool,
 }
 
-/// The name under which an event begins a run, if it begins one.
-pub(crate) fn begins(alloc: Global, plan: &Plan, event: &Event) -> Option<u8>
-    requires compiled { IsCompiled plan.now }
-    requires small { IsSmall event.now }
-    ensures { result ≡ definitions.takes plan.now [] event.now }
+/// The name under which the event begins a run, if it begins one.
+pub(crate) fn begins(alloc: Global, offer: &Offer) -> Option<u8>
+    requires { IsOffer offer.now }
+    ensures { result ≡ takes offer.now.plan.now [] offer.now.event.now }
 {
     let none = Run::new(alloc, 0);
-    takes(plan, &none, event)
+    takes(offer.plan, &none, offer.event)
 }
 
-// Whether runs leave that don't take the event.
-fn leaves(alloc: Global, plan: &Plan, event: &Event) -> bool
-    requires compiled { IsCompiled plan.now }
-    requires small { IsSmall event.now }
-    ensures { result ≡ definitions.leaves plan.now.select plan.now event.now }
+/// Whether an open run leaves that doesn't take the event: under LAST, where the event begins a run.
+pub(crate) fn leaves(alloc: Global, offer: &Offer) -> bool
+    requires { IsOffer offer.now }
+    ensures { result ≡ lets_leave offer.now }
 {
-    match plan.select {
-        Select::Last => begins(alloc, plan, event).is_some(),
+    match offer.plan.select {
+        Select::Last => begins(alloc, offer).is_some(),
         Select::First | Select::Each => false,
-    }
-}
-
-impl<'a> Offer<'a> {
-    ghost use Rattle.sp_match.specs.inside.Offer.{IsOffer};
-
-    // The event of this number, offered to runs of the plan. Takes no memory.
-    pub(crate) fn new(alloc: Global, plan: &'a Plan, number: u32, event: &'a Event) -> Offer<'a>
-        requires compiled { IsCompiled plan.now }
-        requires small { IsSmall event.now }
-        ensures plan { result.plan.now ≡ plan.now }
-        ensures number { result.number ≡ number }
-        ensures event { result.event.now ≡ event.now }
-        ensures offer { IsOffer result }
-    {
-        Offer {
-            plan,
-            number,
-            event,
-            leaves: leaves(alloc, plan, event),
-        }
     }
 }

@@ -62,11 +62,7 @@ pub(crate) fn start_name(
         → result ≡ starting offer.now.plan.now (numbered offer.now) s }
 {
     let may = may_start(offer.plan, runs, so_far);
-    if may {
-        begins(alloc, offer.plan, offer.event)
-    } else {
-        None
-    }
+    if may { begins(alloc, offer) } else { None }
 }
 
 /// A new run starts with the event under this name. Where it is complete it leaves, and with it each

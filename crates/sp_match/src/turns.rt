@@ -4,7 +4,7 @@ ghost use Rattle.std.specs.List.{All};
 ghost use Rattle.sp_match.specs.public.Seen.{all_seen};
 ghost use Rattle.sp_match.specs.inside.Kept.{kept, all_kept};
 ghost use Rattle.sp_match.specs.inside.Good.{Good, NumbersBelow, Undoes};
-ghost use Rattle.sp_match.specs.inside.Offer.{IsOffer, numbered};
+ghost use Rattle.sp_match.specs.inside.Offer.{IsOffer, lets_leave, numbered};
 ghost use Rattle.sp_match.specs.inside.Effects.{Adds, run_at, runs_after_offer, offer_told, reception_after_offer};
 ghost use Rattle.sp_match.specs.inside.Turn.{IsTurn, taken_at};
 ghost use Rattle.sp_match.specs.inside.Going.{AllHadTurns, IsSet};
@@ -14,7 +14,7 @@ use crate::Memory;
 use crate::binding::bind;
 use crate::leaving::leave;
 use crate::moves::Move;
-use crate::offer::Offer;
+use crate::offer::{Offer, leaves};
 use crate::run::Run;
 use crate::taking::takes;
 use std::alloc::Global;
@@ -48,10 +48,10 @@ fn deal(
         (numbered offer.now) (run_at (all_kept runs.old) at) so_far
         (taken_at offer.now.plan.now at (numbered offer.now) (all_kept runs.old))) }
     ensures runs { OnOk result (all_kept runs.new ≡ runs_after_offer offer.now.plan.now
-        offer.now.leaves at (numbered offer.now) (all_kept runs.old)
+        (lets_leave offer.now) at (numbered offer.now) (all_kept runs.old)
         (taken_at offer.now.plan.now at (numbered offer.now) (all_kept runs.old))) }
     ensures told { OnOk result (Adds list.old.items list.new.items (offer_told offer.now.plan.now
-        offer.now.leaves at (numbered offer.now) (all_kept runs.old)
+        (lets_leave offer.now) at (numbered offer.now) (all_kept runs.old)
         (taken_at offer.now.plan.now at (numbered offer.now) (all_kept runs.old)))) }
     ensures undoes { Undoes offer.now.plan.now (all_kept runs.old) (all_kept runs.new) }
 {
@@ -64,7 +64,7 @@ fn deal(
                 Reception::Taken
             })
         }
-        None if offer.leaves => {
+        None if leaves(alloc, offer) => {
             leave(&mut runs[at], list)?;
             Ok(so_far)
         }
@@ -86,7 +86,7 @@ fn turn(
     requires below { NumbersBelow offer.now.number (run_at (all_kept runs.old) at) }
     requires within { at < length runs.old }
     requires idle { (run_at (all_kept runs.old) at).turn ≡ Idle }
-    ensures turned { IfOk result (λ r. IsTurn offer.now.plan.now offer.now.leaves at
+    ensures turned { IfOk result (λ r. IsTurn offer.now.plan.now (lets_leave offer.now) at
         (numbered offer.now) (all_kept runs.old) (all_kept runs.new) (all_seen list.old.items)
         (all_seen list.new.items) so_far r) }
     ensures undoes { Undoes offer.now.plan.now (all_kept runs.old) (all_kept runs.new) }

@@ -1,5 +1,5 @@
 -- An event that is offered to the runs of a window.
-use Rattle.std.specs.Prelude.{◌≡◌}
+use Rattle.std.specs.Prelude.{Bool}
 use Rattle.sp_plan.specs.Bounds.{IsSmall}
 use Rattle.sp_plan.specs.Compiled.{IsCompiled}
 use Rattle.sp_plan.specs.Windows.{Numbered}
@@ -10,8 +10,11 @@ use Rattle.sp_match.specs.declared.offer.Offer.{Offer}
 abbrev pub numbered : Offer → Numbered
 numbered o = (o.number, o.event.now)
 
--- The plan is compiled, the event's values are small, and it is said whether runs leave that don't take the event.
+-- whether an open run leaves that doesn't take the event
+abbrev pub lets_leave : Offer → Bool
+lets_leave o = leaves o.plan.now.select o.plan.now o.event.now
+
+-- The plan is compiled, and the event's values are small.
 pub record IsOffer (o : Offer) : Type 0 where
   pub compiled : IsCompiled o.plan.now
   pub small : IsSmall o.event.now
-  pub leaves : o.leaves ≡ leaves o.plan.now.select o.plan.now o.event.now

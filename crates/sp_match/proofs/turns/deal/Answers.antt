@@ -7,6 +7,7 @@ use Rattle.sp_plan.specs.Runs.{takes}
 use Rattle.sp_match.specs.declared.run.Fate.TheVariants.{Leaves}
 use Rattle.sp_match.specs.inside.Kept.{Kept, kept, pairs}
 use Rattle.sp_match.specs.inside.Good.{RunUndoes}
+use Rattle.sp_match.specs.inside.Offer.{lets_leave}
 use Rattle.sp_match.specs.inside.Effects.{runs_after_offer, runs_after_leaving, run_at}
 use Rattle.sp_match.proofs.TakenIsNamed.{takes_named}
 use Rattle.sp_match.proofs.RunsUndo.{here, good_here, run_fate, run_stays, undone_set}
@@ -42,7 +43,7 @@ returns-in_ok-leave-in-None-clause-runs c =
     let none : None ≡ takes q (pairs (run_at ks at)) c.args.offer.now.event.now = sym c.in-None.is ∙ c.takes.ensures ∙ ap (λ k. takes q (pairs k) c.args.offer.now.event.now) (sym first) in
     map-set kept rs at c.leave.new.run ∙ ap (set ks at) c.in_ok-leave-in-None.ensures.run
     ∙ ap (λ (k : Kept). set ks at (record k { fate = Leaves })) (sym (here rs at c.index-runs-at-in-None.result c.requires.within))
-    ∙ (λ i. if sym c.if-offer.true i then runs_after_leaving at ks else ks) ∙ ap (runs_after_offer q c.args.offer.now.leaves at x ks) none
+    ∙ (λ i. if (sym c.if-leaves.true ∙ c.leaves.ensures) i then runs_after_leaving at ks else ks) ∙ ap (runs_after_offer q (lets_leave c.args.offer.now) at x ks) none
 
 pub takes-requires-clause-good : goal.takes-requires-clause-good
 takes-requires-clause-good c = grind (arith, common_steps)

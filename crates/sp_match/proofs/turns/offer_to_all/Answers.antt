@@ -1,10 +1,9 @@
-use Rattle.std.proofs.Common.{◌≡◌, ℕ, ◌<◌, Bool, List, map, length, refl, sym, ap, subst, arith}
+use Rattle.std.proofs.Common.{◌≡◌, ℕ, ◌<◌, List, map, length, refl, sym, ap, subst, arith}
 use Rattle.std.proofs.lemmas.List.{length-map}
 use Rattle.sp_plan.specs.Windows.{Numbered}
 use Rattle.sp_plan.specs.Moves.{Told}
 use Rattle.sp_match.specs.inside.Kept.{kept}
 use Rattle.sp_match.specs.public.Seen.{seen}
-use Rattle.sp_match.specs.inside.Turn.{IsTurn}
 use Rattle.sp_match.specs.inside.Going.{Going, standing}
 use Rattle.sp_match.specs.declared.turns.Reception.TheVariants.{Passed}
 use Rattle.sp_match.proofs.RunsUndo.{all_stay, undoes_on}
@@ -49,11 +48,9 @@ loop-at-preserved c =
     let old = map kept c.args.runs.now in
     let x : Numbered = (c.args.offer.now.number, c.args.offer.now.event.now) in
     let within : c.loop-at.at < length old = omega (arith, c.loop-at-test.true, length-map c.args.runs.now kept) in
-    let turned = subst (λ (b : Bool). IsTurn q b c.loop-at.at x (map kept c.loop-at.runs) (map kept c.turn.new.runs) (map seen c.loop-at.list.items) (map seen c.turn.new.list.items) c.loop-at.so_far c.in_ok-so_far.so_far)
-    c.requires.offer.leaves c.in_ok-so_far.ensures.turned in
     record {
       going = λ s is. going_more q x s c.requires.ready.0 c.args.offer.now.number c.loop-at.at old (map kept c.loop-at.runs) (map kept c.turn.new.runs) (map seen c.loop-at.list.items) (map seen c.turn.new.list.items)
-          c.loop-at.so_far c.in_ok-so_far.so_far c.requires.ready.1 within c.loop-at.invariant.undoes (c.loop-at.invariant.going s is) turned;
+          c.loop-at.so_far c.in_ok-so_far.so_far c.requires.ready.1 within c.loop-at.invariant.undoes (c.loop-at.invariant.going s is) c.in_ok-so_far.ensures.turned;
       undoes = undoes_on q old (map kept c.loop-at.runs) (map kept c.turn.new.runs) c.loop-at.invariant.undoes c.in_ok-so_far.ensures.undoes;
     }
 
