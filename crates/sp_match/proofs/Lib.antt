@@ -1,36 +1,47 @@
-pub mod Rising
-pub mod Middle
-pub mod Growing
-pub mod Meeting
-pub mod Orders
-pub mod Closing
-pub mod Below
-pub mod Counts
-pub mod Groups
-pub mod Leading
-pub mod Completions
-pub mod Pairs
-pub mod Finds
-pub mod Named
-pub mod Bound
-pub mod Marking
-pub mod Lists
-pub mod Undoing
-pub mod Binding
-pub mod Takes
-pub mod Telling
-pub mod Opens
-pub mod Showing
-pub mod Numbered
-pub mod Steps
-pub mod Further
-pub mod Starting
-pub mod Whole
-pub mod Offering
-pub mod Lefts
-pub mod Tallies
-pub mod Tallying
-pub mod Wantings
-pub mod Several
-pub mod Proper
-pub mod Abandonments
+-- The page of contents. The folder of a function's name has the answers to its goals; what serves several functions, and
+-- the laws, stand in the files below, each named by what it shows.
+
+-- The laws of runs and moves, as callers see them.
+pub mod MovesAreHandling
+pub mod ClosingEndsRuns
+pub mod NumbersStayBelow
+pub mod RunsAreSound
+pub mod MovesLeadOn
+pub mod SeveralAreLawful
+pub mod CompletionsAreMatches
+pub mod AbandonmentsAreTold
+-- What these laws stand on: the runs and moves of the definitions.
+pub mod RunNumbersRise
+pub mod RunInTheMiddle
+pub mod GrowingMoves
+pub mod MovesFollowRuns
+pub mod MovesNameOpenRuns
+pub mod GroupsGrow
+-- A run in plain values: its pairs, what it keeps, and the way back.
+pub mod PairsOfRuns
+pub mod GrownRunIsGood
+pub mod RunsUndo
+-- Which name a run takes an event under.
+pub mod Searches
+pub mod ElementsAreNamed
+pub mod TakenIsNamed
+-- What is told of runs.
+pub mod MovesAreTold
+pub mod NumbersGathered
+-- One run's turn, against the definitions.
+pub mod OpenRuns
+pub mod RunNumbersStay
+pub mod RunsAfterUse
+pub mod RunsAfterBinding
+pub mod TurnShows
+pub mod RunsTally
+pub mod TurnTallies
+pub mod TurnGoesOn
+-- All turns, the start of a run, and the handling of an event as a whole.
+pub mod AllTurnsGoOn
+pub mod StartShows
+pub mod EventIsHandled
+pub mod MatcherAfterEvent
+-- What the runs want of later events.
+pub mod LeftIsLacked
+pub mod WantedIsTold

@@ -1,13 +1,3 @@
-pub mod Laws
-pub mod Matching
-pub mod Kept
-pub mod Good
-pub mod Seen
-pub mod Handled
-pub mod Turn
-pub mod Shows
-pub mod Tally
-pub mod Going
-pub mod Event
-pub mod Keeping
-pub mod Wanted
+-- What callers see of a matcher, and what is laid down of its inside.
+pub mod public
+pub mod inside

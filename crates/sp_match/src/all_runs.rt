@@ -1,30 +1,17 @@
-// All open runs at once: told to be abandoned, copied, compared.
-ghost use Rattle.std.specs.Prelude.{◌≡◌, ◌↔◌, ◌++◌, map, IsTrue, IfOk, OnOk};
+// All open runs at once: copied, and compared.
+ghost use Rattle.std.specs.Prelude.{◌≡◌, ◌↔◌, map, IsTrue, IfOk};
 ghost use Rattle.std.specs.List.{All};
 ghost use Rattle.sp_plan.specs.declared.plan.Plan.{Plan};
-ghost use Rattle.sp_match.specs.Kept.{kept, started};
-ghost use Rattle.sp_match.specs.Good.{Good};
-ghost use Rattle.sp_match.specs.Handled.{leaving_told};
-ghost use Rattle.sp_match.specs.Seen.{seen};
+ghost use Rattle.sp_match.specs.inside.Kept.{kept, all_kept, started};
+ghost use Rattle.sp_match.specs.inside.Good.{Good};
 
 use crate::Memory;
-use crate::moves::Move;
 use crate::run::Run;
 use std::alloc::Global;
 
-/// Tells that all runs are abandoned.
-pub(crate) fn abandon_all(runs: &[Run], list: &mut Vec<Move>) -> Result<(), Memory>
-    ensures { OnOk result (map seen list.new.items ≡ map seen list.old.items ++ map leaving_told (map kept runs.now)) }
-{
-    for run in runs {
-        list.push(Move::Abandoned { run: run.number })?;
-    }
-    Ok(())
-}
-
 /// The same runs once more.
 pub(crate) fn copies(alloc: Global, runs: &[Run]) -> Result<Vec<Run>, Memory>
-    ensures { IfOk result (λ copies. map kept copies.items ≡ map kept runs.now) }
+    ensures { IfOk result (λ copies. all_kept copies.items ≡ all_kept runs.now) }
 {
     let mut copies = Vec::with_capacity(alloc, runs.len())?;
     for run in runs {
@@ -72,9 +59,10 @@ fn same_run(one: &Run, other: &Run) -> bool
 
 /// Whether both are the same runs with the same pairs.
 pub(crate) fn same_runs(ones: &[Run], others: &[Run]) -> bool
-    requires one { (q : Plan) × All (Good q) (map kept ones.now) }
-    requires other { (q : Plan) × All (Good q) (map kept others.now) }
-    ensures { IsTrue result ↔ (map started (map kept ones.now) ≡ map started (map kept others.now)) }
+    requires one { (q : Plan) × All (Good q) (all_kept ones.now) }
+    requires other { (q : Plan) × All (Good q) (all_kept others.now) }
+    ensures { IsTrue result
+        ↔ (map started (all_kept ones.now) ≡ map started (all_kept others.now)) }
 {
     if ones.len() != others.len() {
         return false;

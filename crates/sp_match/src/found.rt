@@ -1,6 +1,6 @@
 // What a completed run is as a match of a window.
 ghost use Rattle.std.specs.Prelude.{◌≡◌, map, IfOk};
-ghost use Rattle.sp_match.specs.Seen.{seen_name};
+ghost use Rattle.sp_match.specs.public.Seen.{seen_name};
 
 use crate::Memory;
 use sp_base::Numbers;
@@ -37,7 +37,12 @@ pub fn match_of(
     bound: &[(u8, Numbers)],
     used: &Numbers,
 ) -> Result<Match, Memory>
-    ensures { IfOk result (λ one. one ≡ record { window = window; number = number; bound = map seen_name bound.now; used = used.now.list }) }
+    ensures { IfOk result (λ one. one ≡ record {
+      window = window;
+      number = number;
+      bound = map seen_name bound.now;
+      used = used.now.list;
+    }) }
 {
     Ok(Match {
         window,

@@ -1,17 +1,22 @@
 //! The matcher of a window: the open runs, what each event does to them, the moves that tell of it, and
 //! the match that a completed run is.
-//! What is proved of runs and moves whatever the matcher does stands in laws.
+//! An event comes as an offer: run by run it has its turns, then it may start a run, and settling ends its
+//! handling. What is proved of runs and moves whatever the matcher does stands in laws.
 #![tactic(auto)]
 
 mod all_runs;
+mod binding;
 mod completing;
 mod found;
 mod handling;
 mod laws;
+mod leaving;
 mod matcher;
 mod moves;
+mod offer;
 mod run;
 mod settling;
+mod starting;
 mod taking;
 mod turns;
 mod wanting;

@@ -2,18 +2,18 @@ ghost use Rattle.std.specs.Prelude.{◌≡◌, ℕ, ◌+◌, ◌^◌, ◌<◌, t
 ghost use Rattle.std.specs.Arc.{arc_value};
 ghost use Rattle.sp_plan.specs.Compiled.{IsCompiled};
 ghost use Rattle.sp_plan.specs.Events.{fits};
-ghost use Rattle.sp_plan.specs.Runs.{State, handle};
-ghost use Rattle.sp_plan.specs.Moves as definitions;
-ghost use Rattle.sp_match.specs.Event as handling;
-ghost use Rattle.sp_match.specs.Laws.{Below};
-ghost use Rattle.sp_match.specs.Seen.{seen, seen_run};
+ghost use Rattle.sp_match.specs.inside.Handling as handling;
+ghost use Rattle.sp_match.specs.public.Laws.{Below};
+ghost use Rattle.sp_match.specs.public.Seen.{all_seen, seen_run};
 
 use crate::Memory;
-use crate::all_runs::{abandon_all, copies, same_runs};
+use crate::all_runs::{copies, same_runs};
+use crate::handling::handle_all;
+use crate::leaving::abandon_all;
 use crate::moves::Moves;
+use crate::offer::Offer;
 use crate::run::Run;
 use crate::settling::{settle, undo};
-use crate::turns::handle_all;
 use crate::wanting::left;
 use sp_plan::{Event, Plan, fitting_events_are_small, plans_are_themselves};
 use std::alloc::Global;
@@ -34,7 +34,7 @@ pub struct Matcher {
 impl Model for Matcher {
     ghost use Rattle.std.specs.Prelude.{map};
     ghost use Rattle.std.specs.Arc.{arc_value};
-    ghost use Rattle.sp_match.specs.Matching.{Matching};
+    ghost use Rattle.sp_match.specs.public.Matching.{Matching};
 
     ghost Value = { Matching };
 
@@ -44,12 +44,16 @@ impl Model for Matcher {
 
     ghost coded = { Prim.hlevel (codes, expr.the_row.coded, pred.the_row.coded) };
 
-    ghost use Rattle.sp_match.specs.Kept.{kept, started};
-    ghost use Rattle.sp_match.specs.Keeping.{IsKept};
+    ghost use Rattle.sp_match.specs.inside.Kept.{all_kept, started};
+    ghost use Rattle.sp_match.specs.inside.Keeping.{IsKept};
 
-    ghost view = { λ m. record { plan = arc_value m.plan; open_runs = map started (map kept m.runs.items); started = m.count } };
+    ghost view = { λ m. record {
+      plan = arc_value m.plan;
+      open_runs = map started (all_kept m.runs.items);
+      started = m.count;
+    } };
 
-    ghost invariant = { λ m. IsKept (arc_value m.plan) m.count (map kept m.runs.items) };
+    ghost invariant = { λ m. IsKept (arc_value m.plan) m.count (all_kept m.runs.items) };
 }
 
 // How many runs have started, where one more may have.
@@ -62,7 +66,7 @@ fn count_after(count: u32, began: bool) -> u32
 
 impl Matcher {
     ghost use Rattle.sp_plan.specs.Compiled.{IsCompiled};
-    ghost use Rattle.sp_match.specs.Matching.{SameMatching, Stands, runs_of, shown};
+    ghost use Rattle.sp_match.specs.public.Matching.{IsAfter, SameMatching, SameRuns, TellsClosing, TellsEvent, TellsWanted, left_at, runs_of, shown};
 
     /// No run is open, and none has started. Takes no memory.
     pub fn new(alloc: Global, plan: Arc<Plan>) -> Result<Matcher, Memory>
@@ -98,7 +102,7 @@ impl Matcher {
 
     /// Handles the next visible event: the open runs are offered it, the oldest first, and then it may
     /// start one. The moves are cleared first, and tell of it then; their room is used again. After want
-    /// of memory the matcher is as before, and nothing is said of the moves.
+    /// of memory the matcher is as before, and there are no moves.
     pub fn offer_into(
         &mut self,
         alloc: Global,
@@ -108,25 +112,30 @@ impl Matcher {
     ) -> Result<(), Memory>
         requires fits { fits self.old.plan event.now ≡ true }
         requires below { Below number (runs_of self.old) }
-        ensures stands { OnOk result ((s : State) → Stands self.old s → Stands self.new (handle self.old.plan s (number, event.now))) }
-        ensures told { OnOk result ((s : State) → Stands self.old s
-            → map seen moves.new.list.items ≡ definitions.told self.old.plan s (definitions.moves self.old.plan s (number, event.now))) }
-        ensures wanted { OnOk result ((s : State) → Stands self.old s
-            → moves.new.wanted.items ≡ definitions.still_wanted self.old.plan s (definitions.moves self.old.plan s (number, event.now))) }
+        ensures stands { OnOk result (IsAfter (number, event.now) self.old self.new) }
+        ensures told { OnOk result
+            (TellsEvent (number, event.now) self.old (all_seen moves.new.list.items)) }
+        ensures wanted { OnOk result
+            (TellsWanted (number, event.now) self.old moves.new.wanted.items) }
         ensures below { OnOk result (Below (number + 1) (runs_of self.new)) }
         ensures plan { self.new.plan ≡ self.old.plan }
         ensures err { OnErr result (self.new ≡ self.old) }
+        ensures cleared { OnErr result
+            ((moves.new.list.items ≡ []) × (moves.new.wanted.items ≡ [])) }
     {
         fitting_events_are_small();
         let open = self.runs.len();
+        let offer = Offer {
+            plan: &self.plan,
+            number,
+            event,
+        };
         match handle_all(
             alloc,
-            &self.plan,
+            &offer,
             &mut self.runs,
             &mut self.lefts,
             self.count,
-            number,
-            event,
             moves,
         ) {
             Ok(started) => {
@@ -136,6 +145,7 @@ impl Matcher {
             }
             Err(memory) => {
                 undo(&mut self.runs, open);
+                moves.clear();
                 Err(memory)
             }
         }
@@ -145,11 +155,11 @@ impl Matcher {
     pub fn offer(&mut self, alloc: Global, number: u32, event: &Event) -> Result<Moves, Memory>
         requires fits { fits self.old.plan event.now ≡ true }
         requires below { Below number (runs_of self.old) }
-        ensures stands { OnOk result ((s : State) → Stands self.old s → Stands self.new (handle self.old.plan s (number, event.now))) }
-        ensures told { IfOk result (λ moves. (s : State) → Stands self.old s
-            → map seen moves.list.items ≡ definitions.told self.old.plan s (definitions.moves self.old.plan s (number, event.now))) }
-        ensures wanted { IfOk result (λ moves. (s : State) → Stands self.old s
-            → moves.wanted.items ≡ definitions.still_wanted self.old.plan s (definitions.moves self.old.plan s (number, event.now))) }
+        ensures stands { OnOk result (IsAfter (number, event.now) self.old self.new) }
+        ensures told { IfOk result
+            (λ moves. TellsEvent (number, event.now) self.old (all_seen moves.list.items)) }
+        ensures wanted { IfOk result
+            (λ moves. TellsWanted (number, event.now) self.old moves.wanted.items) }
         ensures below { OnOk result (Below (number + 1) (runs_of self.new)) }
         ensures plan { self.new.plan ≡ self.old.plan }
         ensures err { OnErr result (self.new ≡ self.old) }
@@ -163,7 +173,7 @@ impl Matcher {
     /// name that it hasn't bound.
     pub fn left(&self, place: u32) -> u32
         requires { place < length self.now.open_runs }
-        ensures { result ≡ definitions.left self.now.plan (slice_index_or self.now.open_runs place (0, [])).1 }
+        ensures { result ≡ left_at self.now place }
     {
         left(&self.plan, &self.runs[place as usize])
     }
@@ -174,7 +184,8 @@ impl Matcher {
         ensures none { OnOk result (self.new.open_runs ≡ []) }
         ensures count { self.new.started ≡ self.old.started }
         ensures plan { self.new.plan ≡ self.old.plan }
-        ensures told { IfOk result (λ moves. (s : State) → Stands self.old s → map seen moves.list.items ≡ definitions.told self.old.plan s (definitions.closing s)) }
+        ensures told { IfOk result
+            (λ moves. TellsClosing self.old (all_seen moves.list.items)) }
         ensures wanted { IfOk result (λ moves. moves.wanted.items ≡ []) }
         ensures err { OnErr result (self.new ≡ self.old) }
     {
@@ -199,8 +210,9 @@ impl Matcher {
     /// Whether both have the same open runs, with equal events, and as many runs have started. The plans
     /// are not compared: where both share theirs, the matchers are equal then. Takes no memory.
     pub fn same_runs(&self, other: &Matcher) -> bool
-        ensures same { IsTrue result ↔ ((self.now.open_runs ≡ other.now.open_runs) × (self.now.started ≡ other.now.started)) }
-        ensures shared { self.now.plan ≡ other.now.plan → IsTrue result ↔ (self.now ≡ other.now) }
+        ensures same { IsTrue result ↔ SameRuns self.now other.now }
+        ensures shared { self.now.plan ≡ other.now.plan
+            → IsTrue result ↔ (self.now ≡ other.now) }
     {
         if self.count != other.count {
             return false;
@@ -213,7 +225,8 @@ impl Matcher {
     /// compared whole, at each call; `same_runs` leaves them out.
     pub fn same(&self, other: &Matcher) -> bool
         ensures same { IsTrue result ↔ SameMatching self.now other.now }
-        ensures shared { self.now.plan ≡ other.now.plan → IsTrue result ↔ (self.now ≡ other.now) }
+        ensures shared { self.now.plan ≡ other.now.plan
+            → IsTrue result ↔ (self.now ≡ other.now) }
     {
         plans_are_themselves();
         if !self.same_runs(other) {

@@ -51,4 +51,13 @@ impl Moves {
             wanted: Vec::new(alloc),
         }
     }
+
+    /// Forgets all moves. The rooms are kept, and no memory is taken.
+    pub fn clear(&mut self)
+        ensures list { self.new.list.items ≡ [] }
+        ensures wanted { self.new.wanted.items ≡ [] }
+    {
+        self.list.clear();
+        self.wanted.clear();
+    }
 }

@@ -2,8 +2,8 @@
 ghost use Rattle.std.specs.Prelude.{◌≡◌, ℕ, ◌<◌, ◌-◌, not, [], IfOk, OnOk, OnErr, slice_index_or, false};
 ghost use Rattle.std.specs.List.{All, list_any};
 ghost use Rattle.sp_base.specs.Numbers.{has};
-ghost use Rattle.sp_match.specs.Tally.{is_leaving};
-ghost use Rattle.sp_match.specs.Kept.{kept, stays, empty, grown, before, CanGrow, CanUndo};
+ghost use Rattle.sp_match.specs.inside.Tally.{is_leaving};
+ghost use Rattle.sp_match.specs.inside.Kept.{kept, stays, empty, grown, before, CanGrow, CanUndo};
 
 use crate::Memory;
 use sp_base::Numbers;
@@ -98,7 +98,8 @@ impl Run {
         event: &Event,
     ) -> Result<(), Memory>
         requires { CanGrow name number (kept self.old) }
-        ensures grown { OnOk result (kept self.new ≡ grown name consumed number event.now (kept self.old)) }
+        ensures grown { OnOk result
+            (kept self.new ≡ grown name consumed number event.now (kept self.old)) }
         ensures err { OnErr result (kept self.new ≡ kept self.old) }
     {
         self.bound.reserve(1)?;

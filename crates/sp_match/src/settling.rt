@@ -2,10 +2,10 @@
 ghost use Rattle.std.specs.Prelude.{◌≡◌, filter, map, take};
 ghost use Rattle.std.specs.List.{All};
 ghost use Rattle.sp_plan.specs.Compiled.{IsCompiled};
-ghost use Rattle.sp_match.specs.Kept.{kept, started, before, stays, CanUndo};
-ghost use Rattle.sp_match.specs.Good.{Good};
-ghost use Rattle.sp_match.specs.Going.{IsIdle};
-ghost use Rattle.sp_match.specs.Handled.{open_runs};
+ghost use Rattle.sp_match.specs.inside.Kept.{kept, all_kept, started, before, stays, CanUndo};
+ghost use Rattle.sp_match.specs.inside.Good.{Good};
+ghost use Rattle.sp_match.specs.inside.Going.{IsIdle};
+ghost use Rattle.sp_match.specs.inside.Effects.{open_runs};
 ghost use Rattle.sp_match.specs.declared.run.Turn.TheVariants.{Idle};
 
 use crate::run::{Run, Turn};
@@ -14,8 +14,8 @@ use sp_plan::Plan;
 
 /// The runs are as before the event at hand, where so many were there then.
 pub(crate) fn undo(runs: &mut Vec<Run>, count: usize)
-    requires { All CanUndo (take count (map kept runs.old.items)) }
-    ensures { map kept runs.new.items ≡ map before (take count (map kept runs.old.items)) }
+    requires { All CanUndo (take count (all_kept runs.old.items)) }
+    ensures { all_kept runs.new.items ≡ map before (take count (all_kept runs.old.items)) }
 {
     runs.truncate(count);
     for run in runs.iter_mut() {
@@ -48,10 +48,10 @@ fn drop_leaving(runs: &mut Vec<Run>)
 /// The runs that stay go on, and the others are dropped.
 pub(crate) fn settle(plan: &Plan, runs: &mut Vec<Run>)
     requires compiled { IsCompiled plan.now }
-    requires good { All (Good plan.now) (map kept runs.old.items) }
-    ensures runs { map started (map kept runs.new.items) ≡ open_runs (map kept runs.old.items) }
-    ensures good { All (Good plan.now) (map kept runs.new.items) }
-    ensures idle { All IsIdle (map kept runs.new.items) }
+    requires good { All (Good plan.now) (all_kept runs.old.items) }
+    ensures runs { map started (all_kept runs.new.items) ≡ open_runs (all_kept runs.old.items) }
+    ensures good { All (Good plan.now) (all_kept runs.new.items) }
+    ensures idle { All IsIdle (all_kept runs.new.items) }
 {
     drop_leaving(runs);
     for run in runs.iter_mut() {

@@ -6,8 +6,9 @@ ghost use Rattle.sp_plan.specs.Bounds.{IsSmall};
 ghost use Rattle.sp_plan.specs.Compiled.{IsCompiled};
 ghost use Rattle.sp_plan.specs.Runs;
 ghost use Rattle.sp_plan.specs.Runs.{is_bound, is_plus, names_of, name_holds, unbound};
-ghost use Rattle.sp_match.specs.Kept.{kept, pairs};
-ghost use Rattle.sp_match.specs.Good.{Good, IsNamed};
+ghost use Rattle.sp_match.specs.inside.Kept.{kept, pairs};
+ghost use Rattle.sp_match.specs.inside.Good.{Good, IsNamed};
+ghost use Rattle.sp_match.specs.inside.Taking.{next_element, held_of, held_again, repeated};
 
 use crate::run::Run;
 use sp_plan::{Element, Event, Plan, holds};
@@ -66,7 +67,7 @@ fn is_filled(run: &Run, element: Element) -> bool
 fn first_unfilled(plan: &Plan, run: &Run) -> Option<Element>
     requires compiled { IsCompiled plan.now }
     requires good { Good plan.now (kept run.now) }
-    ensures first { result ≡ find (λ element. not (Runs.is_filled (pairs (kept run.now)) element)) plan.now.elements }
+    ensures first { result ≡ next_element plan.now (pairs (kept run.now)) }
     ensures named { IfSome result IsNamed }
 {
     let elements = plan.elements.as_slice();
@@ -83,7 +84,8 @@ pub(crate) fn filled_front(plan: &Plan, run: &Run) -> usize
     requires compiled { IsCompiled plan.now }
     requires good { Good plan.now (kept run.now) }
     ensures within { result ≤ length plan.now.elements }
-    ensures filled { list_all (Runs.is_filled (pairs (kept run.now))) (take result plan.now.elements) ≡ true }
+    ensures filled { list_all (Runs.is_filled (pairs (kept run.now)))
+        (take result plan.now.elements) ≡ true }
 {
     let elements = plan.elements.as_slice();
     for i in run.filled..elements.len() {
@@ -109,7 +111,8 @@ fn takes_anew(plan: &Plan, run: &Run, event: &Event, name: u8) -> bool
     requires good { Good plan.now (kept run.now) }
     requires small { IsSmall event.now }
     requires named { name < 32 }
-    ensures { result ≡ (not (is_bound (pairs (kept run.now)) name) && name_holds plan.now (pairs (kept run.now)) event.now name) }
+    ensures { result ≡ (not (is_bound (pairs (kept run.now)) name)
+        && name_holds plan.now (pairs (kept run.now)) event.now name) }
 {
     !has(run, name) && fits_name(plan, run, event, name)
 }
@@ -120,7 +123,7 @@ fn lacking(plan: &Plan, run: &Run, event: &Event, element: Element) -> Option<u8
     requires good { Good plan.now (kept run.now) }
     requires small { IsSmall event.now }
     requires named { IsNamed element }
-    ensures { result ≡ find (name_holds plan.now (pairs (kept run.now)) event.now) (unbound (pairs (kept run.now)) (Some element)) }
+    ensures { result ≡ held_of plan.now (pairs (kept run.now)) event.now (Some element) }
 {
     let (first, past) = span(element);
     for name in first..past {
@@ -156,7 +159,7 @@ fn takes_again(plan: &Plan, run: &Run, event: &Event, name: u8) -> Option<u8>
     requires compiled { IsCompiled plan.now }
     requires good { Good plan.now (kept run.now) }
     requires small { IsSmall event.now }
-    ensures { result ≡ (if list_any (is_plus name) plan.now.elements && name_holds plan.now (pairs (kept run.now)) event.now name then Some name else None) }
+    ensures { result ≡ repeated plan.now (pairs (kept run.now)) event.now name }
 {
     let may = repeats(plan, name) && fits_name(plan, run, event, name);
     if may { Some(name) } else { None }
@@ -167,7 +170,7 @@ fn once_more(plan: &Plan, run: &Run, event: &Event) -> Option<u8>
     requires compiled { IsCompiled plan.now }
     requires good { Good plan.now (kept run.now) }
     requires small { IsSmall event.now }
-    ensures { result ≡ find (name_holds plan.now (pairs (kept run.now)) event.now) (Runs.again plan.now.elements (last_or None (pairs (kept run.now)))) }
+    ensures { result ≡ held_again plan.now (pairs (kept run.now)) event.now }
 {
     match run.bound.last() {
         Some((name, _)) => takes_again(plan, run, event, *name),
@@ -181,7 +184,8 @@ fn onward(plan: &Plan, run: &Run, event: &Event) -> Option<u8>
     requires compiled { IsCompiled plan.now }
     requires good { Good plan.now (kept run.now) }
     requires small { IsSmall event.now }
-    ensures { result ≡ find (name_holds plan.now (pairs (kept run.now)) event.now) (unbound (pairs (kept run.now)) (find (λ element. not (Runs.is_filled (pairs (kept run.now)) element)) plan.now.elements)) }
+    ensures { result ≡ held_of plan.now (pairs (kept run.now)) event.now
+        (next_element plan.now (pairs (kept run.now))) }
 {
     match first_unfilled(plan, run) {
         Some(element) => lacking(plan, run, event, element),

@@ -3,9 +3,9 @@ ghost use Rattle.std.specs.Prelude.{◌≡◌, ◌≤◌, [], ◌++◌, length, 
 ghost use Rattle.std.specs.List.{All};
 ghost use Rattle.sp_plan.specs.Compiled.{IsCompiled};
 ghost use Rattle.sp_plan.specs.Moves as definitions;
-ghost use Rattle.sp_match.specs.Kept.{kept, pairs};
-ghost use Rattle.sp_match.specs.Good.{Good};
-ghost use Rattle.sp_match.specs.Wanted.{all_left, wanted_by, wanted_all};
+ghost use Rattle.sp_match.specs.inside.Kept.{kept, all_kept, pairs};
+ghost use Rattle.sp_match.specs.inside.Good.{Good};
+ghost use Rattle.sp_match.specs.inside.Wanted.{all_left, wanted_by, wanted_all};
 
 use crate::Memory;
 use crate::run::Run;
@@ -30,8 +30,8 @@ pub(crate) fn left(plan: &Plan, run: &Run) -> u32
 /// What each run wants; what stood there before is dropped.
 pub(crate) fn want_before(plan: &Plan, runs: &[Run], lefts: &mut Vec<u32>) -> Result<(), Memory>
     requires compiled { IsCompiled plan.now }
-    requires good { All (Good plan.now) (map kept runs.now) }
-    ensures { OnOk result (lefts.new.items ≡ all_left plan.now (map kept runs.now)) }
+    requires good { All (Good plan.now) (all_kept runs.now) }
+    ensures { OnOk result (lefts.new.items ≡ all_left plan.now (all_kept runs.now)) }
 {
     lefts.clear();
     for run in runs {
@@ -44,7 +44,8 @@ pub(crate) fn want_before(plan: &Plan, runs: &[Run], lefts: &mut Vec<u32>) -> Re
 fn want_one(plan: &Plan, before: u32, run: &Run, wanted: &mut Vec<(u32, u32)>) -> Result<(), Memory>
     requires compiled { IsCompiled plan.now }
     requires good { Good plan.now (kept run.now) }
-    ensures { OnOk result (wanted.new.items ≡ wanted.old.items ++ wanted_by plan.now (before, kept run.now)) }
+    ensures { OnOk result
+        (wanted.new.items ≡ wanted.old.items ++ wanted_by plan.now (before, kept run.now)) }
 {
     if run.leaves() {
         return Ok(());
@@ -61,10 +62,11 @@ pub(crate) fn want_after(
     wanted: &mut Vec<(u32, u32)>,
 ) -> Result<(), Memory>
     requires compiled { IsCompiled plan.now }
-    requires good { All (Good plan.now) (map kept runs.now) }
+    requires good { All (Good plan.now) (all_kept runs.now) }
     requires there { length lefts.now ≤ length runs.now }
     requires none { wanted.old.items ≡ [] }
-    ensures { OnOk result (wanted.new.items ≡ wanted_all plan.now lefts.now (take (length lefts.now) (map kept runs.now))) }
+    ensures { OnOk result (wanted.new.items
+        ≡ wanted_all plan.now lefts.now (take (length lefts.now) (all_kept runs.now))) }
 {
     for (at, before) in lefts.iter().enumerate() {
         want_one(plan, *before, &runs[at], wanted)?;

@@ -8,7 +8,7 @@ use Rattle.sp_plan.specs.declared.plan.Plan.{Plan}
 use Rattle.sp_plan.specs.Runs.{Pair, Started, State, is_among, after_closing}
 use Rattle.sp_plan.specs.Moves.{Move, apply, apply_all, moves, closing}
 use Rattle.sp_plan.specs.Reading.{event_of, after_event, read_one, reading}
-use Rattle.sp_match.specs.Laws.{Sound, Leads, Below, RunsAreSound, HandlingIsLawful, SeveralAreLawful, MovesAreHandling, MovesLeadOn, ClosingEndsRuns, NumbersStayBelow}
+use Rattle.sp_match.specs.public.Laws.{Sound, Leads, Below, RunsAreSound, HandlingIsLawful, SeveralAreLawful, MovesAreHandling, MovesLeadOn, ClosingEndsRuns, NumbersStayBelow}
 use Rattle.sp_rules.specs.Lawful.{ReadingsAreLawful}
 
 -- the moves of an event, where there is one

@@ -5,7 +5,7 @@ use Rattle.sp_plan.specs.declared.plan.Plan.{Plan}
 use Rattle.sp_plan.specs.Laws.{ReadingIsState}
 use Rattle.sp_plan.specs.Runs.{State, is_among, after_closing}
 use Rattle.sp_plan.specs.Reading.{reading}
-use Rattle.sp_match.specs.Laws.{is_open, is_matched, group, used_by_all, Sound, Leads, Below, RunsAreSound, HandlingIsLawful, SeveralAreLawful, MovesAreHandling, MovesLeadOn, ClosingEndsRuns, OpenHasNoMatch, CompletionsAreMatches, AbandonmentsAreTold}
+use Rattle.sp_match.specs.public.Laws.{is_open, is_matched, group, used_by_all, Sound, Leads, Below, RunsAreSound, HandlingIsLawful, SeveralAreLawful, MovesAreHandling, MovesLeadOn, ClosingEndsRuns, OpenHasNoMatch, CompletionsAreMatches, AbandonmentsAreTold}
 use Rattle.sp_window.specs.Laws.{GoodEvents, Holds, KeptByFeeding, ClosedFirst, FinishedStay, WindowsAreRead}
 
 -- Reading a window on, by the numbers of its events, keeps what the handling of one event keeps: run numbers are used once, what was

@@ -10,8 +10,8 @@ use Rattle.sp_plan.specs.Moves.{Told, CompletedTold}
 use Rattle.sp_base.specs.Numbers.{NumberList}
 use Rattle.sp_match.specs.declared.moves.Move.{Move}
 use Rattle.sp_match.specs.declared.moves.Move.TheVariants as m
-use Rattle.sp_match.specs.Laws.{is_completion}
-use Rattle.sp_match.specs.Seen.{seen}
+use Rattle.sp_match.specs.public.Laws.{is_completion}
+use Rattle.sp_match.specs.public.Seen.{seen}
 use Rattle.sp_seq.specs.Completed.{match_told, matches_told}
 use Rattle.sp_seq.proofs.Gathering.{told_append}
 

@@ -13,8 +13,8 @@ use Rattle.sp_plan.specs.Windows.{Numbered, numbered}
 use Rattle.sp_plan.specs.Runs.{Pair, Started, State, is_among, handle, state, fresh, matched_runs}
 use Rattle.sp_plan.specs.Moves.{Told, told, moves}
 use Rattle.sp_plan.specs.Sequential.{match_of}
-use Rattle.sp_match.specs.Laws.{RunsAreSound, CompletionsAreMatches, Below, completion, is_completion}
-use Rattle.sp_match.specs.Matching.{Matching, Stands, runs_of}
+use Rattle.sp_match.specs.public.Laws.{RunsAreSound, CompletionsAreMatches, Below, completion, is_completion}
+use Rattle.sp_match.specs.public.Matching.{Matching, Stands, runs_of}
 use Rattle.sp_seq.specs.Marked.{IsMarked}
 use Rattle.sp_seq.specs.Unconsumed.{unconsumed}
 use Rattle.sp_seq.specs.Completed.{match_told, matches_told, with_matches}

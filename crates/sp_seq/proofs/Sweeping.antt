@@ -9,7 +9,7 @@ use Rattle.sp_plan.specs.declared.found.Match.{Match}
 use Rattle.sp_plan.specs.Windows.{windows}
 use Rattle.sp_plan.specs.Runs.{Run, State, used, state, matched_runs}
 use Rattle.sp_plan.specs.Sequential.{seq, match_of, visible, after_window}
-use Rattle.sp_match.specs.Matching.{Matching}
+use Rattle.sp_match.specs.public.Matching.{Matching}
 use Rattle.sp_seq.specs.Marked.{IsMarked}
 use Rattle.sp_seq.specs.Unconsumed.{unconsumed}
 use Rattle.sp_seq.specs.Completed.{with_matches}

@@ -1,7 +1,7 @@
 // The matches of runs that completed.
 ghost use Rattle.std.specs.Prelude.{◌≡◌, ◌++◌, ◌+◌, map, filter, length, OnOk};
-ghost use Rattle.sp_match.specs.Laws.{is_completion};
-ghost use Rattle.sp_match.specs.Seen.{seen};
+ghost use Rattle.sp_match.specs.public.Laws.{is_completion};
+ghost use Rattle.sp_match.specs.public.Seen.{seen};
 ghost use Rattle.sp_seq.specs.Completed.{matches_told};
 
 use sp_match::{Move, match_of};

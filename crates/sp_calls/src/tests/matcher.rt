@@ -1,7 +1,7 @@
 // What events do to the runs of a window, and the matches of windows.
 ghost use Rattle.std.specs.Prelude.{◌≡◌, ◌+◌, ◌<◌, ◌^◌};
-ghost use Rattle.sp_match.specs.Laws.{Below};
-ghost use Rattle.sp_match.specs.Matching.{runs_of};
+ghost use Rattle.sp_match.specs.public.Laws.{Below};
+ghost use Rattle.sp_match.specs.public.Matching.{runs_of};
 
 use crate::tests::expect::{event, expect, plan_of};
 use sp_match::{Matcher, Move, Moves};

@@ -1,5 +1,5 @@
 use Rattle.std.proofs.Common.{◌≡◌, map, take}
-use Rattle.sp_match.specs.Kept.{kept}
+use Rattle.sp_match.specs.inside.Kept.{kept}
 use Rattle.sp_match.proofs.all_runs.copies.Given as goal
 
 abbrev pub invariant-loop-run : goal.invariant-loop-run

@@ -2,9 +2,9 @@ use Rattle.std.proofs.Common.{◌≡◌, true, false, map, sym, ap, ◌∙◌}
 use Rattle.std.specs.Prelude.{IsTrue}
 use Rattle.std.specs.List.{zip}
 use Rattle.sp_plan.specs.Runs.{Started, bound_events}
-use Rattle.sp_match.specs.Kept.{Kept, kept, pair_of, started}
-use Rattle.sp_match.proofs.Pairs.{events_of}
-use Rattle.sp_match.proofs.Offering.{bound_of}
+use Rattle.sp_match.specs.inside.Kept.{Kept, kept, pair_of, started}
+use Rattle.sp_match.proofs.PairsOfRuns.{events_of}
+use Rattle.sp_match.proofs.MatcherAfterEvent.{bound_of}
 use Rattle.sp_match.proofs.all_runs.same_run.Goals as goal
 
 -- equal runs have equal parts

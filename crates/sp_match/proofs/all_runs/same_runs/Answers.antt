@@ -3,9 +3,9 @@ use Rattle.std.proofs.lemmas.Grind.{common_steps}
 use Rattle.std.proofs.lemmas.List.{get_or-map, length-map}
 use Rattle.sp_plan.specs.Runs.{Started}
 use Rattle.sp_match.specs.declared.run.Run.{Run}
-use Rattle.sp_match.specs.Kept.{empty, kept, started}
-use Rattle.sp_match.specs.Good.{Good}
-use Rattle.sp_match.proofs.Undoing.{good_here}
+use Rattle.sp_match.specs.inside.Kept.{empty, kept, started}
+use Rattle.sp_match.specs.inside.Good.{Good}
+use Rattle.sp_match.proofs.RunsUndo.{good_here}
 use Rattle.sp_match.proofs.all_runs.same_runs.Goals as goal
 
 -- the run at a place, as the definitions have it

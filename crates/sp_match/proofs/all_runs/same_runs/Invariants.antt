@@ -1,5 +1,5 @@
 use Rattle.std.proofs.Common.{◌≡◌, map, take}
-use Rattle.sp_match.specs.Kept.{kept, started}
+use Rattle.sp_match.specs.inside.Kept.{kept, started}
 use Rattle.sp_match.proofs.all_runs.same_runs.Given as goal
 
 abbrev pub invariant-loop-at : goal.invariant-loop-at

@@ -2,8 +2,8 @@ use Rattle.std.proofs.Common.{◌≡◌, ℕ, ◌<◌, ◌≤◌, List, [], ◌�
 use Rattle.std.specs.List.{All, range_with_len}
 use Rattle.std.proofs.lemmas.List.{get_or_default, get_or-map, length-map, map-set, take_all, take_more}
 use Rattle.std.proofs.lemmas.List.FromFn.{length-map-range_with_len, get_or-map-range_with_len}
-use Rattle.sp_match.specs.Seen.{seen_name}
-use Rattle.sp_match.proofs.Lists.{named_under, under, under_more, under_below, bindings_under}
+use Rattle.sp_match.specs.public.Seen.{seen_name}
+use Rattle.sp_match.proofs.NumbersGathered.{named_under, under, under_more, under_below, bindings_under}
 use Rattle.sp_match.proofs.completing.bound_numbers.Goals as goal
 
 -- the pair at hand

@@ -1,7 +1,7 @@
 use Rattle.std.proofs.Common.{◌≡◌, map, length, take}
 use Rattle.std.specs.List.{range_with_len}
-use Rattle.sp_match.specs.Seen.{seen_name}
-use Rattle.sp_match.proofs.Lists.{named_under}
+use Rattle.sp_match.specs.public.Seen.{seen_name}
+use Rattle.sp_match.proofs.NumbersGathered.{named_under}
 use Rattle.sp_match.proofs.completing.bound_numbers.Given as goal
 
 abbrev pub invariant-loop-name : goal.invariant-loop-name

@@ -1,8 +1,8 @@
 use Rattle.std.proofs.Common.{◌≡◌, ℕ, ◌+◌, List, [], ◌∷◌, ◌++◌, map, sym, ap, ◌∙◌, arith}
 use Rattle.std.specs.List.{range_with_len}
 use Rattle.std.proofs.lemmas.List.{map_push}
-use Rattle.sp_match.specs.Seen.{seen_name}
-use Rattle.sp_match.proofs.Finds.{range_push}
+use Rattle.sp_match.specs.public.Seen.{seen_name}
+use Rattle.sp_match.proofs.Searches.{range_push}
 use Rattle.sp_match.proofs.completing.no_numbers.Goals as goal
 
 pub loop-name-preserved : goal.loop-name-preserved

@@ -1,5 +1,5 @@
 use Rattle.std.proofs.Common.{◌≡◌, map, take}
-use Rattle.sp_match.specs.Seen.{seen_name}
+use Rattle.sp_match.specs.public.Seen.{seen_name}
 use Rattle.sp_match.proofs.found.bound_places.Given as goal
 
 abbrev pub invariant-loop-name : goal.invariant-loop-name

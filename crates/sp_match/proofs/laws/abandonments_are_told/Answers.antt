@@ -1,4 +1,4 @@
-use Rattle.sp_match.proofs.Abandonments.{abandonments_are_told}
+use Rattle.sp_match.proofs.AbandonmentsAreTold.{abandonments_are_told}
 use Rattle.sp_match.proofs.laws.abandonments_are_told.Goals as goal
 
 pub returns : goal.returns

@@ -1,4 +1,4 @@
-use Rattle.sp_match.proofs.Closing.{closing_ends_runs}
+use Rattle.sp_match.proofs.ClosingEndsRuns.{closing_ends_runs}
 use Rattle.sp_match.proofs.laws.closing_ends_runs.Goals as goal
 
 pub returns : goal.returns

@@ -1,5 +1,5 @@
-use Rattle.sp_match.proofs.Completions.{completions_are_matches}
-use Rattle.sp_match.proofs.Orders.{ordered_rises}
+use Rattle.sp_match.proofs.CompletionsAreMatches.{completions_are_matches}
+use Rattle.sp_match.proofs.MovesAreHandling.{ordered_rises}
 use Rattle.sp_match.proofs.laws.completions_are_matches.Goals as goal
 
 pub returns : goal.returns

@@ -1,4 +1,4 @@
-use Rattle.sp_match.proofs.Leading.{handling_is_lawful}
+use Rattle.sp_match.proofs.MovesLeadOn.{handling_is_lawful}
 use Rattle.sp_match.proofs.laws.handling_is_lawful.Goals as goal
 
 pub returns : goal.returns

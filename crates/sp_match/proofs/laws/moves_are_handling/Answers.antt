@@ -1,4 +1,4 @@
-use Rattle.sp_match.proofs.Orders.{moves_are_handling}
+use Rattle.sp_match.proofs.MovesAreHandling.{moves_are_handling}
 use Rattle.sp_match.proofs.laws.moves_are_handling.Goals as goal
 
 pub returns : goal.returns

@@ -1,4 +1,4 @@
-use Rattle.sp_match.proofs.Leading.{moves_lead_on}
+use Rattle.sp_match.proofs.MovesLeadOn.{moves_lead_on}
 use Rattle.sp_match.proofs.laws.moves_lead_on.Goals as goal
 
 pub returns : goal.returns

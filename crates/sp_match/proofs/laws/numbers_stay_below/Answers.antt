@@ -1,4 +1,4 @@
-use Rattle.sp_match.proofs.Below.{numbers_stay_below}
+use Rattle.sp_match.proofs.NumbersStayBelow.{numbers_stay_below}
 use Rattle.sp_match.proofs.laws.numbers_stay_below.Goals as goal
 
 pub returns : goal.returns

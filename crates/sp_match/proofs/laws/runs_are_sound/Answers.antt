@@ -1,4 +1,4 @@
-use Rattle.sp_match.proofs.Counts.{runs_are_sound}
+use Rattle.sp_match.proofs.RunsAreSound.{runs_are_sound}
 use Rattle.sp_match.proofs.laws.runs_are_sound.Goals as goal
 
 pub returns : goal.returns

@@ -1,4 +1,4 @@
-use Rattle.sp_match.proofs.Several.{several_are_lawful}
+use Rattle.sp_match.proofs.SeveralAreLawful.{several_are_lawful}
 use Rattle.sp_match.proofs.laws.several_are_lawful.Goals as goal
 
 pub returns : goal.returns

@@ -1,6 +1,6 @@
 use Rattle.std.proofs.Common.{rules}
 use Rattle.std.proofs.lemmas.Fn.{filter_same}
-use Rattle.sp_match.specs.Kept.{stays}
+use Rattle.sp_match.specs.inside.Kept.{stays}
 use Rattle.sp_match.proofs.settling.drop_leaving.Goals as goal
 
 pub returns : goal.returns

@@ -6,9 +6,9 @@ use Rattle.sp_match.specs.declared.run.Run.{Run}
 use Rattle.sp_match.specs.declared.run.Turn.TheVariants.{Idle}
 use Rattle.sp_match.specs.declared.run.Fate.{Fate}
 use Rattle.sp_match.specs.declared.run.Fate.TheVariants.{Stays, Completes, Leaves}
-use Rattle.sp_match.specs.Kept.{Kept, empty, kept, started, stays}
-use Rattle.sp_match.specs.Good.{Good}
-use Rattle.sp_match.specs.Going.{IsIdle}
+use Rattle.sp_match.specs.inside.Kept.{Kept, empty, kept, started, stays}
+use Rattle.sp_match.specs.inside.Good.{Good}
+use Rattle.sp_match.specs.inside.Going.{IsIdle}
 use Rattle.sp_match.proofs.settling.settle.Goals as goal
 
 kept_filter : (rs : List Run) → map kept (filter (λ run. stays run.fate) rs) ≡ filter (λ k. stays k.fate) (map kept rs)

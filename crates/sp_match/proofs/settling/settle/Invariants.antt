@@ -2,8 +2,8 @@ use Rattle.std.proofs.Common.{◌≡◌, map, take}
 use Rattle.std.specs.List.{All}
 use Rattle.sp_match.specs.declared.run.Turn.TheVariants.{Idle}
 use Rattle.sp_match.specs.declared.run.Fate.TheVariants.{Stays}
-use Rattle.sp_match.specs.Kept.{kept, started}
-use Rattle.sp_match.specs.Good.{Good}
+use Rattle.sp_match.specs.inside.Kept.{kept, started}
+use Rattle.sp_match.specs.inside.Good.{Good}
 use Rattle.sp_match.proofs.settling.settle.Given as goal
 
 abbrev pub invariant-loop-run : goal.invariant-loop-run

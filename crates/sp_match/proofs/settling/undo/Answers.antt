@@ -3,8 +3,8 @@ use Rattle.std.specs.List.{All}
 use Rattle.std.proofs.lemmas.List.{append-nil, drop_all, get_or-map, length-map, map-set, take-map, take_all, take_at}
 use Rattle.std.proofs.lemmas.List.Edits.{map_over_more}
 use Rattle.std.proofs.lemmas.List.Elements.{All-get_or}
-use Rattle.sp_match.specs.Kept.{CanUndo, before, kept}
-use Rattle.sp_match.proofs.Marking.{over_at}
+use Rattle.sp_match.specs.inside.Kept.{CanUndo, before, kept}
+use Rattle.sp_match.proofs.RunsAfterUse.{over_at}
 use Rattle.sp_match.proofs.settling.undo.Goals as goal
 
 pub undo-requires : goal.undo-requires

@@ -1,5 +1,5 @@
 use Rattle.std.proofs.Common.{◌≡◌, ◌++◌, map, take, drop}
-use Rattle.sp_match.specs.Kept.{before, kept}
+use Rattle.sp_match.specs.inside.Kept.{before, kept}
 use Rattle.sp_match.proofs.settling.undo.Given as goal
 
 abbrev pub invariant-loop-run : goal.invariant-loop-run

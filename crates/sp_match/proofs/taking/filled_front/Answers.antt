@@ -3,8 +3,8 @@ use Rattle.std.proofs.lemmas.Grind.{common_steps}
 use Rattle.std.specs.List.{All}
 use Rattle.std.proofs.lemmas.List.Elements.{All-get_or}
 use Rattle.sp_plan.specs.declared.plan.Element.TheVariants.{One}
-use Rattle.sp_match.specs.Good.{IsNamed}
-use Rattle.sp_match.proofs.Named.{elements_named}
+use Rattle.sp_match.specs.inside.Good.{IsNamed}
+use Rattle.sp_match.proofs.ElementsAreNamed.{elements_named}
 use Rattle.sp_match.proofs.taking.filled_front.Goals as goal
 
 pub is_filled-requires-clause-named : goal.is_filled-requires-clause-named

@@ -1,7 +1,7 @@
 use Rattle.std.proofs.Common.{◌≡◌, take, true}
 use Rattle.std.specs.List.{list_all}
 use Rattle.sp_plan.specs.Runs.{is_filled}
-use Rattle.sp_match.specs.Kept.{kept, pairs}
+use Rattle.sp_match.specs.inside.Kept.{kept, pairs}
 use Rattle.sp_match.proofs.taking.filled_front.Given as goal
 
 abbrev pub invariant-loop-i : goal.invariant-loop-i

@@ -4,10 +4,10 @@ use Rattle.std.specs.List.{All, find}
 use Rattle.std.proofs.lemmas.List.Elements.{All-get_or}
 use Rattle.sp_plan.specs.declared.plan.Element.TheVariants.{One}
 use Rattle.sp_plan.specs.Runs.{is_filled}
-use Rattle.sp_match.specs.Kept.{kept, pairs}
-use Rattle.sp_match.specs.Good.{IsNamed}
-use Rattle.sp_match.proofs.Finds.{found_none, found_more, found_here}
-use Rattle.sp_match.proofs.Named.{elements_named}
+use Rattle.sp_match.specs.inside.Kept.{kept, pairs}
+use Rattle.sp_match.specs.inside.Good.{IsNamed}
+use Rattle.sp_match.proofs.Searches.{found_none, found_more, found_here}
+use Rattle.sp_match.proofs.ElementsAreNamed.{elements_named}
 use Rattle.sp_match.proofs.taking.first_unfilled.Goals as goal
 
 pub loop-i-init : goal.loop-i-init

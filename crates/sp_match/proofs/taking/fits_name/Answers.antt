@@ -3,8 +3,8 @@ use Rattle.std.specs.Prelude.{slice_get}
 use Rattle.std.proofs.lemmas.Option.{slice_get_read, slice_get_past}
 use Rattle.sp_plan.specs.Values.{holds}
 use Rattle.sp_plan.specs.Runs.{fits_name}
-use Rattle.sp_match.specs.Kept.{kept, pairs}
-use Rattle.sp_match.proofs.Pairs.{events_of}
+use Rattle.sp_match.specs.inside.Kept.{kept, pairs}
+use Rattle.sp_match.proofs.PairsOfRuns.{events_of}
 use Rattle.sp_match.proofs.taking.fits_name.Goals as goal
 
 pub returns-in-Some : goal.returns-in-Some

@@ -2,8 +2,8 @@ use Rattle.std.proofs.Common.{◌≡◌, Bool, true, false, not, Option, Some, N
 use Rattle.std.specs.Prelude.{is_none, is_some}
 use Rattle.sp_plan.specs.declared.plan.Element.{Element}
 use Rattle.sp_plan.specs.Runs.{is_filled}
-use Rattle.sp_match.specs.Kept.{kept, pairs}
-use Rattle.sp_match.proofs.Finds.{all_or_found}
+use Rattle.sp_match.specs.inside.Kept.{kept, pairs}
+use Rattle.sp_match.proofs.Searches.{all_or_found}
 use Rattle.sp_match.proofs.taking.is_complete.Goals as goal
 
 is_it_none : (b : Bool) (o : Option Element) → not b ≡ is_some o → b ≡ is_none o

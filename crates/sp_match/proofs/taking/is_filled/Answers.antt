@@ -1,8 +1,8 @@
 use Rattle.std.proofs.Common.{◌≡◌, ◌+◌, ◌-◌, true, false, sym, ap, ◌∙◌, arith, rules}
 use Rattle.std.specs.List.{list_all, range_with_len}
 use Rattle.sp_plan.specs.Runs.{is_bound}
-use Rattle.sp_match.specs.Kept.{kept, pairs}
-use Rattle.sp_match.proofs.Finds.{range_at, range_push, all_more, all_not}
+use Rattle.sp_match.specs.inside.Kept.{kept, pairs}
+use Rattle.sp_match.proofs.Searches.{range_at, range_push, all_more, all_not}
 use Rattle.sp_match.proofs.taking.is_filled.Goals as goal
 
 pub returns-then-not-has : goal.returns-then-not-has

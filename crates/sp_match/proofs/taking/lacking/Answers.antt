@@ -1,8 +1,8 @@
 use Rattle.std.proofs.Common.{◌≡◌, ℕ, ◌+◌, ◌-◌, ◌&&◌, [], ◌∷◌, ◌++◌, true, false, not, Some, None, sym, ap, ◌∙◌, arith, rules}
 use Rattle.std.specs.List.{find, filter, range_with_len}
 use Rattle.sp_plan.specs.Runs.{is_bound, name_holds}
-use Rattle.sp_match.specs.Kept.{kept, pairs}
-use Rattle.sp_match.proofs.Finds.{range_at, range_push, find_filter, found_next, fails_next}
+use Rattle.sp_match.specs.inside.Kept.{kept, pairs}
+use Rattle.sp_match.proofs.Searches.{range_at, range_push, find_filter, found_next, fails_next}
 use Rattle.sp_match.proofs.taking.lacking.Goals as goal
 
 pub returns-then-takes_anew : goal.returns-then-takes_anew

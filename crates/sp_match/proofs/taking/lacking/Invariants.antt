@@ -1,7 +1,7 @@
 use Rattle.std.proofs.Common.{◌≡◌, ◌-◌, not, None}
 use Rattle.std.specs.List.{find, filter, range_with_len}
 use Rattle.sp_plan.specs.Runs.{is_bound, name_holds}
-use Rattle.sp_match.specs.Kept.{kept, pairs}
+use Rattle.sp_match.specs.inside.Kept.{kept, pairs}
 use Rattle.sp_match.proofs.taking.lacking.Given as goal
 
 abbrev pub invariant-loop-name : goal.invariant-loop-name

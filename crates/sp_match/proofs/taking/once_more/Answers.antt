@@ -2,8 +2,8 @@ use Rattle.std.proofs.Common.{◌≡◌, ◌-◌, length, Some, None, refl, sym,
 use Rattle.std.specs.Prelude.{slice_get, option_map}
 use Rattle.std.specs.List.{last_or}
 use Rattle.sp_plan.specs.Runs.{name_holds}
-use Rattle.sp_match.specs.Kept.{kept, pairs}
-use Rattle.sp_match.proofs.Pairs.{last_name, last_at, again_none, again_found}
+use Rattle.sp_match.specs.inside.Kept.{kept, pairs}
+use Rattle.sp_match.proofs.PairsOfRuns.{last_name, last_at, again_none, again_found}
 use Rattle.sp_match.proofs.taking.once_more.Goals as goal
 
 pub returns-in-Some : goal.returns-in-Some

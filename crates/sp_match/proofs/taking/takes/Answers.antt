@@ -3,7 +3,7 @@ use Rattle.std.specs.Option.{option_or}
 use Rattle.std.specs.List.{find, last_or}
 use Rattle.std.proofs.lemmas.List.Folds.{find-append}
 use Rattle.sp_plan.specs.Runs.{again, is_filled, name_holds, unbound}
-use Rattle.sp_match.specs.Kept.{kept, pairs}
+use Rattle.sp_match.specs.inside.Kept.{kept, pairs}
 use Rattle.sp_match.proofs.taking.takes.Goals as goal
 
 pub returns-in-Some : goal.returns-in-Some

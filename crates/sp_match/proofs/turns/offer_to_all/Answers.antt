@@ -1,24 +1,23 @@
-use Rattle.std.proofs.Common.{◌≡◌, ℕ, ◌<◌, Bool, List, map, length, refl, sym, ap, subst, arith}
+use Rattle.std.proofs.Common.{◌≡◌, ℕ, ◌<◌, List, map, length, refl, sym, ap, subst, arith}
 use Rattle.std.proofs.lemmas.List.{length-map}
 use Rattle.sp_plan.specs.Windows.{Numbered}
 use Rattle.sp_plan.specs.Moves.{Told}
-use Rattle.sp_match.specs.Kept.{kept}
-use Rattle.sp_match.specs.Seen.{seen}
-use Rattle.sp_match.specs.Turn.{IsTurn}
-use Rattle.sp_match.specs.Going.{Going, standing}
-use Rattle.sp_match.specs.declared.handling.Reception.TheVariants.{Passed}
-use Rattle.sp_match.proofs.Undoing.{all_stay, undoes_on}
-use Rattle.sp_match.proofs.Further.{below_at_hand, going_more, going_start, idle_at_hand}
+use Rattle.sp_match.specs.inside.Kept.{kept}
+use Rattle.sp_match.specs.public.Seen.{seen}
+use Rattle.sp_match.specs.inside.Going.{Going, standing}
+use Rattle.sp_match.specs.declared.turns.Reception.TheVariants.{Passed}
+use Rattle.sp_match.proofs.RunsUndo.{all_stay, undoes_on}
+use Rattle.sp_match.proofs.AllTurnsGoOn.{below_at_hand, going_more, going_start, idle_at_hand}
 use Rattle.sp_match.proofs.turns.offer_to_all.Goals as goal
 
 pub loop-at-init : goal.loop-at-init
 loop-at-init c =
-    let q = c.args.plan.now in
+    let q = c.args.offer.now.plan.now in
     let old = map kept c.args.runs.now in
-    let x : Numbered = (c.args.number, c.args.event.now) in
+    let x : Numbered = (c.args.offer.now.number, c.args.offer.now.event.now) in
     let none = ap (map seen) c.requires.none in
     record {
-      going = λ s is. subst (λ (l : List Told). Going q x s old 0 old l Passed) (sym none) (going_start q x s c.args.number c.requires.ready.0 old c.requires.ready.1 is);
+      going = λ s is. subst (λ (l : List Told). Going q x s old 0 old l Passed) (sym none) (going_start q x s c.args.offer.now.number c.requires.ready.0 old c.requires.ready.1 is);
       undoes = all_stay q old c.requires.ready.1.good;
     }
 
@@ -29,39 +28,37 @@ pub turn-requires-clause-below : goal.turn-requires-clause-below
 turn-requires-clause-below c =
     let old = map kept c.args.runs.now in
     let count = c.requires.ready.0 in
-    below_at_hand c.args.plan.now (c.args.number, c.args.event.now) c.args.number count c.loop-at.at old (map kept c.loop-at.runs) (map seen c.loop-at.list.items) c.loop-at.so_far c.requires.ready.1
+    below_at_hand c.args.offer.now.plan.now (c.args.offer.now.number, c.args.offer.now.event.now) c.args.offer.now.number count c.loop-at.at old (map kept c.loop-at.runs) (map seen c.loop-at.list.items) c.loop-at.so_far c.requires.ready.1
     (omega (arith, c.loop-at-test.true, length-map c.args.runs.now kept)) (c.loop-at.invariant.going (standing count old) refl)
 
 pub turn-requires-clause-idle : goal.turn-requires-clause-idle
 turn-requires-clause-idle c =
     let old = map kept c.args.runs.now in
     let count = c.requires.ready.0 in
-    idle_at_hand c.args.plan.now (c.args.number, c.args.event.now) c.args.number count c.loop-at.at old (map kept c.loop-at.runs) (map seen c.loop-at.list.items) c.loop-at.so_far c.requires.ready.1
+    idle_at_hand c.args.offer.now.plan.now (c.args.offer.now.number, c.args.offer.now.event.now) c.args.offer.now.number count c.loop-at.at old (map kept c.loop-at.runs) (map seen c.loop-at.list.items) c.loop-at.so_far c.requires.ready.1
     (omega (arith, c.loop-at-test.true, length-map c.args.runs.now kept)) (c.loop-at.invariant.going (standing count old) refl)
 
 pub returns-in_err-so_far-clause-undoes : goal.returns-in_err-so_far-clause-undoes
 returns-in_err-so_far-clause-undoes c =
-    undoes_on c.args.plan.now (map kept c.args.runs.now) (map kept c.loop-at.runs) (map kept c.turn.new.runs) c.loop-at.invariant.undoes c.in_err-so_far.ensures.undoes
+    undoes_on c.args.offer.now.plan.now (map kept c.args.runs.now) (map kept c.loop-at.runs) (map kept c.turn.new.runs) c.loop-at.invariant.undoes c.in_err-so_far.ensures.undoes
 
 pub loop-at-preserved : goal.loop-at-preserved
 loop-at-preserved c =
-    let q = c.args.plan.now in
+    let q = c.args.offer.now.plan.now in
     let old = map kept c.args.runs.now in
-    let x : Numbered = (c.args.number, c.args.event.now) in
+    let x : Numbered = (c.args.offer.now.number, c.args.offer.now.event.now) in
     let within : c.loop-at.at < length old = omega (arith, c.loop-at-test.true, length-map c.args.runs.now kept) in
-    let turned = subst (λ (b : Bool). IsTurn q b c.loop-at.at x (map kept c.loop-at.runs) (map kept c.turn.new.runs) (map seen c.loop-at.list.items) (map seen c.turn.new.list.items) c.loop-at.so_far c.in_ok-so_far.so_far)
-    c.requires.leaves c.in_ok-so_far.ensures.turned in
     record {
-      going = λ s is. going_more q x s c.requires.ready.0 c.args.number c.loop-at.at old (map kept c.loop-at.runs) (map kept c.turn.new.runs) (map seen c.loop-at.list.items) (map seen c.turn.new.list.items)
-          c.loop-at.so_far c.in_ok-so_far.so_far c.requires.ready.1 within c.loop-at.invariant.undoes (c.loop-at.invariant.going s is) turned;
+      going = λ s is. going_more q x s c.requires.ready.0 c.args.offer.now.number c.loop-at.at old (map kept c.loop-at.runs) (map kept c.turn.new.runs) (map seen c.loop-at.list.items) (map seen c.turn.new.list.items)
+          c.loop-at.so_far c.in_ok-so_far.so_far c.requires.ready.1 within c.loop-at.invariant.undoes (c.loop-at.invariant.going s is) c.in_ok-so_far.ensures.turned;
       undoes = undoes_on q old (map kept c.loop-at.runs) (map kept c.turn.new.runs) c.loop-at.invariant.undoes c.in_ok-so_far.ensures.undoes;
     }
 
 pub returns : goal.returns
 returns c =
-    let q = c.args.plan.now in
+    let q = c.args.offer.now.plan.now in
     let old = map kept c.args.runs.now in
-    let x : Numbered = (c.args.number, c.args.event.now) in
+    let x : Numbered = (c.args.offer.now.number, c.args.offer.now.event.now) in
     let end : c.loop-at.at ≡ length old = omega (arith, c.loop-at-test.false, c.loop-at.auto.at-end, length-map c.args.runs.now kept) in
     record {
       going = λ s is. subst (λ (i : ℕ). Going q x s old i (map kept c.loop-at.runs) (map seen c.loop-at.list.items) c.loop-at.so_far) end (c.loop-at.invariant.going s is);

@@ -1,7 +1,7 @@
 use Rattle.std.proofs.Common.{◌≡◌, ℕ, ◌+◌, ◌<◌, not, length, sym, ap, ◌∙◌, arith}
 use Rattle.std.specs.List.{filter, range_with_len}
-use Rattle.sp_match.specs.Kept.{kept, pairs}
-use Rattle.sp_match.proofs.Lefts.{lacks, lacked_more, bound_more, left_is}
+use Rattle.sp_match.specs.inside.Kept.{kept, pairs}
+use Rattle.sp_match.proofs.LeftIsLacked.{lacks, lacked_more, bound_more, left_is}
 use Rattle.sp_match.proofs.wanting.left.Goals as goal
 use Rattle.sp_match.proofs.wanting.left.Goals.{then-not-run-name, else-not-run-name}
 

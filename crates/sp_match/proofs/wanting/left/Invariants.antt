@@ -1,7 +1,7 @@
 use Rattle.std.proofs.Common.{◌≡◌, ◌≤◌, length}
 use Rattle.std.specs.List.{filter, range_with_len}
-use Rattle.sp_match.specs.Kept.{kept, pairs}
-use Rattle.sp_match.proofs.Lefts.{lacks}
+use Rattle.sp_match.specs.inside.Kept.{kept, pairs}
+use Rattle.sp_match.proofs.LeftIsLacked.{lacks}
 use Rattle.sp_match.proofs.wanting.left.Given as goal
 
 abbrev pub invariant-loop-name : goal.invariant-loop-name

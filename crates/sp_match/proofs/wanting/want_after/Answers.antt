@@ -2,11 +2,11 @@ use Rattle.std.proofs.Common.{◌≡◌, ℕ, ◌<◌, List, ◌++◌, map, leng
 use Rattle.std.proofs.lemmas.Grind.{common_steps}
 use Rattle.std.proofs.lemmas.List.{get_or-map, get_or_default, length-map}
 use Rattle.sp_match.specs.declared.run.Run.{Run}
-use Rattle.sp_match.specs.Kept.{kept}
-use Rattle.sp_match.specs.Good.{Good}
-use Rattle.sp_match.specs.Wanted.{wanted_by}
-use Rattle.sp_match.proofs.Undoing.{good_here}
-use Rattle.sp_match.proofs.Wantings.{wanted_more}
+use Rattle.sp_match.specs.inside.Kept.{kept}
+use Rattle.sp_match.specs.inside.Good.{Good}
+use Rattle.sp_match.specs.inside.Wanted.{wanted_by}
+use Rattle.sp_match.proofs.RunsUndo.{good_here}
+use Rattle.sp_match.proofs.WantedIsTold.{wanted_more}
 use Rattle.sp_match.proofs.wanting.want_after.Goals as goal
 
 pub want_one-requires-clause-good : goal.want_one-requires-clause-good

@@ -1,6 +1,6 @@
 use Rattle.std.proofs.Common.{◌≡◌, map, take}
-use Rattle.sp_match.specs.Kept.{kept}
-use Rattle.sp_match.specs.Wanted.{wanted_all}
+use Rattle.sp_match.specs.inside.Kept.{kept}
+use Rattle.sp_match.specs.inside.Wanted.{wanted_all}
 use Rattle.sp_match.proofs.wanting.want_after.Given as goal
 
 abbrev pub invariant-loop-at : goal.invariant-loop-at

@@ -1,9 +1,9 @@
 use Rattle.std.proofs.Common.{sym, subst, arith}
 use Rattle.std.proofs.lemmas.Grind.{common_steps}
 use Rattle.sp_match.specs.declared.run.Run.{Run}
-use Rattle.sp_match.specs.Kept.{kept}
-use Rattle.sp_match.specs.Good.{Good}
-use Rattle.sp_match.proofs.Undoing.{good_here}
+use Rattle.sp_match.specs.inside.Kept.{kept}
+use Rattle.sp_match.specs.inside.Good.{Good}
+use Rattle.sp_match.proofs.RunsUndo.{good_here}
 use Rattle.sp_match.proofs.wanting.want_before.Goals as goal
 
 pub left-requires-clause-good : goal.left-requires-clause-good

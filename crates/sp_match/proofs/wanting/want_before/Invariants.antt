@@ -1,6 +1,6 @@
 use Rattle.std.proofs.Common.{◌≡◌, map, take}
-use Rattle.sp_match.specs.Kept.{kept}
-use Rattle.sp_match.specs.Wanted.{all_left}
+use Rattle.sp_match.specs.inside.Kept.{kept}
+use Rattle.sp_match.specs.inside.Wanted.{all_left}
 use Rattle.sp_match.proofs.wanting.want_before.Given as goal
 
 abbrev pub invariant-loop-run : goal.invariant-loop-run

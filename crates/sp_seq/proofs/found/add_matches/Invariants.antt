@@ -1,7 +1,7 @@
 use Rattle.std.proofs.Common.{◌≡◌, ◌+◌, ◌++◌, length, map, take}
 use Rattle.std.specs.Prelude.{filter}
-use Rattle.sp_match.specs.Laws.{is_completion}
-use Rattle.sp_match.specs.Seen.{seen}
+use Rattle.sp_match.specs.public.Laws.{is_completion}
+use Rattle.sp_match.specs.public.Seen.{seen}
 use Rattle.sp_seq.specs.Completed.{matches_told}
 use Rattle.sp_seq.proofs.found.add_matches.Given as goal
 

@@ -7,9 +7,9 @@ use Rattle.sp_plan.specs.Events.{AllFit, fits}
 use Rattle.sp_plan.specs.Runs.{State, handle, state}
 use Rattle.sp_plan.specs.Moves as definitions
 use Rattle.sp_plan.specs.Moves.{Told}
-use Rattle.sp_match.specs.Laws.{is_completion}
-use Rattle.sp_match.specs.Matching.{Stands}
-use Rattle.sp_match.specs.Seen.{seen}
+use Rattle.sp_match.specs.public.Laws.{is_completion}
+use Rattle.sp_match.specs.public.Matching.{Stands}
+use Rattle.sp_match.specs.public.Seen.{seen}
 use Rattle.sp_seq.specs.Completed.{matches_told, with_matches}
 use Rattle.sp_seq.specs.Unconsumed.{unconsumed}
 use Rattle.sp_seq.proofs.Gathering.{Gathering, gathered_none, gathered_skip, gathered_offer, below_more, below_none, gathering_as}

@@ -1,10 +1,10 @@
 use Rattle.std.proofs.Common.{◌≡◌, List, [], ◌∷◌, ◌++◌, map, refl, sym, ap, ◌∙◌}
 use Rattle.sp_plan.specs.Moves.{Told}
-use Rattle.sp_match.specs.Matching.{Matching}
-use Rattle.sp_match.specs.Kept.{Kept, kept, started}
-use Rattle.sp_match.specs.Handled.{leaving_told}
-use Rattle.sp_match.specs.Seen.{seen}
-use Rattle.sp_match.proofs.Telling.{left_told, told_abandoned}
+use Rattle.sp_match.specs.public.Matching.{Matching}
+use Rattle.sp_match.specs.inside.Kept.{Kept, kept, started}
+use Rattle.sp_match.specs.inside.Effects.{leaving_told}
+use Rattle.sp_match.specs.public.Seen.{seen}
+use Rattle.sp_match.proofs.MovesAreTold.{left_told, told_abandoned}
 use Rattle.sp_match.proofs.matcher.Matcher.close.Goals as goal
 
 all_leaving : (ks : List Kept) → map leaving_told ks ≡ map left_told (map started ks)

@@ -5,9 +5,9 @@ use Rattle.sp_plan.specs.declared.plan.Plan.{Plan}
 use Rattle.sp_plan.specs.Runs.{Started}
 use Rattle.sp_plan.specs.Moves.{left}
 use Rattle.sp_match.specs.declared.run.Run.{Run}
-use Rattle.sp_match.specs.Matching.{Matching}
-use Rattle.sp_match.specs.Kept.{Kept, empty, kept, pairs, started}
-use Rattle.sp_match.specs.Good.{Good}
+use Rattle.sp_match.specs.public.Matching.{Matching}
+use Rattle.sp_match.specs.inside.Kept.{Kept, empty, kept, pairs, started}
+use Rattle.sp_match.specs.inside.Good.{Good}
 use Rattle.sp_match.proofs.matcher.Matcher.left.Goals as goal
 
 -- the run at a place

@@ -5,16 +5,16 @@ use Rattle.sp_plan.specs.declared.plan.Plan.{Plan}
 use Rattle.sp_plan.specs.Windows.{Numbered}
 use Rattle.sp_plan.specs.Runs.{State, handle}
 use Rattle.sp_plan.specs.Moves.{Told, moves, still_wanted, told}
-use Rattle.sp_match.specs.Laws.{Below}
-use Rattle.sp_match.specs.Matching.{Matching, Stands, runs_of}
-use Rattle.sp_match.specs.Kept.{Kept, before, kept, started}
-use Rattle.sp_match.specs.Good.{Good, Undoes}
-use Rattle.sp_match.specs.Handled.{open_runs}
-use Rattle.sp_match.specs.Going.{IsIdle, IsReady}
-use Rattle.sp_match.specs.Keeping.{IsKept}
-use Rattle.sp_match.specs.Event.{IsHandled, count_after}
-use Rattle.sp_match.specs.Seen.{seen}
-use Rattle.sp_match.proofs.Offering.{below_after, ordered_after, ready, runs_after, runs_back, started_after}
+use Rattle.sp_match.specs.public.Laws.{Below}
+use Rattle.sp_match.specs.public.Matching.{Matching, Stands, runs_of}
+use Rattle.sp_match.specs.inside.Kept.{Kept, before, kept, started}
+use Rattle.sp_match.specs.inside.Good.{Good, Undoes}
+use Rattle.sp_match.specs.inside.Effects.{open_runs}
+use Rattle.sp_match.specs.inside.Going.{IsIdle, IsReady}
+use Rattle.sp_match.specs.inside.Keeping.{IsKept}
+use Rattle.sp_match.specs.inside.Handling.{IsHandled, count_after}
+use Rattle.sp_match.specs.public.Seen.{seen}
+use Rattle.sp_match.proofs.MatcherAfterEvent.{below_after, ordered_after, ready, runs_after, runs_back, started_after}
 use Rattle.sp_match.proofs.matcher.Matcher.offer_into.Goals as goal
 
 pub handle_all-requires-clause-ready : goal.handle_all-requires-clause-ready
@@ -97,7 +97,7 @@ returns-in-Ok c =
     offered q c.deref.result.now x c.self.inside.count (map kept c.self.inside.runs.items) c.in-Ok.started (map kept c.handle_all.new.runs.items) settled (map seen c.handle_all.new.moves.list.items) c.args.self.now after
     c.deref.ensures c.self.view_is c.self.invariant c.in-Ok.ensures.handled c.settle.ensures.runs (λ i. record { plan = q; open_runs = map started settled; started = c.count_after-self-inside.ensures i })
     c.handle_all.new.moves.wanted.items c.in-Ok.ensures.wanted c.requires.below in
-    record { stands = o.stands; told = o.tells; wanted = o.wants; below = o.stays_below; plan = search rules; err = search rules }
+    record { stands = o.stands; told = o.tells; wanted = o.wants; below = o.stays_below; plan = search rules; err = search rules; cleared = search rules }
 
 -- the runs as before
 back : (q q' : Plan) (old new after : List Kept) (size n : ℕ) → All IsIdle old → n ≡ size → Undoes q' old (take size new) → after ≡ map before (take n new) → after ≡ old

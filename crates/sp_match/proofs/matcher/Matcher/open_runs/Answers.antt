@@ -1,7 +1,7 @@
 use Rattle.std.proofs.Common.{map, ap, ◌∙◌}
-use Rattle.sp_match.specs.Matching.{Matching, shown}
-use Rattle.sp_match.specs.Seen.{seen_run}
-use Rattle.sp_match.proofs.Offering.{all_shown}
+use Rattle.sp_match.specs.public.Matching.{Matching, shown}
+use Rattle.sp_match.specs.public.Seen.{seen_run}
+use Rattle.sp_match.proofs.MatcherAfterEvent.{all_shown}
 use Rattle.std.specs.Arc.{arc_value}
 use Rattle.sp_match.proofs.matcher.Matcher.open_runs.Goals as goal
 

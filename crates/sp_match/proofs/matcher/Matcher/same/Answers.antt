@@ -2,7 +2,7 @@ use Rattle.std.proofs.Common.{◌≡◌, sym, ap, subst, ◌∙◌}
 use Rattle.std.specs.Prelude.{IsTrue}
 use Rattle.std.specs.Arc.{arc_value}
 use Rattle.sp_plan.specs.Same.{SamePlan}
-use Rattle.sp_match.specs.Matching.{Matching}
+use Rattle.sp_match.specs.public.Matching.{Matching}
 use Rattle.sp_match.proofs.matcher.Matcher.same.Goals as goal
 
 pub returns-clause-shared : goal.returns-clause-shared

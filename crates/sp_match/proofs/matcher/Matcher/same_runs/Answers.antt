@@ -1,8 +1,8 @@
 use Rattle.std.proofs.Common.{◌≡◌, List, map, sym, ap, ◌∙◌}
 use Rattle.std.specs.Arc.{arc_value}
 use Rattle.sp_match.specs.declared.run.Run.{Run}
-use Rattle.sp_match.specs.Matching.{Matching}
-use Rattle.sp_match.specs.Kept.{kept, started}
+use Rattle.sp_match.specs.public.Matching.{Matching}
+use Rattle.sp_match.specs.inside.Kept.{kept, started}
 use Rattle.sp_match.proofs.matcher.Matcher.same_runs.Goals as goal
 
 pub returns-clause-shared : goal.returns-clause-shared

@@ -1,7 +1,0 @@
-use Rattle.std.proofs.Common.{sym, subst}
-use Rattle.sp_match.specs.Good.{Good}
-use Rattle.sp_match.proofs.Bound.{good_empty}
-use Rattle.sp_match.proofs.turns.begins.Goals as goal
-
-pub takes-requires-clause-good : goal.takes-requires-clause-good
-takes-requires-clause-good c = subst (Good c.args.plan.now) (sym c.new-none.ensures) (good_empty c.args.plan.now 0)

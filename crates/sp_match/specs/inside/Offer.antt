@@ -1,0 +1,20 @@
+-- An event that is offered to the runs of a window.
+use Rattle.std.specs.Prelude.{Bool}
+use Rattle.sp_plan.specs.Bounds.{IsSmall}
+use Rattle.sp_plan.specs.Compiled.{IsCompiled}
+use Rattle.sp_plan.specs.Windows.{Numbered}
+use Rattle.sp_plan.specs.Runs.{leaves}
+use Rattle.sp_match.specs.declared.offer.Offer.{Offer}
+
+-- the event with its number
+abbrev pub numbered : Offer → Numbered
+numbered o = (o.number, o.event.now)
+
+-- whether an open run leaves that doesn't take the event
+abbrev pub lets_leave : Offer → Bool
+lets_leave o = leaves o.plan.now.select o.plan.now o.event.now
+
+-- The plan is compiled, and the event's values are small.
+pub record IsOffer (o : Offer) : Type 0 where
+  pub compiled : IsCompiled o.plan.now
+  pub small : IsSmall o.event.now
