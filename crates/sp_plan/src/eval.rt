@@ -63,11 +63,10 @@ fn added(sum: i128, factor: i128, value: i128) -> i128
     sum + factor * value
 }
 
-/// What an expression comes to, in units of its scale, over the event at hand and the events bound
-/// before it; a text comes to its number. Takes no memory. No value in between passes 10^36 in
-/// magnitude. Chains of operators, which group from the left, are gone along in a loop; each right
-/// side is a call, so calls nest as deep as brackets do.
-pub fn value(expr: &Expr, event: &Event, bound: &Bound) -> i128
+// What a chain of operators comes to, which group from the left: it is gone along in a loop, and each
+// right side is a call.
+#[cycle(value)]
+fn chain(expr: &Expr, event: &Event, bound: &Bound) -> i128
     requires within { b.StaysWithin expr.now }
     requires event { b.IsSmall event.now }
     requires bound { b.AllSmall bound.now }
@@ -108,6 +107,27 @@ pub fn value(expr: &Expr, event: &Event, bound: &Bound) -> i128
                 rest = left;
             }
         }
+    }
+}
+
+/// What an expression comes to, in units of its scale, over the event at hand and the events bound
+/// before it; a text comes to its number. Takes no memory. No value in between passes 10^36 in
+/// magnitude. Calls nest as deep as brackets do, however long chains of operators are.
+#[cycle(value)]
+pub fn value(expr: &Expr, event: &Event, bound: &Bound) -> i128
+    requires within { b.StaysWithin expr.now }
+    requires event { b.IsSmall event.now }
+    requires bound { b.AllSmall bound.now }
+    ensures value { result ≡ Values.value expr.now event.now bound.now }
+    ensures small { unsigned_abs result ≤ b.bound expr.now }
+    ensures greatest { unsigned_abs result ≤ b.greatest }
+{
+    match expr {
+        Expr::Literal(n) => i128::from(*n),
+        Expr::Word(symbol) => i128::from(*symbol),
+        Expr::Column(column) => column_value(event, *column),
+        Expr::Earlier { name, column } => earlier_value(bound, *name, *column),
+        _ => chain(expr, event, bound),
     }
 }
 
