@@ -10,7 +10,8 @@ use Rattle.std.proofs.lemmas.List.Sums.{sum_by-cons}
 use Rattle.sp_plan.specs.declared.plan.Name.{Name}
 use Rattle.sp_plan.specs.declared.plan.Plan.{Plan}
 use Rattle.sp_plan.specs.Comparable.{IsComparable}
-use Rattle.sp_plan.specs.Compiled.{numbers_in, readable, ReadEarlier}
+use Rattle.sp_plan.specs.Compiled.{readable, ReadEarlier}
+use Rattle.sp_plan.specs.Runs.{names_of}
 use Rattle.sp_query.specs.declared.query.Ident.{Ident}
 use Rattle.sp_query.specs.declared.query.QueryElement.{QueryElement}
 use Rattle.sp_compile.specs.Scopes.{names_in, placed_names}
@@ -117,7 +118,7 @@ one_later : (at : ℕ) (front : Placed) → All (λ (name : Ident × ℕ). name.
 one_later at front earlier i d inside = let less : (get_or front i d).1 < at = earlier i d inside in omega arith
 
 -- as many numbers as names
-many_numbers : (first : ℕ) (element : QueryElement) → length (numbers_in (plan_element first element)) ≡ length (names_in element)
+many_numbers : (first : ℕ) (element : QueryElement) → length (names_of (plan_element first element)) ≡ length (names_in element)
 many_numbers first element = ap (λ (l : List ℕ). length l) (numbers_here first element) ∙ length-range_with_len first (width element) ∙ sym (length_names element)
 
 module _ (q : Plan) (whole : Placed) where

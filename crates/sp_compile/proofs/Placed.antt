@@ -3,7 +3,8 @@ use Rattle.std.proofs.Common.{◌≡◌, ℕ, zero, suc, ◌+◌, ◌<◌, List,
 use Rattle.std.specs.List.{range_with_len}
 use Rattle.std.proofs.lemmas.List.{drop_more, length-map, length-append}
 use Rattle.sp_plan.specs.declared.plan.Element.{Element}
-use Rattle.sp_plan.specs.Compiled.{numbers_in, numbers_of}
+use Rattle.sp_plan.specs.Compiled.{numbers_of}
+use Rattle.sp_plan.specs.Runs.{names_of}
 use Rattle.sp_query.specs.declared.query.Ident.{Ident}
 use Rattle.sp_query.specs.declared.query.QueryElement.{QueryElement}
 use Rattle.sp_query.specs.declared.query.QueryElement.TheVariants as e
@@ -75,7 +76,7 @@ range_joined from (suc m) n =
     ∙ ap (λ (l : List ℕ). from ∷ l) (range_joined (from + 1) m n ∙ ap (λ (k : ℕ). range_with_len (from + 1) m ++ range_with_len k n) (omega arith))
 
 -- the numbers of an element's names
-pub numbers_here : (first : ℕ) (element : QueryElement) → numbers_in (plan_element first element) ≡ range_with_len first (width element)
+pub numbers_here : (first : ℕ) (element : QueryElement) → names_of (plan_element first element) ≡ range_with_len first (width element)
 numbers_here first (e.One name) = refl
 numbers_here first (e.Plus name span) = refl
 numbers_here first (e.Set names) = refl
