@@ -15,7 +15,7 @@ mod same;
 
 pub use bound::Bound;
 pub use eval::{holds, value};
-pub use event::{Event, Value};
+pub use event::{Event, Value, Values};
 pub use found::Match;
 pub use laws::{
     fitting_events_are_small, plans_are_themselves, reading_is_state, same_predicates_hold_alike,

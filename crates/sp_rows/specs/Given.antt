@@ -15,7 +15,7 @@ fault_of (fault kind) = Some kind
 
 -- these values and texts, where there is no fault, or this fault
 abbrev pub GivenIs : List Value × List (List ℕ) → Option (RowKind × ℕ) → List (List ℕ) → Given → Type 0
-GivenIs values found texts (Values read) = ((read.items, texts) ≡ values) × (found ≡ None)
+GivenIs values found texts (Values read) = ((read, texts) ≡ values) × (found ≡ None)
 GivenIs values found texts (Fault kind place) = found ≡ Some (kind, place + 1)
 
 -- the number that a value is, 0 for a text's
@@ -34,5 +34,5 @@ time_among values (Some own) = value_or_zero (slice_get values own)
 
 -- the values that are read give this time at this place
 abbrev pub TimeIs : Option ℕ → ℤ → Given → Type 0
-TimeIs own time (Values read) = time_among read.items own ≡ time
+TimeIs own time (Values read) = time_among read own ≡ time
 TimeIs own time (Fault kind place) = Unit {0}

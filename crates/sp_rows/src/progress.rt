@@ -9,7 +9,7 @@ use crate::fault::{RowError, RowFault, RowKind};
 use crate::split::Fields;
 use crate::texts::Texts;
 use crate::values::{Given, read_values, time_in};
-use sp_plan::{Event, Listed, Memory, Plan};
+use sp_plan::{Event, Memory, Plan};
 use std::alloc::Global;
 
 /// How many rows were read, the last time, and the texts by their numbers.
@@ -122,16 +122,13 @@ impl Progress {
             Err(_) => Err(RowError::Memory),
             Ok(Given::Fault(kind, place)) => Err(self.refusal_at(kind, place)),
             Ok(Given::Values(values)) => {
-                let time = time_in(&values, plan.schema.time);
+                let time = time_in(values.as_slice(), plan.schema.time);
                 if time < self.last {
                     return Err(self.back_in_time(time, &time_column(plan, places)));
                 }
                 self.read += 1;
                 self.last = time;
-                Ok(Event {
-                    time,
-                    values: Listed::of(values),
-                })
+                Ok(Event { time, values })
             }
         }
     }

@@ -9,13 +9,13 @@ use crate::content::{Content, content_in};
 use crate::fault::RowKind;
 use crate::split::Fields;
 use crate::texts::Texts;
-use sp_plan::{Memory, Plan, Value};
+use sp_plan::{Memory, Plan, Value, Values};
 use std::alloc::Global;
 
 /// What the cells of a row give.
 #[derive(Drop)]
 pub(crate) enum Given {
-    Values(Vec<Value>),
+    Values(Values),
     /// The first fault, column by column in the order of the plan, with the place of its cell from 0.
     Fault(RowKind, usize),
 }
@@ -23,11 +23,11 @@ pub(crate) enum Given {
 // One value more, or the kind of the fault that the cell gives. Where memory is wanted, new texts may be known.
 fn push_content(
     alloc: Global,
-    values: &mut Vec<Value>,
+    values: &mut Values,
     texts: &mut Texts,
     content: Content<'_>,
 ) -> Result<Option<RowKind>, Memory>
-    ensures value { OnOk result ((values.new.items, texts.new) ≡ spec.with_cell (values.old.items, texts.old) (cell_shape content.entry)) }
+    ensures value { OnOk result ((values.new, texts.new) ≡ spec.with_cell (values.old, texts.old) (cell_shape content.entry)) }
     ensures fault { IfOk result (λ fault. fault ≡ fault_of (cell_shape content.entry)) }
     ensures kept { take (length texts.old) texts.new ≡ texts.old }
 {
@@ -55,7 +55,7 @@ pub(crate) fn read_values(
     ensures time { IfOk result (λ given. TimeIs plan.now.schema.time (spec.time_of (fields_in cells.now) (spec.columns_at plan.now places.now)) given) }
     ensures kept { take (length texts.old) texts.new ≡ texts.old }
 {
-    let mut values = Vec::with_capacity(alloc, places.len())?;
+    let mut values = Values::with_capacity(alloc, places.len())?;
     for number in 0..places.len() {
         match column_at(plan, places, number) {
             None => return Ok(Given::Values(values)),

@@ -5,7 +5,7 @@ ghost use Rattle.sp_plan.specs.Compiled.{IsCompiled};
 
 use sp_compile::compile;
 use sp_parse::parse;
-use sp_plan::{Event, Listed, Memory, Plan, Value};
+use sp_plan::{Event, Memory, Plan, Value, Values};
 use sp_syntax::Query;
 use std::alloc::Global;
 use std::process::Abort;
@@ -64,6 +64,6 @@ pub(crate) fn plan_of(alloc: Global, text: &str) -> Option<Arc<Plan>>
 pub(crate) fn event(alloc: Global, number: i64) -> Result<Event, Memory> {
     Ok(Event {
         time: number,
-        values: Listed::of(vec![in alloc; Value::Number(number)]?),
+        values: Values::from_slice(alloc, &[Value::Number(number)])?,
     })
 }

@@ -1,6 +1,6 @@
 // Bound events, and what predicates say of them.
 use crate::tests::expect::event;
-use sp_plan::{Bound, Compare, Event, Expr, Listed, Pred, holds, value};
+use sp_plan::{Bound, Compare, Event, Expr, Pred, Values, holds, value};
 
 #[test]
 fn an_event_is_bound_and_copied(rt: HostRuntime) {
@@ -19,7 +19,7 @@ fn an_event_is_bound_and_copied(rt: HostRuntime) {
 fn a_predicate_over_no_column(rt: HostRuntime) {
     let none = Event {
         time: 0,
-        values: Listed::of(Vec::new(rt.alloc())),
+        values: Values::from_slice(rt.alloc(), &[]).expect(&rt, "memory"),
     };
     let pred = Pred::Test {
         by: Compare::Less,

@@ -16,7 +16,7 @@ returns-in-None-clause-time c =
     let columns = columns_at c.args.plan.now c.args.places.now in
     let cells = fields_in c.args.cells.now in
     let all = taken_all columns c.loop-number.number (sym c.in-None.ensures) in
-    time_read c.args.plan.now c.args.places.now cells c.args.texts.now c.loop-number.texts c.loop-number.values.items (c.loop-number.invariant.values ∙ ap (values_of c.args.texts.now cells) all)
+    time_read c.args.plan.now c.args.places.now cells c.args.texts.now c.loop-number.texts c.loop-number.values (c.loop-number.invariant.values ∙ ap (values_of c.args.texts.now cells) all)
     (ap (filter_map (fault_at cells)) (sym all) ∙ c.loop-number.invariant.whole)
 
 pub returns-in-Some-2-clause-given : goal.returns-in-Some-2-clause-given
@@ -59,7 +59,7 @@ returns-clause-time c =
     let cells = fields_in c.args.cells.now in
     let past : slice_get columns c.loop-number.number ≡ None = places_end c.args.plan.now c.args.places.now c.loop-number.number c.loop-number-test.false in
     let all = taken_all columns c.loop-number.number past in
-    time_read c.args.plan.now c.args.places.now cells c.args.texts.now c.loop-number.texts c.loop-number.values.items (c.loop-number.invariant.values ∙ ap (values_of c.args.texts.now cells) all)
+    time_read c.args.plan.now c.args.places.now cells c.args.texts.now c.loop-number.texts c.loop-number.values (c.loop-number.invariant.values ∙ ap (values_of c.args.texts.now cells) all)
     (ap (filter_map (fault_at cells)) (sym all) ∙ c.loop-number.invariant.whole)
 
 pub returns-in_err-values-clause-kept : goal.returns-in_err-values-clause-kept
