@@ -1,0 +1,271 @@
+//! The hub: the locked state with its lock.
+ghost use Rattle.std.specs.Prelude.{◌≡◌, ℕ, ◌+◌, ◌-◌, ◌*◌, ◌<◌, ◌≤◌, ◌^◌, ◌↔◌, true, false, Some, None, IsOk, IfErr, IfOk, if◌then◌else◌, is_ok, [], vec_len, vec_capacity};
+ghost use Rattle.std.specs.List.{count_by, sum_by};
+ghost use Rattle.sp_hub.specs.History.{IsLegal, is_call, is_take_by, is_put_by};
+ghost use Rattle.sp_hub.specs.Calls.{posts, collects, takes, puts, fresh_seats, fresh_poster, by_seat};
+
+use crate::Memory;
+use crate::entry::HubEntry;
+use crate::laws::Locked;
+use crate::named::Named;
+use crate::naming::Naming;
+use crate::opened::Opened;
+use crate::poster::Poster;
+use crate::seat::Seat;
+use crate::taken::Taken;
+use sp_text::Listed;
+use std::alloc::Global;
+use std::marker::Model;
+use std::sync::{Condvar, Mutex, Wait};
+
+/// What a hub did, with the takes and puts of each seat by its number.
+#[derive(Drop)]
+pub struct History {
+    /// Each call that changed the state behind the lock, in the order in which the lock was held.
+    pub entries: Listed<HubEntry>,
+    /// How many jobs each seat took, by its number.
+    pub takes: Listed<u64>,
+    /// How many pieces each seat put, by its number.
+    pub puts: Listed<u64>,
+}
+
+/// An exchange that threads share. Contracts see the number of its seats and its room.
+#[derive(Drop)]
+pub struct Hub<J: Named, P: Named, L: Naming> {
+    state: Mutex<Locked<J, P, L>>,
+    listed: Condvar,
+    home: Condvar,
+    seats: u32,
+    room: u32,
+    takes: Vec<u64>,
+    puts: Vec<u64>,
+}
+
+impl<J: Named, P: Named, L: Naming> Model for Hub<J, P, L> {
+    ghost use Rattle.std.specs.Prelude.{◌≡◌, ◌≤◌, ◌+◌, [], vec_capacity};
+    ghost use Rattle.sp_hub.specs.State.{Extent};
+
+    ghost Value = { Extent };
+
+    ghost view = { λ h. record { seats = h.seats; room = h.room } };
+
+    ghost invariant = { λ h. (L.parts ≡ h.seats + 1) × (h.takes.items ≡ []) × (h.puts.items ≡ []) × (h.seats ≤ vec_capacity h.takes) × (h.seats ≤ vec_capacity h.puts) };
+}
+
+/// What `finish` hands back where a seat is missing.
+#[derive(Drop)]
+pub struct Unfinished<J: Named, P: Named, L: Naming> {
+    pub hub: Hub<J, P, L>,
+    pub by: Poster<P, L>,
+    pub seats: Vec<Seat<P, L>>,
+}
+
+impl<J: Named, P: Named, L: Naming> Hub<J, P, L> {
+    /// A hub with its poster, and its seats by number. It takes the room for what `finish` gives.
+    pub fn new(
+        alloc: Global,
+        opened: Opened<P>,
+    ) -> Result<(Hub<J, P, L>, Poster<P, L>, Vec<Seat<P, L>>), Memory>
+        requires { (opened.name ≡ L.name) × (opened.parts ≡ L.parts) }
+        ensures hub { IfOk result (λ r. r.0 ≡ record { seats = opened.seats; room = opened.room }) }
+        ensures by { IfOk result (λ r. r.1 ≡ fresh_poster opened.room) }
+        ensures seats { IfOk result (λ r. r.2.items ≡ fresh_seats opened.seats) }
+    {
+        let Opened {
+            blank,
+            seats,
+            room,
+            brings: _,
+        } = opened;
+        let (book, mut rest) = blank.open::<L>();
+        let by = Poster::new(room, rest.split_off(1, 0));
+        let mut made = Vec::with_capacity(alloc, seats as usize)?;
+        for number in 0..seats {
+            made.push_reserved(Seat::new(number, rest.split_off(1, 0)));
+        }
+        let takes = Vec::with_capacity(alloc, seats as usize)?;
+        let puts = Vec::with_capacity(alloc, seats as usize)?;
+        let hub = Hub {
+            state: Mutex::new(Locked::new(alloc, book)?),
+            listed: Condvar::new(),
+            home: Condvar::new(),
+            seats,
+            room,
+            takes,
+            puts,
+        };
+        Ok((hub, by, made))
+    }
+
+    /// Lists a job. `Err` is want of memory.
+    pub fn post<R: Wait>(&self, rt: &R, by: &mut Poster<P, L>, job: J) -> Result<(), J>
+        requires ticket { by.old.last < J.ticket_of job }
+        requires room { by.old.waiting < by.old.room }
+        requires open { by.old.closed ≡ false }
+        ensures by { by.new ≡ (if is_ok result then posts by.old (J.ticket_of job) else by.old) }
+        ensures back { IfErr result (λ j. j ≡ job) }
+    {
+        let answer = self.state.lock(rt).post(by, job);
+        self.listed.notify_one();
+        answer
+    }
+
+    /// Gives the seat the oldest job.
+    pub fn take<R: Wait>(&self, rt: &R, seat: &mut Seat<P, L>) -> Taken<J>
+        requires { seat.old.holding ≡ None }
+        ensures { seat.new ≡ takes J.ticket_of seat.old result }
+    {
+        self.state.lock(rt).take(seat)
+    }
+
+    /// Brings a piece home.
+    pub fn put<R: Wait>(&self, rt: &R, seat: &mut Seat<P, L>, piece: P)
+        requires { seat.old.holding ≡ Some (P.ticket_of piece) }
+        ensures { seat.new ≡ puts seat.old }
+    {
+        let mut piece = piece;
+        for _ in rt.forever() {
+            match self.state.lock(rt).put(seat, piece) {
+                Ok(()) => {
+                    self.home.notify_one();
+                    return;
+                }
+                Err(back) => piece = back,
+            }
+        }
+        unreachable!()
+    }
+
+    /// Gives the poster the piece that came home first.
+    pub fn collect<R: Wait>(&self, rt: &R, by: &mut Poster<P, L>) -> Option<P>
+        ensures { by.new ≡ collects by.old result }
+    {
+        self.state.lock(rt).collect(by)
+    }
+
+    /// Closes the hub. Jobs that are listed can still be taken.
+    pub fn close<R: Wait>(&self, rt: &R, by: &mut Poster<P, L>)
+        requires { by.old.closed ≡ false }
+        ensures { by.new ≡ record by.old { closed = true } }
+    {
+        self.state.lock(rt).close(by);
+        self.listed.notify_all();
+    }
+
+    /// Returns once a job is listed or the hub is closed.
+    pub fn wait_job<R: Wait>(&self, rt: &R, _seat: &Seat<P, L>) {
+        let _state = self
+            .listed
+            .wait_while(rt, self.state.lock(rt), |s| s.is_idle());
+    }
+
+    /// Returns once a piece is home.
+    pub fn wait_home<R: Wait>(&self, rt: &R, by: &Poster<P, L>)
+        requires { 0 < by.now.waiting }
+    {
+        let _state = self
+            .home
+            .wait_while(rt, self.state.lock(rt), |s| s.none_home());
+    }
+
+    /// The history, where all seats of this hub are back.
+    pub fn finish(
+        self,
+        by: Poster<P, L>,
+        seats: Vec<Seat<P, L>>,
+    ) -> Result<History, Unfinished<J, P, L>>
+        ensures variant { IsOk result ↔ (vec_len seats ≡ self.seats) }
+        ensures legal { IfOk result (λ h. IsLegal h.entries) }
+        ensures counted { IfOk result (λ h. count_by is_call h.entries ≡ by.calls + sum_by (λ s. s.calls) seats.items) }
+        ensures takes { IfOk result (λ h. h.takes ≡ by_seat is_take_by self.seats h.entries) }
+        ensures puts { IfOk result (λ h. h.puts ≡ by_seat is_put_by self.seats h.entries) }
+        ensures back { IfErr result (λ u. (u.hub ≡ self) × (u.by ≡ by) × (u.seats ≡ seats)) }
+    {
+        if seats.len() != self.seats as usize {
+            return Err(Unfinished {
+                hub: self,
+                by,
+                seats,
+            });
+        }
+        let Hub {
+            state,
+            listed: _,
+            home: _,
+            seats: count,
+            room: _,
+            takes,
+            puts,
+        } = self;
+        let mut all = by.into_share();
+        for seat in seats {
+            all.merge(seat.into_share());
+        }
+        let entries = state.into_inner().into_entries(&mut all);
+        let takes = takes_by_seat(takes, entries.as_slice(), count);
+        let puts = puts_by_seat(puts, entries.as_slice(), count);
+        Ok(History {
+            entries: Listed::of(entries),
+            takes: Listed::of(takes),
+            puts: Listed::of(puts),
+        })
+    }
+}
+
+fn takes_by_seat(into: Vec<u64>, entries: &[HubEntry], count: u32) -> Vec<u64>
+    requires { (into.items ≡ []) × (count ≤ vec_capacity into) }
+    ensures { result.items ≡ by_seat is_take_by count entries.now }
+{
+    let mut into = into;
+    for number in 0..count {
+        into.push_reserved(takes_of(entries, number));
+    }
+    into
+}
+
+fn puts_by_seat(into: Vec<u64>, entries: &[HubEntry], count: u32) -> Vec<u64>
+    requires { (into.items ≡ []) × (count ≤ vec_capacity into) }
+    ensures { result.items ≡ by_seat is_put_by count entries.now }
+{
+    let mut into = into;
+    for number in 0..count {
+        into.push_reserved(puts_of(entries, number));
+    }
+    into
+}
+
+fn takes_of(entries: &[HubEntry], seat: u32) -> u64
+    ensures { result ≡ count_by (is_take_by seat) entries.now }
+{
+    entries.iter().filter(|e| is_take(e, seat)).count() as u64
+}
+
+fn puts_of(entries: &[HubEntry], seat: u32) -> u64
+    ensures { result ≡ count_by (is_put_by seat) entries.now }
+{
+    entries.iter().filter(|e| is_put(e, seat)).count() as u64
+}
+
+fn is_take(entry: &HubEntry, seat: u32) -> bool
+    ensures { result ≡ is_take_by seat entry.now }
+{
+    match *entry {
+        HubEntry::Take {
+            seat: by,
+            ticket: _,
+        } => by == seat,
+        _ => false,
+    }
+}
+
+fn is_put(entry: &HubEntry, seat: u32) -> bool
+    ensures { result ≡ is_put_by seat entry.now }
+{
+    match *entry {
+        HubEntry::Put {
+            seat: by,
+            ticket: _,
+        } => by == seat,
+        _ => false,
+    }
+}
