@@ -1,2 +1,7 @@
 mod Worked
-mod Rolled
+mod RolledBack
+mod OutAtPromotion
+mod GroupWithinAReading
+mod AtTheBound
+mod BothOutcomes
+mod GroupsOutOfOrder

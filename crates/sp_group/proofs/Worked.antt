@@ -1,8 +1,9 @@
 -- Plans, events and steps of the worked runs.
-use Rattle.std.proofs.Common.{ℕ, pos, Bool, true, false, List, [], ◌∷◌, ◌++◌, map, replicate, Option, Some, None}
+use Rattle.std.proofs.Common.{ℕ, pos, Bool, true, false, List, [], ◌∷◌, map, replicate, Some, None}
 use Rattle.std.specs.Prelude.{codes}
 use Rattle.std.specs.List.{enumerate_from}
 use Rattle.sp_plan.specs.declared.event.Event.{Event}
+use Rattle.sp_plan.specs.declared.found.Match.{Match}
 use Rattle.sp_plan.specs.declared.event.Value.TheVariants.{Number, Symbol}
 use Rattle.sp_plan.specs.declared.plan.Plan.{Plan}
 use Rattle.sp_plan.specs.declared.plan.Name.{Name}
@@ -19,7 +20,7 @@ use Rattle.sp_plan.specs.declared.plan.Pred.{Test}
 use Rattle.sp_group.specs.declared.step.Step.{Step}
 use Rattle.sp_group.specs.declared.step.Step.TheVariants as s
 use Rattle.sp_group.specs.Machine.{Machine, opening}
-use Rattle.sp_group.specs.Steps.{Reply, reply, step, steps}
+use Rattle.sp_group.specs.Steps.{Reply, Done, Leased, reply, step, steps}
 use Rattle.sp_group.specs.Seen.{StateSeen, state_seen}
 
 -- columns of a time and a text; the texts a, b, c and x have the symbols 0 to 3
@@ -82,3 +83,31 @@ answers q bound xs = replies q bound opening xs
 -- the state to which steps lead, as it is printed
 abbrev pub state_after : Plan → ℕ → List Step → StateSeen
 state_after q bound xs = state_seen q (steps q bound opening xs)
+
+-- a lease that is done
+abbrev pub out : ℕ → ℕ → ℕ → ℕ → List ℕ → Bool → Reply
+out number version first count snapshot closes = Done (Leased (record {
+  number = number;
+  version = version;
+  first = first;
+  count = count;
+  snapshot = snapshot;
+  closes = closes;
+  read = 0;
+  closing_read = false;
+}))
+
+-- a match whose names, in order, bind these events
+abbrev pub found : ℕ → ℕ → List (List ℕ) → List ℕ → Match
+found window number bound used = record { window = window; number = number; bound = enumerate_from 0 bound; used = used }
+
+-- one column of numbers: A below 10, B above A's, C 100; B alone is consumed
+abbrev pub climb : Plan
+climb = record (sequence Each (
+    (record { text = codes "A"; pred = Test Less (Column 0) (Literal (pos 10)); consumed = false })
+    ∷ (record { text = codes "B"; pred = Test Greater (Column 0) (Earlier 0 0); consumed = true })
+    ∷ (record { text = codes "C"; pred = Test Equal (Column 0) (Literal (pos 100)); consumed = false })
+    ∷ [])) { schema = record { columns = (record { name = codes "x"; kind = Int }) ∷ []; time = None }; texts = [] }
+
+abbrev pub numbers_fed : List ℕ → List Step
+numbers_fed numbers = map (λ n. s.Feed (record { time = pos 0; values = Number (pos n) ∷ [] })) numbers
