@@ -1,2 +1,4 @@
 pub mod Readings
 pub mod Numbers
+pub mod Lists
+pub mod RisingLists
