@@ -2,3 +2,4 @@ pub mod Readings
 pub mod Numbers
 pub mod Lists
 pub mod RisingLists
+pub mod Facts
