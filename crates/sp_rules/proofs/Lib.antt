@@ -3,3 +3,4 @@ pub mod Numbers
 pub mod Lists
 pub mod RisingLists
 pub mod Facts
+pub mod Tickets
