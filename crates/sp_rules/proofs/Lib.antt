@@ -4,3 +4,4 @@ pub mod Lists
 pub mod RisingLists
 pub mod Facts
 pub mod Tickets
+pub mod Tree
