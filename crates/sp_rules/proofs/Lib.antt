@@ -5,3 +5,4 @@ pub mod RisingLists
 pub mod Facts
 pub mod Tickets
 pub mod Tree
+pub mod Labels
