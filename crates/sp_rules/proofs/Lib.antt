@@ -6,3 +6,4 @@ pub mod Facts
 pub mod Tickets
 pub mod Tree
 pub mod Labels
+pub mod Locals
