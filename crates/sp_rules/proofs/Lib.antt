@@ -7,3 +7,4 @@ pub mod Tickets
 pub mod Tree
 pub mod Labels
 pub mod Locals
+pub mod Home
