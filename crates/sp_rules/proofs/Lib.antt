@@ -8,3 +8,6 @@ pub mod Tree
 pub mod Labels
 pub mod Locals
 pub mod Home
+pub mod Feeding
+pub mod Spawning
+pub mod Leasing

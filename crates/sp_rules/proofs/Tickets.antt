@@ -1,11 +1,11 @@
 -- The list of tickets.
-use Rattle.std.proofs.Common.{◌≡◌, ◌≢◌, ℕ, ◌+◌, ◌<◌, ◌≤◌, ◌⊎◌, Bool, true, false, cond, not, ◌&&◌, ◌||◌, ◌==◌, List, [], ◌∷◌, Some, ⊎_elim, refl, sym, ap, ◌∙◌, subst, arith}
+use Rattle.std.proofs.Common.{◌≡◌, ◌≢◌, ℕ, ◌+◌, ◌<◌, ◌≤◌, ◌⊎◌, Bool, true, false, cond, not, ◌&&◌, ◌||◌, ◌==◌, nat_lt, nat_le, List, [], ◌∷◌, Option, Some, None, inl, inr, ⊎_elim, refl, sym, ap, ◌∙◌, subst, arith}
 use Rattle.std.proofs.lemmas.Bool.Decides.{nat_tests}
 use Rattle.sp_plan.specs.Runs.{is_among}
-use Rattle.sp_group.specs.Machine.{Ticket, ticket_at, is_out, is_lent, is_bare}
+use Rattle.sp_group.specs.Machine.{Ticket, ticket_at, out_for, is_out, is_lent, is_bare}
 use Rattle.sp_group.specs.Effects.{without, read_on, read_if}
 use Rattle.sp_rules.specs.Kept.{NewestFirst}
-use Rattle.sp_rules.proofs.Lists.{or_cases}
+use Rattle.sp_rules.proofs.Lists.{or_cases, and_left, and_right, le_true, lt_true, not_true}
 
 pub out_at : (ts : List Ticket) (n : ℕ) (t : Ticket) → ticket_at ts n ≡ Some t → is_out ts t.version ≡ true
 out_at [] n t h = absurd (cc)
@@ -99,3 +99,21 @@ at_bare (x ∷ ts) o id i h = ⊎_elim
     let l = o.0 r.0 r.1 r.2 in
     (r.0, r.1, grind (arith, nat_tests, r.2), r.3, r.4, r.5))
     (or_cases (x.version == id && is_lent x i) (is_bare ts id i) h)
+
+-- where no ticket's number is found for a version, none is out for it
+pub free_is : (ts : List Ticket) (id : ℕ) → out_for ts id ≡ None → is_out ts id ≡ false
+free_is [] id h = refl
+free_is (x ∷ ts) id h = one (x.version == id) h (free_is ts id)
+  where
+    one : (b : Bool) → cond b (Some x.number) (out_for ts id) ≡ None → (out_for ts id ≡ None → is_out ts id ≡ false) → (b || is_out ts id) ≡ false
+    one true h k = absurd (cc)
+    one false h k = k h
+
+-- what a number that a ticket lends tells
+pub lent_is : (t : Ticket) (i : ℕ) → is_lent t i ≡ true → (t.first ≤ i) × (i < t.first + t.count) × (is_among t.snapshot i ≡ false)
+lent_is t i h =
+    let low = nat_le t.first i in
+    let high = nat_lt i (t.first + t.count) in
+    let passed = not (is_among t.snapshot i) in
+    let range = and_left (low && high) passed h in
+    (le_true t.first i (and_left low high range), lt_true i (t.first + t.count) (and_right low high range), not_true (is_among t.snapshot i) (and_right (low && high) passed h))
