@@ -11,3 +11,4 @@ pub mod Home
 pub mod Feeding
 pub mod Spawning
 pub mod Leasing
+pub mod Roll
