@@ -12,3 +12,4 @@ pub mod Feeding
 pub mod Spawning
 pub mod Leasing
 pub mod Roll
+pub mod Finish
