@@ -13,3 +13,4 @@ pub mod Spawning
 pub mod Leasing
 pub mod Roll
 pub mod Finish
+pub mod Steps
