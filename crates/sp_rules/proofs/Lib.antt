@@ -14,3 +14,4 @@ pub mod Leasing
 pub mod Roll
 pub mod Finish
 pub mod Steps
+pub mod Onward
