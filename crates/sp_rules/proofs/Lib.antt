@@ -15,3 +15,4 @@ pub mod Roll
 pub mod Finish
 pub mod Steps
 pub mod Onward
+pub mod GoesOn
