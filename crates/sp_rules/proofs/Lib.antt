@@ -14,5 +14,7 @@ pub mod Leasing
 pub mod Roll
 pub mod Finish
 pub mod Steps
+pub mod Onward
+pub mod GoesOn
 pub mod Bound
 pub mod Reached
