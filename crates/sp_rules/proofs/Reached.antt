@@ -1,22 +1,24 @@
 -- What holds of each state that steps lead to: what is emitted, which versions roll, and that the root is in no conflict.
-use Rattle.std.proofs.Common.{◌≡◌, ℕ, ◌+◌, Bool, true, false, cond, not, List, [], ◌∷◌, ◌++◌, Option, Some, None, is_some, refl, sym, ap, ◌∙◌, subst, arith}
+use Rattle.std.proofs.Common.{◌≡◌, ℕ, ◌≤◌, true, cond, not, List, [], ◌∷◌, Option, Some, None, is_some, refl, sym, ap, ◌∙◌, subst, arith}
 use Rattle.sp_plan.specs.declared.plan.Plan.{Plan}
-use Rattle.sp_plan.specs.Sequential.{seq, whole}
-use Rattle.sp_plan.specs.Windows.{closed}
-use Rattle.sp_plan.specs.WindowNumbers.{count, first, size}
+use Rattle.sp_plan.specs.Sequential.{seq}
 use Rattle.sp_group.specs.declared.refusal.Refusal.TheVariants as r
+use Rattle.sp_group.specs.declared.step.Step.{Step}
 use Rattle.sp_group.specs.declared.step.Step.TheVariants as s
 use Rattle.sp_group.specs.Family.{prune}
-use Rattle.sp_group.specs.Machine.{Version, Machine, kin, version_at, root_in, inner, is_hit, conflict}
+use Rattle.sp_group.specs.Machine.{Version, Machine, kin, opening, version_at, root_in, inner, conflict}
 use Rattle.sp_group.specs.Refusing.{refuse_if, roll_refusal, refusal}
-use Rattle.sp_group.specs.Effects.{fresh, but, new_matches, popped, rolled, settled, finished_one}
+use Rattle.sp_group.specs.Effects.{fresh, but, popped, rolled, settled}
+use Rattle.sp_group.specs.Steps.{steps}
 use Rattle.sp_rules.specs.Kept.{Kept}
-use Rattle.sp_rules.specs.Schedules.{IsSequential, RollsWhereInConflict}
+use Rattle.sp_rules.specs.Schedules.{Fits, IsSequential, RollsWhereInConflict, Reached}
 use Rattle.sp_rules.proofs.Facts.{Facts}
-use Rattle.sp_rules.proofs.Lists.{least_some}
 use Rattle.sp_rules.proofs.Locals.{root_last, root_is}
 use Rattle.sp_rules.proofs.Finish.{finish_matches}
-use Rattle.sp_rules.proofs.Steps.{passes_if, not_false}
+use Rattle.sp_rules.proofs.Steps.{passes_if, not_false, opening_kept, steps_keep}
+use Rattle.sp_rules.proofs.Onward.{step_onward}
+use Rattle.sp_rules.proofs.GoesOn.{root_clear, goes_on}
+use Rattle.sp_rules.proofs.Bound.{steps_few, keeps_bound}
 
 -- what is emitted, in every state that steps lead to
 pub is_sequential : (q : Plan) → Facts q → (m : Machine) → Kept q m → IsSequential q m
@@ -41,10 +43,6 @@ root_parent (x ∷ vs) v h = one x.parent refl (root_parent vs v)
     one : (o : Option ℕ) → x.parent ≡ o → (root_in vs ≡ Some v → v.parent ≡ None) → v.parent ≡ None
     one None is rest = let same : x ≡ v = grind (arith, is) in ap (λ (z : Version). z.parent) (sym same) ∙ is
     one (Some p) is rest = rest (grind (arith, is))
-
-none_where : (o : Option ℕ) → is_some o ≡ false → o ≡ None
-none_where None h = refl
-none_where (Some n) h = absurd (cc)
 
 some_where : (o : Option ℕ) → is_some o ≡ true → (n : ℕ) × (o ≡ Some n)
 some_where (Some n) h = (n, refl)
@@ -91,7 +89,19 @@ pub rolls_where_in_conflict : (q : Plan) (bound : ℕ) (m : Machine) → Kept q 
 rolls_where_in_conflict q bound m h = record {
   rolls = λ id. (rolls_where q bound m id, rolls_there q bound m id);
   promotes = λ v u root next. (settles q (popped q m v) u next, renews q (popped q m v) u next);
-  root_clear = λ v root.
-      let is = root_is q (inner q m.events) m.finished m.versions h.sane.shape v root in
-      none_where (conflict q m v) (least_some (is_hit q m v) (first q m.events v.window) (size q m.events v.window) (h.clear v.id v is.0 is.1));
+  root_clear = root_clear q m h;
 }
+
+-- steps lead from the opening to such a state
+pub reached : (q : Plan) → Facts q → (bound : ℕ) (xs : List Step) → 1 ≤ bound → Fits q bound opening xs → Reached q bound (steps q bound opening xs)
+reached q k bound xs low fits =
+    let m : Machine = steps q bound opening xs in
+    let kept : Kept q m = steps_keep q k bound xs opening fits (opening_kept q k) in
+    record {
+      kept = kept;
+      sequential = is_sequential q k m kept;
+      onward = λ x fit. step_onward q k bound m x fit kept;
+      rolling = rolls_where_in_conflict q bound m kept;
+      goes_on = goes_on q bound m kept;
+      bounded = keeps_bound q bound m (steps_few q k bound xs opening low fits (opening_kept q k) (omega arith));
+    }
