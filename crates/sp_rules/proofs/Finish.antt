@@ -24,7 +24,7 @@ use Rattle.sp_rules.proofs.Tree.{Names, at_cases, at_some, Pruned, none, goes, s
 use Rattle.sp_rules.proofs.Locals.{local_grows, root_last, root_is, rootless, root_supp}
 use Rattle.sp_rules.proofs.Tickets.{at_bare}
 use Rattle.sp_rules.proofs.Spawning.{fresh_clear}
-use Rattle.sp_rules.proofs.Home.{HasRead, hit_cases, hit_read}
+use Rattle.sp_rules.proofs.Home.{hit_cases, hit_read}
 use Rattle.sp_rules.proofs.Roll.{roll_sane, cut_root}
 
 pub data Promoted (r : ℕ) (v v' : Version) : Type 0 where

@@ -1,11 +1,11 @@
 -- A lease, a reading, and the return of a ticket whose version is gone keep what every state keeps.
-use Rattle.std.proofs.Common.{◌≡◌, ◌≢◌, ℕ, suc, ◌+◌, ◌-◌, ◌<◌, ◌≤◌, ◌⊎◌, Bool, true, false, cond, not, ◌&&◌, ◌||◌, ◌==◌, nat_lt, nat_le, List, [], ◌∷◌, Option, Some, None, ⊎_elim, refl, sym, ap, ◌∙◌, subst, arith}
+use Rattle.std.proofs.Common.{◌≡◌, ◌≢◌, ℕ, ◌+◌, ◌-◌, ◌≤◌, ◌⊎◌, Bool, true, false, cond, not, ◌&&◌, ◌||◌, ◌==◌, nat_lt, nat_le, List, ◌∷◌, Some, None, ⊎_elim, refl, sym, ap, ◌∙◌, subst, arith}
 use Rattle.std.specs.List.{range_with_len}
 use Rattle.std.proofs.lemmas.Bool.Decides.{nat_tests}
 use Rattle.sp_plan.specs.declared.plan.Plan.{Plan}
 use Rattle.sp_plan.specs.Runs.{is_among}
 use Rattle.sp_plan.specs.Windows.{closed}
-use Rattle.sp_plan.specs.WindowNumbers.{first, size}
+use Rattle.sp_plan.specs.WindowNumbers.{size}
 use Rattle.sp_group.specs.Machine.{Version, Ticket, Machine, version_at, ticket_at, is_out, is_lent, is_bare, is_hit, is_suppressed}
 use Rattle.sp_group.specs.Refusing.{has_nothing_to_read, is_read_whole}
 use Rattle.sp_group.specs.Effects.{unread, lent_count, next_number, lent, leased, without, read_on}

@@ -1,5 +1,5 @@
 -- No step takes back a version, what it has read, or what is suppressed for it.
-use Rattle.std.proofs.Common.{◌≡◌, ◌≢◌, ℕ, ◌+◌, ◌<◌, ◌≤◌, Bool, true, false, cond, not, List, [], ◌∷◌, ◌++◌, Option, Some, None, is_some, ⊎_elim, refl, sym, ap, ◌∙◌, subst, arith}
+use Rattle.std.proofs.Common.{◌≡◌, ◌≢◌, ℕ, ◌+◌, ◌≤◌, Bool, true, false, cond, not, List, [], ◌∷◌, ◌++◌, Option, Some, None, is_some, ⊎_elim, refl, sym, ap, ◌∙◌, subst, arith}
 use Rattle.sp_plan.specs.declared.event.Event.{Event}
 use Rattle.sp_plan.specs.declared.plan.Plan.{Plan}
 use Rattle.sp_plan.specs.WindowNumbers.{Good}
@@ -7,7 +7,7 @@ use Rattle.sp_group.specs.declared.refusal.Refusal.{Refusal}
 use Rattle.sp_group.specs.declared.step.Step.{Step}
 use Rattle.sp_group.specs.declared.step.Step.TheVariants as s
 use Rattle.sp_group.specs.Family.{prune}
-use Rattle.sp_group.specs.Machine.{Version, Ticket, Machine, kin, version_at, ticket_at, root_in, conflict, inner, is_suppressed}
+use Rattle.sp_group.specs.Machine.{Version, Ticket, Machine, kin, version_at, ticket_at, root_in, conflict, inner}
 use Rattle.sp_group.specs.Refusing.{child_refusal, lease_refusal, return_refusal, roll_refusal, finish_refusal, refusal}
 use Rattle.sp_group.specs.Effects.{fresh, spawned, child_spawned, leased, without, after_ticket, after_reading, but, home, returned, rolled, promoted, popped, settled, finished_one, effect}
 use Rattle.sp_group.specs.Steps.{unless_refused, step}

@@ -1,9 +1,9 @@
 -- A roll keeps what every state keeps.
-use Rattle.std.proofs.Common.{◌≡◌, ◌≢◌, ℕ, ◌+◌, ◌<◌, ◌≤◌, Bool, true, false, cond, ◌==◌, List, [], ◌∷◌, Option, Some, None, is_some, ⊎_elim, refl, sym, ap, ◌∙◌, subst, arith}
+use Rattle.std.proofs.Common.{◌≡◌, ◌≢◌, ℕ, ◌<◌, Bool, true, false, cond, ◌==◌, List, [], ◌∷◌, Option, Some, None, is_some, ⊎_elim, refl, sym, ap, ◌∙◌, subst, arith}
 use Rattle.std.specs.Prelude.{⊤}
 use Rattle.std.proofs.lemmas.Bool.Decides.{nat_tests}
 use Rattle.sp_plan.specs.declared.plan.Plan.{Plan}
-use Rattle.sp_plan.specs.Runs.{State, is_among}
+use Rattle.sp_plan.specs.Runs.{State}
 use Rattle.sp_plan.specs.WindowNumbers.{first, size}
 use Rattle.sp_group.specs.Family.{parent_there, kept, prune}
 use Rattle.sp_group.specs.Machine.{Version, Machine, kin, version_at, root_in, is_bare, is_hit, conflict, inner, suppressed_by, is_suppressed}

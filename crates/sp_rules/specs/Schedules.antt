@@ -1,18 +1,16 @@
 -- The theorem over every list of steps: in whatever order they are taken, what is emitted is what processing the windows one after another
 -- gives.
-use Rattle.std.specs.Prelude.{◌≡◌, ◌↔◌, ◌⊎◌, ⊤, ℕ, ◌+◌, ◌<◌, ◌≤◌, Bool, true, false, List, [], ◌∷◌, ◌++◌, length, Option, Some, None}
-use Rattle.sp_plan.specs.declared.event.Event.{Event}
+use Rattle.std.specs.Prelude.{◌≡◌, ◌↔◌, ◌⊎◌, ⊤, ℕ, ◌+◌, ◌<◌, ◌≤◌, true, List, [], ◌∷◌, ◌++◌, length, Some, None}
 use Rattle.sp_plan.specs.declared.plan.Plan.{Plan}
 use Rattle.sp_plan.specs.Compiled.{IsCompiled}
 use Rattle.sp_plan.specs.Sequential.{seq, whole}
 use Rattle.sp_plan.specs.Windows.{closed}
 use Rattle.sp_plan.specs.WindowNumbers.{Good, count, size}
-use Rattle.sp_group.specs.declared.refusal.Refusal.{Refusal}
 use Rattle.sp_group.specs.declared.refusal.Refusal.TheVariants as r
 use Rattle.sp_group.specs.declared.step.Step.{Step}
 use Rattle.sp_group.specs.declared.step.Step.TheVariants as s
 use Rattle.sp_group.specs.Rising.{IsLabel, with_numbers}
-use Rattle.sp_group.specs.Machine.{Version, Ticket, Machine, opening, version_at, ticket_at, root_in, inner, is_suppressed, conflict}
+use Rattle.sp_group.specs.Machine.{Version, Ticket, Machine, opening, version_at, ticket_at, root_in, is_suppressed, conflict}
 use Rattle.sp_group.specs.Refusing.{refusal}
 use Rattle.sp_group.specs.Effects.{new_matches, popped, finished_one}
 use Rattle.sp_group.specs.Steps.{step, steps}
