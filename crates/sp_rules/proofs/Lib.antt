@@ -15,6 +15,7 @@ pub mod Roll
 pub mod Finish
 pub mod Steps
 pub mod Onward
+pub mod Births
 pub mod GoesOn
 pub mod Bound
 pub mod Reached

@@ -1,6 +1,6 @@
 -- The theorem over every list of steps: in whatever order they are taken, what is emitted is what processing the windows one after another
 -- gives.
-use Rattle.std.specs.Prelude.{◌≡◌, ◌↔◌, ◌⊎◌, ⊤, ℕ, ◌+◌, ◌<◌, ◌≤◌, true, List, [], ◌∷◌, ◌++◌, length, Some, None}
+use Rattle.std.specs.Prelude.{◌≡◌, ◌↔◌, ◌⊎◌, ⊤, ℕ, ◌+◌, ◌<◌, ◌≤◌, Bool, true, false, List, [], ◌∷◌, ◌++◌, length, Some, None}
 use Rattle.sp_plan.specs.declared.plan.Plan.{Plan}
 use Rattle.sp_plan.specs.Compiled.{IsCompiled}
 use Rattle.sp_plan.specs.Sequential.{seq, whole}
@@ -38,6 +38,37 @@ abbrev pub Onward : Plan → Machine → Machine → Type 0
 Onward q m n = (id : ℕ) (after : Version) → version_at n.versions id ≡ Some after → id < m.next_id
     → (before : Version) × (version_at m.versions id ≡ Some before) × (before.position ≤ after.position)
     × ((i : ℕ) → is_suppressed q m id i ≡ true → is_suppressed q n id i ≡ true)
+
+-- whether a step can give a version a new id
+abbrev pub gives_id : Step → Bool
+gives_id (s.Spawn parent label) = true
+gives_id (s.Roll id) = true
+gives_id s.Finish = true
+gives_id (s.Feed e) = false
+gives_id s.End = false
+gives_id (s.Lease id n) = false
+gives_id (s.Event n) = false
+gives_id (s.Return n) = false
+
+-- A version with a new id comes of a spawn, a roll or a finish alone; the id is the next one, and the version has read nothing.
+abbrev pub Born : Step → Machine → Machine → Type 0
+Born x m n = (id : ℕ) (v : Version) → version_at n.versions id ≡ Some v → m.next_id ≤ id
+    → (gives_id x ≡ true) × (id ≡ m.next_id) × (v.position ≡ 0)
+
+-- whether a step leaves each live version as it is
+abbrev pub leaves_versions : Step → Bool
+leaves_versions (s.Return n) = false
+leaves_versions (s.Roll id) = false
+leaves_versions s.Finish = false
+leaves_versions (s.Feed e) = true
+leaves_versions s.End = true
+leaves_versions (s.Spawn parent label) = true
+leaves_versions (s.Lease id n) = true
+leaves_versions (s.Event n) = true
+
+-- A feed, the end of input, a spawn, a lease and a reading leave each live version as it is.
+abbrev pub Stays : Step → Machine → Machine → Type 0
+Stays x m n = leaves_versions x ≡ true → (id : ℕ) (v : Version) → version_at m.versions id ≡ Some v → version_at n.versions id ≡ Some v
 
 -- A step of a ticket that is out for a version is accepted: its next reading, or its return.
 pub record IsReturning (q : Plan) (bound : ℕ) (m : Machine) (v : Version) : Type 0 where
@@ -88,6 +119,8 @@ pub record Reached (q : Plan) (bound : ℕ) (m : Machine) : Type 0 where
   pub kept : Kept q m
   pub sequential : IsSequential q m
   pub onward : (x : Step) → FitsStep q bound m x → Onward q m (step q bound m x)
+  pub born : (x : Step) → Born x m (step q bound m x)
+  pub stays : (x : Step) → Stays x m (step q bound m x)
   pub rolling : RollsWhereInConflict q bound m
   pub goes_on : HasWork q m → GoesOn q bound m
   pub bounded : KeepsBound q bound m
