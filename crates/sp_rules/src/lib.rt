@@ -1,10 +1,12 @@
 //! What a layer over matcher and windows may rely on, whichever plan is run: it stands in
-//! `specs/Lawful.antt`, and follows from the laws of the layers below. No code runs here.
+//! `specs/Lawful.antt`, and follows from the laws of the layers below. From it follows the theorem
+//! over every list of steps of the speculative machine, in `specs/Schedules.antt`. No code runs here.
 #![tactic(auto)]
 
 ghost use Rattle.sp_plan.specs.declared.plan.Plan.{Plan};
 ghost use Rattle.sp_plan.specs.Compiled.{IsCompiled};
 ghost use Rattle.sp_rules.specs.Lawful.{Lawful};
+ghost use Rattle.sp_rules.specs.Schedules.{EverySchedule};
 
 use sp_match::{
     abandonments_are_told, closing_ends_runs, completions_are_matches, handling_is_lawful,
@@ -38,4 +40,13 @@ pub fn compiled_plans_are_lawful()
     closed_come_first();
     finished_windows_stay();
     windows_are_read();
+}
+
+/// Law: in whatever order the steps of the machine are taken, those that are refused among them, what
+/// is emitted and consumed is what processing the windows one after another gives; and each state that
+/// steps lead to keeps what `Reached` says. It holds for every compiled plan, and bounds of 1 to 4096.
+pub fn every_schedule()
+    ensures { EverySchedule }
+{
+    compiled_plans_are_lawful();
 }

@@ -1,0 +1,7 @@
+mod Worked
+mod RolledBack
+mod OutAtPromotion
+mod GroupWithinAReading
+mod AtTheBound
+mod BothOutcomes
+mod GroupsOutOfOrder
