@@ -1,8 +1,9 @@
 -- The open runs among all runs of a handling.
-use Rattle.std.proofs.Common.{◌≡◌, ℕ, ◌<◌, ◌≤◌, Bool, true, false, cond, not, ◌&&◌, List, [], ◌∷◌, ◌++◌, map, refl, sym, ap, ◌∙◌, arith}
+use Rattle.std.proofs.Common.{◌≡◌, ℕ, ◌<◌, ◌≤◌, Bool, true, false, cond, not, ◌&&◌, List, [], ◌∷◌, ◌++◌, length, map, refl, sym, ap, ◌∙◌, arith}
 use Rattle.std.specs.Prelude.{if◌then◌else◌}
 use Rattle.std.specs.List.{filter, flat_map}
-use Rattle.std.proofs.lemmas.List.{map-append}
+use Rattle.std.proofs.lemmas.List.{length-map, map-append}
+use Rattle.std.proofs.lemmas.List.Filters.{length-filter_both}
 use Rattle.std.proofs.lemmas.List.Elements.{filter-append}
 use Rattle.sp_plan.specs.Runs.{Started, holds_one}
 use Rattle.sp_match.specs.declared.run.Fate.{Fate}
@@ -12,6 +13,13 @@ use Rattle.sp_match.specs.inside.Effects.{leaving_told, run_after_use, open_runs
 use Rattle.sp_match.proofs.RunNumbersRise.{Rising, rising_lower}
 use Rattle.sp_match.proofs.GrowingMoves.{frees}
 use Rattle.sp_match.proofs.MovesAreTold.{left_told}
+
+-- no more runs stay than are there
+pub open_few : (ks : List Kept) → length (open_runs ks) ≤ length ks
+open_few ks =
+    let all = length-filter_both (λ (k : Kept). stays k.fate) (λ (k : Kept). not (stays k.fate)) (λ k. refl) ks in
+    let same = length-map (filter (λ k. stays k.fate) ks) started in
+    omega (arith, all, same)
 
 pub open_append : (fs bs : List Kept) → open_runs (fs ++ bs) ≡ open_runs fs ++ open_runs bs
 open_append fs bs = ap (map started) (filter-append (λ k. stays k.fate) fs bs) ∙ map-append started (filter (λ k. stays k.fate) fs) (filter (λ k. stays k.fate) bs)

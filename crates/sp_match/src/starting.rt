@@ -1,5 +1,5 @@
 // An event may start a run, when all open runs were offered it.
-ghost use Rattle.std.specs.Prelude.{◌≡◌, ℕ, ◌+◌, ◌<◌, ◌≤◌, List, [], ◌∷◌, ◌++◌, length, map, take, OnOk};
+ghost use Rattle.std.specs.Prelude.{◌≡◌, ℕ, ◌+◌, ◌<◌, ◌≤◌, List, [], ◌∷◌, ◌++◌, length, map, take, nat_lt, OnOk};
 ghost use Rattle.std.specs.List.{All};
 ghost use Rattle.sp_plan.specs.Runs as definitions;
 ghost use Rattle.sp_plan.specs.Runs.{State};
@@ -33,6 +33,13 @@ fn open_count(runs: &[Run]) -> usize
     count
 }
 
+// Whether fewer than 64 runs stay open. Where so few are there they aren't counted.
+fn has_room(runs: &[Run]) -> bool
+    ensures { result ≡ nat_lt (length (open_runs (all_kept runs.now))) 64 }
+{
+    runs.len() < 64 || open_count(runs) < 64
+}
+
 // Whether the policy lets the event start a run, when all open runs were offered it.
 fn may_start(plan: &Plan, runs: &[Run], so_far: Reception) -> bool
     ensures { (x : Numbered) (s : State) (old : List Kept) (ts : List Told)
@@ -43,7 +50,7 @@ fn may_start(plan: &Plan, runs: &[Run], so_far: Reception) -> bool
     match plan.select {
         Select::First => runs.is_empty(),
         Select::Last => matches!(so_far, Reception::Passed),
-        Select::Each => !matches!(so_far, Reception::Used) && open_count(runs) < 64,
+        Select::Each => !matches!(so_far, Reception::Used) && has_room(runs),
     }
 }
 
