@@ -9,7 +9,7 @@ use Rattle.sp_plan.specs.Windows.{closed}
 use Rattle.sp_plan.specs.WindowNumbers.{first, size}
 use Rattle.sp_group.specs.declared.step.Step.{Step}
 use Rattle.sp_group.specs.declared.step.Step.TheVariants as s
-use Rattle.sp_group.specs.Groups.{used_by_all}
+use Rattle.sp_plan.specs.Groups.{used_by_all}
 use Rattle.sp_group.specs.Rising.{with_numbers}
 use Rattle.sp_group.specs.Family.{prune, is_parent}
 use Rattle.sp_group.specs.Machine.{Version, Ticket, Machine, kin, version_at, ticket_at, root_in, inner, is_group, is_spent, is_suppressed, conflict}

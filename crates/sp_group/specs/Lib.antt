@@ -1,4 +1,3 @@
-pub mod Groups
 pub mod Rising
 pub mod Family
 pub mod Machine

@@ -7,7 +7,7 @@ use Rattle.sp_plan.specs.declared.plan.Plan.{Plan}
 use Rattle.sp_plan.specs.Runs.{State, is_among, after_closing}
 use Rattle.sp_plan.specs.Reading.{reading}
 use Rattle.sp_plan.specs.WindowNumbers.{first, size}
-use Rattle.sp_group.specs.Groups.{group, used_by, used_by_all}
+use Rattle.sp_plan.specs.Groups.{group, used_by, used_by_all}
 use Rattle.sp_group.specs.Rising.{has_number, least}
 use Rattle.sp_group.specs.Family.{Kin, entry_at}
 

@@ -14,3 +14,4 @@ pub mod Comparable
 pub mod Compiled
 pub mod Laws
 pub mod Same
+pub mod Groups

@@ -7,8 +7,8 @@ use Rattle.sp_plan.specs.Reading.{reading}
 use Rattle.sp_plan.specs.Sequential.{seq, after_window}
 use Rattle.sp_plan.specs.Windows.{closed}
 use Rattle.sp_plan.specs.WindowNumbers.{Good, count, first, size}
-use Rattle.sp_match.specs.Laws.{Sound, Leads}
-use Rattle.sp_group.specs.Groups.{group, used_by_all, is_open, is_matched}
+use Rattle.sp_match.specs.public.Laws.{Sound, Leads}
+use Rattle.sp_plan.specs.Groups.{group, used_by_all, is_open, is_matched}
 use Rattle.sp_group.specs.Machine.{is_group, is_spent}
 use Rattle.sp_rules.specs.Lawful.{Lawful}
 use Rattle.sp_rules.proofs.Lists.{filled_mem}

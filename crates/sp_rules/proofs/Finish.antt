@@ -10,7 +10,7 @@ use Rattle.sp_plan.specs.Runs.{State, is_among, after_closing, matched_runs}
 use Rattle.sp_plan.specs.Reading.{reading}
 use Rattle.sp_plan.specs.Sequential.{Progress, seq, match_of, after_window}
 use Rattle.sp_plan.specs.WindowNumbers.{first, size}
-use Rattle.sp_group.specs.Groups.{used_by_all}
+use Rattle.sp_plan.specs.Groups.{used_by_all}
 use Rattle.sp_group.specs.Rising.{IsLabel, with_numbers}
 use Rattle.sp_group.specs.Family.{is_parent, parent_there, prune}
 use Rattle.sp_group.specs.Machine.{Version, Machine, kin, version_at, root_in, is_bare, is_hit, conflict, inner, is_group, is_named, is_withheld, withheld_by, suppressed_below, suppressed_by, is_suppressed}

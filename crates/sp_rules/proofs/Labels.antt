@@ -6,7 +6,7 @@ use Rattle.sp_plan.specs.declared.event.Event.{Event}
 use Rattle.sp_plan.specs.declared.plan.Plan.{Plan}
 use Rattle.sp_plan.specs.Runs.{Started, State, is_among, used}
 use Rattle.sp_plan.specs.Moves.{is_run, pairs_of}
-use Rattle.sp_group.specs.Groups.{group, used_by_all}
+use Rattle.sp_plan.specs.Groups.{group, used_by_all}
 use Rattle.sp_group.specs.Rising.{IsLabel, has_number}
 use Rattle.sp_group.specs.Family.{is_parent}
 use Rattle.sp_group.specs.Machine.{Version, version_at, inner, is_group, is_spent, is_named, is_withheld}

@@ -3,29 +3,10 @@ use Rattle.std.specs.Prelude.{◌≡◌, ◌↔◌, ◌⊎◌, ℕ, ◌+◌, ◌
 use Rattle.std.specs.List.{All, list_any, flat_map, fold}
 use Rattle.std.specs.List.Sorted.{IsStrictlyIncreasing}
 use Rattle.sp_plan.specs.declared.plan.Plan.{Plan}
+pub use Rattle.sp_plan.specs.Groups.{is_open, is_matched, group, used_by, used_by_all}
 use Rattle.sp_plan.specs.Windows.{Numbered}
 use Rattle.sp_plan.specs.Runs.{Started, State, bindings, fresh, handle, state, used, is_among, matched_runs, after_closing}
 use Rattle.sp_plan.specs.Moves.{Told, OpenedTold, GrownTold, CompletedTold, AbandonedTold, told, Move, is_run, pairs_of, apply, apply_all, moves, closing}
-
--- whether a run of that number is open
-abbrev pub is_open : State → ℕ → Bool
-is_open s r = list_any (is_run r) s.open_runs
-
--- whether a run of that number has matched
-abbrev pub is_matched : State → ℕ → Bool
-is_matched s r = list_any (is_run r) s.matched
-
--- the consumption group of an open run: the numbers that it binds to consumed names
-abbrev pub group : Plan → State → ℕ → List ℕ
-group q s r = used q (pairs_of s.open_runs r)
-
--- the numbers that a run's match used
-abbrev pub used_by : Plan → State → ℕ → List ℕ
-used_by q s r = used q (pairs_of s.matched r)
-
--- the numbers that all matches used
-abbrev pub used_by_all : Plan → State → List ℕ
-used_by_all q s = flat_map (used q) (matched_runs s)
 
 -- the open runs stand in the order of their start, and have numbers that were given
 pub record Ordered (s : State) : Type 0 where
