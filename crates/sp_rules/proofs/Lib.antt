@@ -16,6 +16,7 @@ pub mod Finish
 pub mod Steps
 pub mod Onward
 pub mod Births
+pub mod Losses
 pub mod GoesOn
 pub mod Bound
 pub mod Reached

@@ -70,6 +70,16 @@ leaves_versions (s.Event n) = true
 abbrev pub Stays : Step → Machine → Machine → Type 0
 Stays x m n = leaves_versions x ≡ true → (id : ℕ) (v : Version) → version_at m.versions id ≡ Some v → version_at n.versions id ≡ Some v
 
+-- A version stands below another: that one is its parent, or its parent stands below that one.
+pub data StandsBelow (vs : List Version) (a : ℕ) : ℕ → Type 0 where
+  child : (id : ℕ) (v : Version) → version_at vs id ≡ Some v → v.parent ≡ Some a → StandsBelow vs a id
+  deeper : (id p : ℕ) (v : Version) → version_at vs id ≡ Some v → v.parent ≡ Some p → StandsBelow vs a p → StandsBelow vs a id
+
+-- A return loses no version but such as stand below the one whose ticket ends.
+abbrev pub LosesBelow : Plan → ℕ → Machine → Type 0
+LosesBelow q bound m = (number : ℕ) (t : Ticket) → ticket_at m.tickets number ≡ Some t → (id : ℕ) (v : Version) → version_at m.versions id ≡ Some v
+    → ((w : Version) × (version_at (step q bound m (s.Return number)).versions id ≡ Some w)) ⊎ StandsBelow m.versions t.version id
+
 -- A step of a ticket that is out for a version is accepted: its next reading, or its return.
 pub record IsReturning (q : Plan) (bound : ℕ) (m : Machine) (v : Version) : Type 0 where
   pub ticket : Ticket
@@ -121,6 +131,7 @@ pub record Reached (q : Plan) (bound : ℕ) (m : Machine) : Type 0 where
   pub onward : (x : Step) → FitsStep q bound m x → Onward q m (step q bound m x)
   pub born : (x : Step) → Born x m (step q bound m x)
   pub stays : (x : Step) → Stays x m (step q bound m x)
+  pub loses : LosesBelow q bound m
   pub rolling : RollsWhereInConflict q bound m
   pub goes_on : HasWork q m → GoesOn q bound m
   pub bounded : KeepsBound q bound m
