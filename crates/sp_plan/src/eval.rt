@@ -111,7 +111,7 @@ fn chain(expr: &Expr, event: &Event, bound: &Bound) -> i128
 }
 
 /// What an expression comes to, in units of its scale, over the event at hand and the events bound
-/// before it; a text comes to its number. Takes no memory. No value in between passes 10^36 in
+/// before it; a text comes to its number. Takes no memory. No sum in between passes 10^36 in
 /// magnitude. Calls nest as deep as brackets do, however long chains of operators are.
 #[cycle(value)]
 pub fn value(expr: &Expr, event: &Event, bound: &Bound) -> i128
