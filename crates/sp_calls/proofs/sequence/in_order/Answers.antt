@@ -1,4 +1,4 @@
-use Rattle.std.proofs.Common.{rules, ◌≡◌, ◌≤ℤ◌, true, arith}
+use Rattle.std.proofs.Common.{◌≤ℤ◌, arith}
 use Rattle.std.proofs.lemmas.Int.{ints}
 use Rattle.sp_calls.proofs.Ordered.{ordered_one, ordered_more, ordered_all}
 use Rattle.sp_calls.proofs.sequence.in_order.Goals as goal
