@@ -1,5 +1,6 @@
 ghost use Rattle.std.specs.Prelude.{◌≡◌, ◌<◌};
 
+use sp_calls::answer;
 use sp_io::{MemFiles, MemSink, MemSource};
 use sp_top::spectre;
 use std::alloc::{AllocError, Global};
@@ -15,6 +16,8 @@ pub(crate) struct Outcome {
 /// Words and the objects in memory that they are run over. A call's number counts from 1.
 #[derive(Drop)]
 pub(crate) struct Call {
+    /// The name of a single call in place of the whole program.
+    pub(crate) single: Option<String>,
     pub(crate) words: Vec<String>,
     pub(crate) input: Vec<u8>,
     /// The most bytes that a call of the input gives; 0 counts as 1.
@@ -33,8 +36,32 @@ pub(crate) struct Call {
 const ROOM: u32 = 1_000_000;
 
 impl Call {
-    /// What the program leaves.
+    /// What the program leaves, or what a single call answers as the output.
     pub(crate) fn outcome(self, alloc: Global) -> Result<Outcome, AllocError> {
+        match &self.single {
+            Some(name) => {
+                let name = String::from_str(alloc, name.as_str())?;
+                self.answer_of(alloc, name.as_str())
+            }
+            None => self.run(alloc),
+        }
+    }
+
+    // What the single call of this name answers.
+    fn answer_of(self, alloc: Global, name: &str) -> Result<Outcome, AllocError> {
+        let mut files = MemFiles::new(self.files, self.load_fails);
+        let mut output = String::new(alloc);
+        let words = self.words.as_slice();
+        answer(alloc, name, words, &mut files, &self.input, &mut output)?;
+        Ok(Outcome {
+            status: 0,
+            output: output.into_bytes(),
+            error: Vec::new(alloc),
+        })
+    }
+
+    // What the program leaves.
+    fn run(self, alloc: Global) -> Result<Outcome, AllocError> {
         let mut input = MemSource::new(self.input, self.piece.max(1), self.read_fails);
         let mut files = MemFiles::new(self.files, self.load_fails);
         let mut out = MemSink::new(alloc, self.write_fails, ROOM)?;

@@ -91,6 +91,10 @@ impl Line<'_> {
             return Err(Fault::Bad("bytes that are no text"));
         };
         match self.key {
+            "call" => {
+                row.call.single = Some(String::from_str(alloc, text)?);
+                Ok(())
+            }
             "words" => {
                 for word in text.split_whitespace() {
                     push(&mut row.call.words, String::from_str(alloc, word)?)?;

@@ -15,6 +15,7 @@ impl Row {
         Row {
             name,
             call: Call {
+                single: None,
                 words: Vec::new(alloc),
                 input: Vec::new(alloc),
                 piece: 4096,

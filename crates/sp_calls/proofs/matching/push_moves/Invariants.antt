@@ -1,0 +1,12 @@
+use Rattle.std.proofs.Common.{◌≡◌, ◌≤◌, ◌+◌}
+use Rattle.std.specs.Arc.{arc_value}
+use Rattle.sp_match.specs.Laws.{Below}
+use Rattle.sp_match.specs.Matching.{runs_of}
+use Rattle.sp_calls.proofs.matching.push_moves.Given as goal
+
+abbrev pub invariant-loop-event : goal.invariant-loop-event
+invariant-loop-event l = record {
+  plan : l.matcher.plan ≡ arc_value l.plan;
+  below : Below l.number (runs_of l.matcher);
+  few : l.number ≤ l.event-index + 1;
+}
