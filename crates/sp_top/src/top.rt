@@ -1,7 +1,7 @@
 // The words, and the answer to them.
 ghost use Rattle.std.specs.Prelude.{◌≡◌, ◌⊎◌, false, map, string_bytes};
 ghost use Rattle.sp_io.specs.Outside.{Grew, GrewWithin, Rose};
-ghost use Rattle.sp_top.specs.Answer.{Answered, FileTold, Promise};
+ghost use Rattle.sp_top.specs.Answer.{Answered, FileTold, OwnFile, Promise};
 ghost use Rattle.sp_top.specs.Outcome.{line_of};
 
 use crate::command::command;
@@ -33,6 +33,9 @@ fn answer<S: Source, F: Files, K: Sink>(
         (record { input = S.state input.new; out = K.state out.new })
         result }
     ensures held { F.held files.new ≡ F.held files.old }
+    ensures counts { OwnFile (map string_bytes words.now)
+        (record { held = F.held files.old; faults = F.faults files.old })
+        (record { held = F.held files.new; faults = F.faults files.new }) }
 {
     let Some(place) = command(words) else {
         return Status::Usage;
