@@ -4,6 +4,9 @@ use Rattle.std.proofs.lemmas.List.{append-nil, length-take}
 use Rattle.std.specs.Prelude.{Result, IfOk, IsErr, Option, Some, None, is_some}
 use Rattle.std.specs.declared.alloc.AllocError.{AllocError}
 use Rattle.sp_io.specs.Outside.{SourceState, Gave, Rose}
+use Rattle.sp_plan.specs.Compiled.{IsTimeOf}
+use Rattle.sp_plan.specs.Events.{AllFit, NeverGoesBack}
+use Rattle.sp_plan.specs.declared.event.Event.{Event}
 use Rattle.sp_plan.specs.declared.plan.Plan.{Plan}
 use Rattle.sp_top.specs.declared.reader.Reader.{Reader}
 use Rattle.sp_top.specs.declared.input.Failure.{Failure}
@@ -16,6 +19,8 @@ use Rattle.sp_top.specs.Outcome.{Outcome, status_of, windows_text}
 use Rattle.sp_top.specs.Kept.{reading_of}
 use Rattle.sp_top.specs.Reading.{Reading, read, stop_of, stop_or}
 use Rattle.sp_top.specs.Coming.{comes_to, IsSettled}
+use Rattle.sp_top.proofs.FewEvents.{read_few}
+use Rattle.sp_top.proofs.FitReading.{read_fits}
 use Rattle.sp_top.proofs.Leading.{open_settled}
 use Rattle.sp_top.proofs.Told.{gave_none, gave_more}
 
@@ -55,6 +60,11 @@ failed_is_not_open r (Err e) failed stop = tt
 no_rise : (P : Type 0) (result : Result Given AllocError) → IsNotOpen result → IfOk result (λ given. given.stop ≡ Open → P)
 no_rise P (Ok given) other = λ is. absurd (other is)
 no_rise P (Err e) other = tt
+
+-- what holds of the events of a reading, holds of those that are given
+of_events : (P : List Event → Type 0) (result : Result Given AllocError) (events : List Event) → P events → IfOk result (λ given. given.events.items ≡ events) → IfOk result (λ given. P given.events.items)
+of_events P (Ok given) events p is = subst P (sym is) p
+of_events P (Err e) events p is = tt
 
 -- nothing is told of a count that did not rise
 untold : {P : Type 0} (result : Result Given AllocError) → (P → ⊥) → IfOk result (λ given. P → given.stop ≡ Open)
@@ -110,6 +120,9 @@ unbegun q now (Err e) failed = record {
   no_further = no_further_none q;
   events = tt;
   stop = tt;
+  few = tt;
+  fit = tt;
+  ordered = tt;
   fault = tt;
   told = tt;
 }
@@ -146,11 +159,14 @@ module _ (q : Plan) (old now : SourceState) (reader : Reader) (so_far : ReadSoFa
       no_further = no_further_piece q so_far.taken piece going short;
       events = tt;
       stop = tt;
+      few = tt;
+      fit = tt;
+      ordered = tt;
       fault = tt;
       told = tt;
     }
 
-  module _ (result : Result Given AllocError) where
+  module _ (timed : IsTimeOf q.schema.columns q.schema.time) (result : Result Given AllocError) where
     module _ (ended : Bool) (gave : Gave now.left [] next.left) (is_ended : next.ended ≡ ended)
         (events : IfOk result (λ given. given.events.items ≡ (comes_to reader [] ended).events)) (stop : IfOk result (λ given. given.stop ≡ stop_of (comes_to reader [] ended) ended)) where
       -- the reading ends here
@@ -158,12 +174,16 @@ module _ (q : Plan) (old now : SourceState) (reader : Reader) (so_far : ReadSoFa
       finished fault told =
           let taken = so_far.taken ++ [] in
           let same : comes_to reader [] ended ≡ read q taken next.ended = so_far.leads [] ended ∙ ap (read q taken) (sym is_ended) in
+          let come = subst (λ (r : Reading). IfOk result (λ given. given.events.items ≡ r.events)) same events in
           record {
             taken = taken;
             gave = gave_more old.left now.left next.left so_far.taken [] so_far.gave gave;
             no_further = subst (ReadsNoFurther (IsPlanRun q)) (sym (append-nil so_far.taken)) so_far.no_further;
-            events = subst (λ (r : Reading). IfOk result (λ given. given.events.items ≡ r.events)) same events;
+            events = come;
             stop = subst (λ (e : Bool). IfOk result (λ given. given.stop ≡ stop_of (read q taken next.ended) e)) (sym is_ended) (subst (λ (r : Reading). IfOk result (λ given. given.stop ≡ stop_of r ended)) same stop);
+            few = of_events (λ events. length events ≤ 1048576) result _ (read_few q taken next.ended).few come;
+            fit = of_events (AllFit q) result _ (read_fits q timed taken next.ended).fit come;
+            ordered = of_events NeverGoesBack result _ (read_fits q timed taken next.ended).ordered come;
             fault = fault;
             told = told;
           }

@@ -2,6 +2,7 @@
 use Rattle.std.specs.Prelude.{◌≡◌, ◌≢◌, ◌⊎◌, ◌<◌, ◌≤◌, ℕ, Bool, true, false, List, [], ◌++◌, length, Result, IfOk}
 use Rattle.std.specs.declared.alloc.AllocError.{AllocError}
 use Rattle.sp_io.specs.Outside.{SourceState, SinkState, ToldFiles, Gave, Grew, GrewWithin, Rose}
+use Rattle.sp_plan.specs.Events.{AllFit, NeverGoesBack}
 use Rattle.sp_plan.specs.declared.plan.Plan.{Plan}
 use Rattle.sp_top.specs.Commands.{file, IsCommand}
 use Rattle.sp_top.specs.Reading.{read, stop_of}
@@ -101,6 +102,8 @@ pub record Promise (words : List (List ℕ)) (before after : Filed) (old new : O
   pub counts : OwnFile words before after
   pub line : (Rose err_old.faults err_new.faults → ⊥) → Grew err_old.held (line_of status) err_new.held
   pub line_front : GrewWithin err_old.held (line_of status) err_new.held
+  -- where all went well the error output is not called
+  pub silent : status ≡ Done → err_new ≡ err_old
 
 -- A reading of the input: the bytes that it took and, where memory did not run out, the events that they give and why it stopped.
 pub record ReadsInput (q : Plan) (old new : SourceState) (result : Result Given AllocError) : Type 0 where
@@ -109,6 +112,10 @@ pub record ReadsInput (q : Plan) (old new : SourceState) (result : Result Given 
   pub no_further : ReadsNoFurther (IsPlanRun q) taken
   pub events : IfOk result (λ given. given.events.items ≡ (read q taken new.ended).events)
   pub stop : IfOk result (λ given. given.stop ≡ stop_of (read q taken new.ended) new.ended)
+  -- few events that fit the plan and never go back in time
+  pub few : IfOk result (λ given. length given.events.items ≤ 1048576)
+  pub fit : IfOk result (λ given. AllFit q given.events.items)
+  pub ordered : IfOk result (λ given. NeverGoesBack given.events.items)
   -- the source failed exactly where the reading stops open
   pub fault : IfOk result (λ given. given.stop ≡ Open → Rose old.faults new.faults)
   pub told : IfOk result (λ given. old.faults < new.faults → given.stop ≡ Open)

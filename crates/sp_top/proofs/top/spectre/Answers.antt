@@ -20,4 +20,5 @@ returns g c =
       counts = c.answer-status.ensures.counts;
       line = c.tell.ensures.line;
       line_front = c.tell.ensures.front;
+      silent = c.tell.ensures.silent;
     }
