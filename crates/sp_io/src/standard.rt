@@ -1,7 +1,25 @@
-ghost use Rattle.std.specs.Prelude.{◌≡◌, false, None};
+ghost use Rattle.std.specs.Prelude.{◌≡◌, ◌+◌, ◌-◌, ◌^◌, ◌≤◌, false, None, Ok, min, IfOk, IsErr, OnOk};
 
 use crate::{Failed, Sink, Source};
+use std::io;
 use std::io::Read;
+
+// What a call of the system comes to: its value where it gave one, and else `Failed`, with one fault more.
+fn counted<T>(answer: io::Result<T>, failed: &mut u64) -> Result<T, Failed>
+    ensures value { IfOk answer (λ value. result ≡ Ok value) }
+    ensures fault { IsErr answer → IsErr result }
+    ensures same { OnOk answer (failed.new ≡ failed.old) }
+    ensures never_falls { failed.old ≤ failed.new }
+    ensures counted { IsErr answer → failed.new ≡ min (failed.old + 1) (2 ^ 64 - 1) }
+{
+    match answer {
+        Ok(value) => Ok(value),
+        Err(_) => {
+            *failed = failed.saturating_add(1);
+            Err(Failed)
+        }
+    }
+}
 
 /// Standard input. It tells no bytes, only how often a read failed and whether the input has ended.
 #[derive(Drop)]
@@ -34,18 +52,11 @@ impl Source for StdSource {
     ghost used_up = { used_up };
 
     fn read(&mut self, into: &mut [u8]) -> Result<usize, Failed> {
-        match self.runtime.stdin().read(into) {
-            Ok(count) => {
-                if count == 0 {
-                    self.ended = true;
-                }
-                Ok(count)
-            }
-            Err(_) => {
-                self.failed = self.failed.saturating_add(1);
-                Err(Failed)
-            }
+        let count = counted(self.runtime.stdin().read(into), &mut self.failed)?;
+        if count == 0 {
+            self.ended = true;
         }
+        Ok(count)
     }
 }
 
@@ -84,10 +95,6 @@ impl Sink for StdSink {
         } else {
             self.runtime.stdout().write_all(piece)
         };
-        if written.is_err() {
-            self.failed = self.failed.saturating_add(1);
-            return Err(Failed);
-        }
-        Ok(())
+        counted(written, &mut self.failed)
     }
 }

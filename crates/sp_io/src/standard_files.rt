@@ -1,10 +1,12 @@
-ghost use Rattle.std.specs.Prelude.{◌≡◌, ℕ, List, None};
+ghost use Rattle.std.specs.Prelude.{◌≡◌, ◌≢◌, ℕ, ◌+◌, ◌-◌, ◌^◌, ◌<◌, ◌≤◌, List, None, Ok, Err, length, min, IfOk, IfErr};
+ghost use Rattle.std.specs.IoError.{error_kind};
+ghost use Rattle.sp_io.specs.Outside.{OnFault, OnNoFault};
 
 use crate::{Files, LoadFault, Loaded};
 use std::alloc::Global;
 use std::fs::File;
 use std::io;
-use std::io::Read;
+use std::io::{ErrorKind, Read};
 
 /// The files of the system, by their paths. They don't tell what they hold, only how often a load
 /// failed, with one count for all names.
@@ -34,14 +36,35 @@ impl Files for StdFiles {
     ghost faults = { faults_of };
 
     fn load(&mut self, alloc: Global, name: &str, limit: u32) -> Result<Loaded, LoadFault> {
-        match front_of(&self.runtime, alloc, name, u64::from(limit) + 1) {
-            Ok(bytes) if bytes.len() > limit as usize => Ok(Loaded::TooLong),
-            Ok(bytes) => Ok(Loaded::Bytes(bytes)),
-            Err(error) if error.kind() == io::ErrorKind::OutOfMemory => Err(LoadFault::Memory),
-            Err(_) => {
-                self.failed = self.failed.saturating_add(1);
-                Err(LoadFault::Failed)
-            }
+        let read = front_of(&self.runtime, alloc, name, asked(limit));
+        loaded(read, limit, &mut self.failed)
+    }
+}
+
+// How many bytes of a file are asked for: one more than it may have, so that a longer one is told.
+fn asked(limit: u32) -> u64
+    ensures { result ≡ limit + 1 }
+{
+    u64::from(limit) + 1
+}
+
+// What a file comes to of which these are the bytes, or whose call failed. A fault that isn't want of memory is counted.
+fn loaded(read: io::Result<Vec<u8>>, limit: u32, failed: &mut u64) -> Result<Loaded, LoadFault>
+    ensures bytes { IfOk read (λ bytes. length bytes.items ≤ limit → result ≡ Ok (Loaded.Bytes bytes)) }
+    ensures too_long { IfOk read (λ bytes. limit < length bytes.items → result ≡ Ok Loaded.TooLong) }
+    ensures memory { IfErr read (λ error. error_kind error ≡ ErrorKind.OutOfMemory → result ≡ Err LoadFault.Memory) }
+    ensures failed { IfErr read (λ error. error_kind error ≢ ErrorKind.OutOfMemory → result ≡ Err LoadFault.Failed) }
+    ensures counted { OnFault result (failed.new ≡ min (failed.old + 1) (2 ^ 64 - 1)) }
+    ensures never_falls { failed.old ≤ failed.new }
+    ensures uncounted { OnNoFault result (failed.new ≡ failed.old) }
+{
+    match read {
+        Ok(bytes) if bytes.len() > limit as usize => Ok(Loaded::TooLong),
+        Ok(bytes) => Ok(Loaded::Bytes(bytes)),
+        Err(error) if error.kind() == ErrorKind::OutOfMemory => Err(LoadFault::Memory),
+        Err(_) => {
+            *failed = failed.saturating_add(1);
+            Err(LoadFault::Failed)
         }
     }
 }

@@ -1,22 +1,34 @@
 -- The reading of the input, from one call of the source to the next.
-use Rattle.std.proofs.Common.{◌≡◌, ◌≢◌, ℕ, Bool, true, false, List, [], ◌++◌, Ok, Err, refl, sym, ◌∙◌, ap, subst, append_assoc}
+use Rattle.std.proofs.Common.{◌≡◌, ◌≢◌, ℕ, ◌<◌, ◌≤◌, Bool, true, false, List, [], ◌++◌, length, take, Ok, Err, refl, sym, ◌∙◌, ap, subst, append_assoc, arith}
+use Rattle.std.proofs.lemmas.List.{append-nil, length-take}
 use Rattle.std.specs.Prelude.{Result, IfOk, IsErr, Option, Some, None, is_some}
 use Rattle.std.specs.declared.alloc.AllocError.{AllocError}
 use Rattle.sp_io.specs.Outside.{SourceState, Gave, Rose}
+use Rattle.sp_plan.specs.Compiled.{IsTimeOf}
+use Rattle.sp_plan.specs.Events.{AllFit, NeverGoesBack}
+use Rattle.sp_plan.specs.declared.event.Event.{Event}
 use Rattle.sp_plan.specs.declared.plan.Plan.{Plan}
 use Rattle.sp_top.specs.declared.reader.Reader.{Reader}
 use Rattle.sp_top.specs.declared.input.Failure.{Failure}
 use Rattle.sp_top.specs.declared.input.Given.{Given}
 use Rattle.sp_top.specs.declared.input.Stop.TheVariants.{Open}
-use Rattle.sp_top.specs.Answer.{ReadsInput}
+use Rattle.sp_top.specs.declared.input.Stop.{Stop}
+use Rattle.sp_top.specs.declared.status.Status.TheVariants.{Read}
+use Rattle.sp_top.specs.Answer.{ReadsInput, ReadsNoFurther, IsPlanRun}
+use Rattle.sp_top.specs.Outcome.{Outcome, status_of, windows_text}
+use Rattle.sp_top.specs.Kept.{reading_of}
 use Rattle.sp_top.specs.Reading.{Reading, read, stop_of, stop_or}
-use Rattle.sp_top.specs.Coming.{comes_to}
+use Rattle.sp_top.specs.Coming.{comes_to, IsSettled}
+use Rattle.sp_top.proofs.FewEvents.{read_few}
+use Rattle.sp_top.proofs.FitReading.{read_fits}
+use Rattle.sp_top.proofs.Leading.{open_settled}
 use Rattle.sp_top.proofs.Told.{gave_none, gave_more}
 
 -- the bytes taken so far, and what they lead to with all that may come
 pub record ReadSoFar (q : Plan) (old now : SourceState) (reader : Reader) : Type 0 where
   pub taken : List ℕ
   pub gave : Gave old.left taken now.left
+  pub no_further : ReadsNoFurther (IsPlanRun q) taken
   pub ended : now.ended ≡ false
   pub faults : now.faults ≡ old.faults
   pub leads : (more : List ℕ) (ended : Bool) → comes_to reader more ended ≡ read q (taken ++ more) ended
@@ -49,56 +61,142 @@ no_rise : (P : Type 0) (result : Result Given AllocError) → IsNotOpen result �
 no_rise P (Ok given) other = λ is. absurd (other is)
 no_rise P (Err e) other = tt
 
+-- what holds of the events of a reading, holds of those that are given
+of_events : (P : List Event → Type 0) (result : Result Given AllocError) (events : List Event) → P events → IfOk result (λ given. given.events.items ≡ events) → IfOk result (λ given. P given.events.items)
+of_events P (Ok given) events p is = subst P (sym is) p
+of_events P (Err e) events p is = tt
+
+-- nothing is told of a count that did not rise
+untold : {P : Type 0} (result : Result Given AllocError) → (P → ⊥) → IfOk result (λ given. P → given.stop ≡ Open)
+untold (Ok given) none = λ p. absurd (none p)
+untold (Err e) none = tt
+
+-- where a stop is open, it is so whatever holds
+is_open : (P : Type 0) (result : Result Given AllocError) (stop : Stop) → stop ≡ Open → IfOk result (λ given. given.stop ≡ stop) → IfOk result (λ given. P → given.stop ≡ Open)
+is_open P (Ok given) stop same is = λ p. is ∙ same
+is_open P (Err e) stop same is = tt
+
 -- what holds, holds where the answer is open
 rise : {P : Type 0} (result : Result Given AllocError) → P → IfOk result (λ given. given.stop ≡ Open → P)
 rise (Ok given) p = λ is. p
 rise (Err e) p = tt
 
+-- what is read on, and what has stopped so, with this text
+abbrev nothing_yet : List ℕ → Outcome
+nothing_yet text = record { status = Read; text = text }
+
+abbrev with_stop : Stop → List ℕ → Outcome
+with_stop stop text = record { status = status_of stop; text = text }
+
+-- open input whose rows have not stopped the reading has the outcome of a fault of the input
+open_outcome : (q : Plan) (r : Reading) (text : List ℕ) → r.stopped ≡ None → nothing_yet text ≡ with_stop (stop_of r false) text
+open_outcome q r text going = ap (λ (o : Option Failure). with_stop (stop_or r false o) text) (sym going)
+
+-- one piece was read behind bytes that had not stopped the reading
+pub no_further_piece : (q : Plan) (front piece : List ℕ) → (read q front false).stopped ≡ None → length piece ≤ 4096 → ReadsNoFurther (IsPlanRun q) (front ++ piece)
+no_further_piece q front piece going short = record {
+  front = front;
+  piece = piece;
+  are = refl;
+  short = short;
+  text = windows_text q (read q front false).events (stop_of (read q front false) false);
+  goes_on = open_outcome q (read q front false) _ going;
+}
+
+-- a front of a buffer is a piece
+pub few_taken : (n : ℕ) (buffer : List ℕ) → length buffer ≤ 4096 → length (take n buffer) ≤ 4096
+few_taken n buffer small = omega (arith, small, length-take n buffer)
+
+-- nothing was taken
+pub no_further_none : (q : Plan) → ReadsNoFurther (IsPlanRun q) []
+no_further_none q = no_further_piece q [] [] refl (omega arith)
+
+-- memory ran out before anything was read
+pub unbegun : (q : Plan) (now : SourceState) (result : Result Given AllocError) → IsErr result → ReadsInput q now now result
+unbegun q now (Ok given) failed = absurd (cc failed)
+unbegun q now (Err e) failed = record {
+  taken = [];
+  gave = gave_none now.left;
+  no_further = no_further_none q;
+  events = tt;
+  stop = tt;
+  few = tt;
+  fit = tt;
+  ordered = tt;
+  fault = tt;
+  told = tt;
+}
+
+-- a reader that has not stopped has taken bytes that don't stop the reading
+pub still_going : (q : Plan) (old now : SourceState) (reader : Reader) (so_far : ReadSoFar q old now reader) → reader.cutter.ended ≡ false → IsSettled reader → (reading_of reader.kept).stopped ≡ None → (read q so_far.taken false).stopped ≡ None
+still_going q old now reader so_far open_ settled going =
+    sym (ap (λ (bytes : List ℕ). (read q bytes false).stopped) (append-nil so_far.taken))
+    ∙ sym (ap (λ (r : Reading). r.stopped) (open_settled reader open_ settled ∙ so_far.leads [] false)) ∙ going
+
+-- an input that goes on, and has not stopped the reading, is open
+open_stop : (r : Reading) → r.stopped ≡ None → stop_of r false ≡ Open
+open_stop r going = ap (stop_or r false) going
+
 module _ (q : Plan) (old now : SourceState) (reader : Reader) (so_far : ReadSoFar q old now reader) (next : SourceState) where
-  -- one piece more
-  pub fed : (piece : List ℕ) (after : Reader) → Gave now.left piece next.left → next.ended ≡ now.ended → next.faults ≡ now.faults → ((more : List ℕ) (ended : Bool) → comes_to after more ended ≡ comes_to reader (piece ++ more) ended) → ReadSoFar q old next after
-  fed piece after gave ended faults on = record {
-    taken = so_far.taken ++ piece;
-    gave = gave_more old.left now.left next.left so_far.taken piece so_far.gave gave;
-    ended = ended ∙ so_far.ended;
-    faults = faults ∙ so_far.faults;
-    leads = λ more ended. on more ended ∙ so_far.leads (piece ++ more) ended ∙ ap (λ (bytes : List ℕ). read q bytes ended) (sym (append_assoc so_far.taken piece more));
-  }
+  module _ (going : (read q so_far.taken false).stopped ≡ None) (piece : List ℕ) (short : length piece ≤ 4096) (gave : Gave now.left piece next.left) where
+    -- one piece more
+    pub fed : (after : Reader) → next.ended ≡ now.ended → next.faults ≡ now.faults → ((more : List ℕ) (ended : Bool) → comes_to after more ended ≡ comes_to reader (piece ++ more) ended) → ReadSoFar q old next after
+    fed after ended faults on = record {
+      taken = so_far.taken ++ piece;
+      gave = gave_more old.left now.left next.left so_far.taken piece so_far.gave gave;
+      no_further = no_further_piece q so_far.taken piece going short;
+      ended = ended ∙ so_far.ended;
+      faults = faults ∙ so_far.faults;
+      leads = λ more ended. on more ended ∙ so_far.leads (piece ++ more) ended ∙ ap (λ (bytes : List ℕ). read q bytes ended) (sym (append_assoc so_far.taken piece more));
+    }
 
-  -- memory ran out
-  pub out_of_memory : (piece : List ℕ) (result : Result Given AllocError) → Gave now.left piece next.left → IsErr result → ReadsInput q old next result
-  out_of_memory piece (Ok given) gave failed = absurd (cc failed)
-  out_of_memory piece (Err e) gave failed = record {
-    taken = so_far.taken ++ piece;
-    gave = gave_more old.left now.left next.left so_far.taken piece so_far.gave gave;
-    events = tt;
-    stop = tt;
-    fault = tt;
-  }
+    -- memory ran out
+    pub out_of_memory : (result : Result Given AllocError) → IsErr result → ReadsInput q old next result
+    out_of_memory (Ok given) failed = absurd (cc failed)
+    out_of_memory (Err e) failed = record {
+      taken = so_far.taken ++ piece;
+      gave = gave_more old.left now.left next.left so_far.taken piece so_far.gave gave;
+      no_further = no_further_piece q so_far.taken piece going short;
+      events = tt;
+      stop = tt;
+      few = tt;
+      fit = tt;
+      ordered = tt;
+      fault = tt;
+      told = tt;
+    }
 
-  module _ (result : Result Given AllocError) where
+  module _ (timed : IsTimeOf q.schema.columns q.schema.time) (result : Result Given AllocError) where
     module _ (ended : Bool) (gave : Gave now.left [] next.left) (is_ended : next.ended ≡ ended)
         (events : IfOk result (λ given. given.events.items ≡ (comes_to reader [] ended).events)) (stop : IfOk result (λ given. given.stop ≡ stop_of (comes_to reader [] ended) ended)) where
       -- the reading ends here
-      finished : IfOk result (λ given. given.stop ≡ Open → Rose old.faults next.faults) → ReadsInput q old next result
-      finished fault =
+      finished : IfOk result (λ given. given.stop ≡ Open → Rose old.faults next.faults) → IfOk result (λ given. old.faults < next.faults → given.stop ≡ Open) → ReadsInput q old next result
+      finished fault told =
           let taken = so_far.taken ++ [] in
           let same : comes_to reader [] ended ≡ read q taken next.ended = so_far.leads [] ended ∙ ap (read q taken) (sym is_ended) in
+          let come = subst (λ (r : Reading). IfOk result (λ given. given.events.items ≡ r.events)) same events in
           record {
             taken = taken;
             gave = gave_more old.left now.left next.left so_far.taken [] so_far.gave gave;
-            events = subst (λ (r : Reading). IfOk result (λ given. given.events.items ≡ r.events)) same events;
+            no_further = subst (ReadsNoFurther (IsPlanRun q)) (sym (append-nil so_far.taken)) so_far.no_further;
+            events = come;
             stop = subst (λ (e : Bool). IfOk result (λ given. given.stop ≡ stop_of (read q taken next.ended) e)) (sym is_ended) (subst (λ (r : Reading). IfOk result (λ given. given.stop ≡ stop_of r ended)) same stop);
+            few = of_events (λ events. length events ≤ 1048576) result _ (read_few q taken next.ended).few come;
+            fit = of_events (AllFit q) result _ (read_fits q timed taken next.ended).fit come;
+            ordered = of_events NeverGoesBack result _ (read_fits q timed taken next.ended).ordered come;
             fault = fault;
+            told = told;
           }
 
       -- the reading stops without a fault of the source
-      pub stopped : IsNotOpen result → ReadsInput q old next result
-      stopped other = finished (no_rise (Rose old.faults next.faults) result other)
+      pub stopped : next.faults ≡ now.faults → IsNotOpen result → ReadsInput q old next result
+      stopped quiet other = finished (no_rise (Rose old.faults next.faults) result other) (untold result (λ rose. absurd (omega (arith, rose, quiet, so_far.faults))))
 
-      -- the source failed
-      pub source_failed : Rose now.faults next.faults → ReadsInput q old next result
-      source_failed rose = finished (rise result (subst (λ (n : ℕ). Rose n next.faults) so_far.faults rose))
+    -- the source failed
+    pub source_failed : (gave : Gave now.left [] next.left) → next.ended ≡ false → (comes_to reader [] false).stopped ≡ None → IfOk result (λ given. given.events.items ≡ (comes_to reader [] false).events) → IfOk result (λ given. given.stop ≡ stop_of (comes_to reader [] false) false)
+        → Rose now.faults next.faults → ReadsInput q old next result
+    source_failed gave is_ended going events stop rose =
+        finished false gave is_ended events stop (rise result (subst (λ (n : ℕ). Rose n next.faults) so_far.faults rose)) (is_open (old.faults < next.faults) result _ (open_stop (comes_to reader [] false) going) stop)
 
 -- an option that is no Some is None
 pub none_where : {X : Type 0} (o : Option X) → is_some o ≡ false → o ≡ None
@@ -110,6 +208,7 @@ pub begun : (q own : Plan) (now : SourceState) (reader : Reader) → own ≡ q �
 begun q own now reader same going leads = record {
   taken = [];
   gave = gave_none now.left;
+  no_further = no_further_none q;
   ended = going;
   faults = refl;
   leads = λ more ended. leads more ended ∙ ap (λ (p : Plan). read p more ended) same;

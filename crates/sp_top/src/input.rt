@@ -1,5 +1,6 @@
 ghost use Rattle.std.specs.Prelude.{◌≡◌, false};
 ghost use Rattle.std.specs.Arc.{arc_value};
+ghost use Rattle.sp_plan.specs.Compiled.{IsCompiled};
 ghost use Rattle.sp_top.specs.Answer.{ReadsInput};
 
 use crate::reader::Reader;
@@ -39,12 +40,13 @@ pub(crate) struct Given {
 const PIECE: usize = 4096;
 
 /// Reads the rows of the input, up to its end, to the first one that fails or to a fault of the
-/// source.
+/// source. The events fit the plan, and their times never go back.
 pub(crate) fn read_input<S: Source>(
     alloc: Global,
     plan: &Arc<Plan>,
     input: &mut S,
 ) -> Result<Given, Memory>
+    requires compiled { IsCompiled (arc_value plan.now) }
     requires not_ended { (S.state input.old).ended ≡ false }
     ensures { ReadsInput (arc_value plan.now) (S.state input.old) (S.state input.new) result }
 {

@@ -1,10 +1,10 @@
 // A query from the place where it stands: from a word of the command, or from a file.
-ghost use Rattle.std.specs.Prelude.{◌≡◌, ◌≤◌, ◌<◌, ℕ, List, length, IfOk, IfErr, Err};
+ghost use Rattle.std.specs.Prelude.{◌≡◌, ◌⊎◌, ◌≤◌, ◌<◌, ℕ, List, length, IfOk, IfErr, Err};
 ghost use Rattle.sp_cut.specs.CutRows.{without_mark};
-ghost use Rattle.sp_top.specs.Answer.{Filed};
+ghost use Rattle.sp_top.specs.Answer.{Filed, SameCounts};
 ghost use Rattle.sp_top.specs.Commands.{place_of, word, file};
 ghost use Rattle.sp_top.specs.Outcome.{longest_query};
-ghost use Rattle.sp_top.specs.Queries.{IsPlanFor, RefusesText, IsPlanAt, RefusesPlace};
+ghost use Rattle.sp_top.specs.Queries.{IsPlanFor, RefusesText, IsPlanAt, IsUnread, RefusesPlace};
 
 use crate::command::Place;
 use crate::query::read_query;
@@ -60,6 +60,8 @@ fn plan_in_file<F: Files>(alloc: Global, name: &str, files: &mut F) -> Result<Pl
     ensures refused { IfErr result (RefusesPlace (record { held = F.held files.old; faults = F.faults files.old }) (record { held = F.held files.new; faults = F.faults files.new }) (file name.now)) }
     ensures held { F.held files.new ≡ F.held files.old }
     ensures told { (other : List ℕ) → F.faults files.old other < F.faults files.new other → result ≡ Err Status.Read }
+    ensures counts { SameCounts (record { held = F.held files.old; faults = F.faults files.old }) (record { held = F.held files.new; faults = F.faults files.new })
+        ⊎ IsUnread (record { held = F.held files.old; faults = F.faults files.old }) (record { held = F.held files.new; faults = F.faults files.new }) (file name.now) }
 {
     match files.load(alloc, name, LONGEST) {
         Ok(Loaded::Bytes(bytes)) => plan_of_bytes(alloc, without_mark(&bytes)),
@@ -77,6 +79,8 @@ pub(crate) fn plan_at<F: Files>(alloc: Global, place: Place, files: &mut F) -> R
     ensures refused { IfErr result (RefusesPlace (record { held = F.held files.old; faults = F.faults files.old }) (record { held = F.held files.new; faults = F.faults files.new }) (place_of place.entry)) }
     ensures held { F.held files.new ≡ F.held files.old }
     ensures told { (other : List ℕ) → F.faults files.old other < F.faults files.new other → result ≡ Err Status.Read }
+    ensures counts { SameCounts (record { held = F.held files.old; faults = F.faults files.old }) (record { held = F.held files.new; faults = F.faults files.new })
+        ⊎ IsUnread (record { held = F.held files.old; faults = F.faults files.old }) (record { held = F.held files.new; faults = F.faults files.new }) (place_of place.entry) }
 {
     match place {
         Place::Word(text) => plan_in_word(alloc, text),

@@ -1,7 +1,7 @@
 // The words, and the answer to them.
-ghost use Rattle.std.specs.Prelude.{◌≡◌, ◌⊎◌, false, map, string_bytes};
+ghost use Rattle.std.specs.Prelude.{◌≡◌, ◌⊎◌, [], false, map, string_bytes};
 ghost use Rattle.sp_io.specs.Outside.{Grew, GrewWithin, Rose};
-ghost use Rattle.sp_top.specs.Answer.{Answered, FileTold, Promise};
+ghost use Rattle.sp_top.specs.Answer.{Answered, FileTold, OwnFile, Promise};
 ghost use Rattle.sp_top.specs.Outcome.{line_of};
 
 use crate::command::command;
@@ -33,6 +33,9 @@ fn answer<S: Source, F: Files, K: Sink>(
         (record { input = S.state input.new; out = K.state out.new })
         result }
     ensures held { F.held files.new ≡ F.held files.old }
+    ensures counts { OwnFile (map string_bytes words.now)
+        (record { held = F.held files.old; faults = F.faults files.old })
+        (record { held = F.held files.new; faults = F.faults files.new }) }
 {
     let Some(place) = command(words) else {
         return Status::Usage;
@@ -47,6 +50,7 @@ fn answer<S: Source, F: Files, K: Sink>(
 fn write_line<E: Sink>(line: &str, err: &mut E)
     ensures line { (Rose (E.state err.old).faults (E.state err.new).faults → ⊥) → Grew (E.state err.old).held line.now (E.state err.new).held }
     ensures front { GrewWithin (E.state err.old).held line.now (E.state err.new).held }
+    ensures silent { line.now ≡ [] → E.state err.new ≡ E.state err.old }
 {
     if !line.is_empty() {
         let _ = err.write_all(line.as_bytes());
@@ -58,6 +62,7 @@ fn tell<E: Sink>(alloc: Global, status: Status, err: &mut E) -> Status
     ensures status { (result ≡ status) ⊎ (result ≡ Status.Memory) }
     ensures line { (Rose (E.state err.old).faults (E.state err.new).faults → ⊥) → Grew (E.state err.old).held (line_of result) (E.state err.new).held }
     ensures front { GrewWithin (E.state err.old).held (line_of result) (E.state err.new).held }
+    ensures silent { result ≡ Status.Done → E.state err.new ≡ E.state err.old }
 {
     match status.line(alloc) {
         Ok(line) => {

@@ -1,48 +1,26 @@
 use Rattle.std.proofs.Common.{[], Ok, length, refl, sym, ap, subst, arith}
 use Rattle.std.specs.Arc.{arc_value}
-use Rattle.sp_plan.specs.Compiled.{IsTimeOf}
-use Rattle.sp_plan.specs.Events.{AllFit, NeverGoesBack}
 use Rattle.sp_plan.specs.declared.plan.Plan.{Plan}
 use Rattle.sp_top.specs.Outcome.{run_outcome}
-use Rattle.sp_top.specs.Answer.{IsPlanRun}
+use Rattle.sp_top.specs.Answer.{IsPlanRun, ReadsNoFurther}
 use Rattle.sp_top.proofs.Answering.{all_written, cut_short}
 use Rattle.sp_top.proofs.Told.{gave_none}
-use Rattle.sp_top.proofs.FewEvents.{read_few}
-use Rattle.sp_top.proofs.FitReading.{read_fits}
+use Rattle.sp_top.proofs.ReadSoFar.{no_further_none}
 use Rattle.sp_top.proofs.run.run_plan.Goals as goal
 
 pub returns-in_default : goal.returns-in_default
 returns-in_default g c =
     let state = g.S.Source.state c.args.input.now in
-    cut_short (IsPlanRun c.args.plan) _ _ [] (run_outcome c.args.plan [] state.ended) (gave_none state.left) refl refl
+    cut_short (IsPlanRun c.args.plan) _ _ [] (run_outcome c.args.plan [] state.ended) (gave_none state.left) refl (no_further_none c.args.plan) refl
 
 pub returns-in_default-read_input : goal.returns-in_default-read_input
 returns-in_default-read_input g c =
-    let taken = c.read_input.ensures.taken in
-    cut_short (IsPlanRun c.args.plan) _ _ taken (run_outcome c.args.plan taken (g.S.Source.state c.read_input.new.input).ended) c.read_input.ensures.gave refl refl
-
-pub write_windows-requires-clause-few : goal.write_windows-requires-clause-few
-write_windows-requires-clause-few g c κs within =
-    let reads = c.in-Ok-read_input.ensures in
-    let few = (read_few (arc_value c.in-Ok.plan) reads.taken (g.S.Source.state c.read_input.new.input).ended).few in
-    omega (arith, few, ap length reads.events)
-
-pub write_windows-requires-clause-fit : goal.write_windows-requires-clause-fit
-write_windows-requires-clause-fit g c κs within =
-    let reads = c.in-Ok-read_input.ensures in
-    let q = arc_value c.in-Ok.plan in
-    let timed : IsTimeOf q.schema.columns q.schema.time = subst (λ (p : Plan). IsTimeOf p.schema.columns p.schema.time) (sym c.in-Ok.ensures) c.requires.compiled.time in
-    subst (AllFit q) (sym reads.events) (read_fits q timed reads.taken (g.S.Source.state c.read_input.new.input).ended).fit
-
-pub write_windows-requires-clause-ordered : goal.write_windows-requires-clause-ordered
-write_windows-requires-clause-ordered g c κs within =
-    let reads = c.in-Ok-read_input.ensures in
-    let q = arc_value c.in-Ok.plan in
-    let timed : IsTimeOf q.schema.columns q.schema.time = subst (λ (p : Plan). IsTimeOf p.schema.columns p.schema.time) (sym c.in-Ok.ensures) c.requires.compiled.time in
-    subst NeverGoesBack (sym reads.events) (read_fits q timed reads.taken (g.S.Source.state c.read_input.new.input).ended).ordered
+    let reads = c.read_input.ensures in
+    let no_further = subst (λ (q : Plan). ReadsNoFurther (IsPlanRun q) reads.taken) c.in-Ok.ensures reads.no_further in
+    cut_short (IsPlanRun c.args.plan) _ _ reads.taken (run_outcome c.args.plan reads.taken (g.S.Source.state c.read_input.new.input).ended) reads.gave refl no_further refl
 
 pub returns-in-Ok-All : goal.returns-in-Ok-All
 returns-in-Ok-All g c =
     let reads = c.in-Ok-read_input.ensures in
-    all_written c.args.plan (arc_value c.in-Ok.plan) _ _ reads.taken c.in-Ok-read_input.given c.status_of.result c.in-Ok.ensures reads.gave reads.events reads.stop reads.fault c.status_of.ensures
+    all_written c.args.plan (arc_value c.in-Ok.plan) _ _ reads.taken c.in-Ok-read_input.given c.status_of.result c.in-Ok.ensures reads.gave reads.no_further reads.events reads.stop reads.fault reads.told c.status_of.ensures
     (c.in-Ok-All.ensures.all (ap Ok c.in-Ok-All.field-0-is)) (c.in-Ok-All.ensures.not_failed (λ e. cc))

@@ -1,16 +1,15 @@
-use Rattle.std.proofs.Common.{inl, inr, refl, map}
+use Rattle.std.proofs.Common.{inl, refl, map}
 use Rattle.std.specs.Prelude.{string_bytes}
-use Rattle.sp_top.specs.declared.status.Status.TheVariants.{Usage}
 use Rattle.sp_top.specs.Commands.{place_of}
-use Rattle.sp_top.specs.Outcome.{IsOutcome}
-use Rattle.sp_top.specs.Answer.{Outside, Filed}
-use Rattle.sp_top.proofs.Answering.{at_once, refused_at, ran_at}
+use Rattle.sp_top.specs.Answer.{Outside, Filed, by_refusal}
+use Rattle.sp_top.proofs.Answering.{refused_at, ran_at, own_file}
 use Rattle.sp_top.proofs.top.answer.Goals as goal
 
 pub returns-in_default-clause-answered : goal.returns-in_default-clause-answered
-returns-in_default-clause-answered g c =
-    let old : Outside = record { input = g.S.Source.state c.args.input.now; out = g.K.Sink.state c.args.out.now } in
-    inr (inr (at_once (IsOutcome (map string_bytes c.args.words.now) (g.F.Files.held c.args.files.now)) old Usage tt (inl (c.in_default.ensures.none, refl))))
+returns-in_default-clause-answered g c = by_refusal (record { is = λ bytes ended. inl (c.in_default.ensures.none, refl); same = refl })
+
+pub returns-in_default-clause-counts : goal.returns-in_default-clause-counts
+returns-in_default-clause-counts g c = inl (λ name. refl)
 
 pub returns-in-Ok-clause-answered : goal.returns-in-Ok-clause-answered
 returns-in-Ok-clause-answered g c =
@@ -26,3 +25,15 @@ returns-in-Err-clause-answered g c =
     let after : Filed = record { held = g.F.Files.held c.plan_at.new.files; faults = g.F.Files.faults c.plan_at.new.files } in
     let old : Outside = record { input = g.S.Source.state c.args.input.now; out = g.K.Sink.state c.args.out.now } in
     refused_at (map string_bytes c.args.words.now) before after old (place_of c.in-Some.place) c.in-Err.status c.in-Some.ensures.some c.in-Err.ensures.refused
+
+pub returns-in-Ok-clause-counts : goal.returns-in-Ok-clause-counts
+returns-in-Ok-clause-counts g c =
+    let before : Filed = record { held = g.F.Files.held c.args.files.now; faults = g.F.Files.faults c.args.files.now } in
+    let after : Filed = record { held = g.F.Files.held c.plan_at.new.files; faults = g.F.Files.faults c.plan_at.new.files } in
+    own_file (map string_bytes c.args.words.now) before after (place_of c.in-Some.place) c.in-Some.ensures.some c.plan_at.ensures.counts
+
+pub returns-in-Err-clause-counts : goal.returns-in-Err-clause-counts
+returns-in-Err-clause-counts g c =
+    let before : Filed = record { held = g.F.Files.held c.args.files.now; faults = g.F.Files.faults c.args.files.now } in
+    let after : Filed = record { held = g.F.Files.held c.plan_at.new.files; faults = g.F.Files.faults c.plan_at.new.files } in
+    own_file (map string_bytes c.args.words.now) before after (place_of c.in-Some.place) c.in-Some.ensures.some c.plan_at.ensures.counts

@@ -17,6 +17,8 @@ returns g c =
       answered = answered_short words before after old new c.answer-status.result c.tell.result c.tell.ensures.status c.answer-status.ensures.answered;
       file_told = told_short words before after old new c.answer-status.result c.tell.result c.tell.ensures.status c.answer-status.ensures.told;
       files = c.answer-status.ensures.held;
+      counts = c.answer-status.ensures.counts;
       line = c.tell.ensures.line;
       line_front = c.tell.ensures.front;
+      silent = c.tell.ensures.silent;
     }
