@@ -1,3 +1,4 @@
+pub mod Rising
 mod Worked
 mod RolledBack
 mod OutAtPromotion

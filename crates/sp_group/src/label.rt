@@ -1,5 +1,6 @@
-ghost use Rattle.std.specs.Prelude.{◌≡◌, ℕ, List, IfOk, IfSome, IsSome, IsNone};
-ghost use Rattle.sp_group.specs.Rising.{IsLabel};
+ghost use Rattle.std.specs.Prelude.{◌≡◌, ◌≢◌, ◌↔◌, ℕ, ◌==◌, false, not, List, [], filter, IsTrue, IfOk, IfSome, IsSome, IsNone, OnOk, OnErr};
+ghost use Rattle.sp_plan.specs.Runs.{is_among};
+ghost use Rattle.sp_group.specs.Rising.{IsLabel, with_number};
 
 use crate::Memory;
 use std::alloc::Global;
@@ -43,5 +44,59 @@ impl Label {
         ensures label { IsLabel result.now }
     {
         &self.runs
+    }
+
+    /// No run. Takes no memory.
+    pub fn empty(alloc: Global) -> Label
+        ensures { result ≡ [] }
+    {
+        Label {
+            runs: Vec::new(alloc),
+        }
+    }
+
+    /// Whether this run is among them.
+    pub fn has(&self, run: u32) -> bool
+        ensures { result ≡ is_among self.now run }
+    {
+        self.runs.iter().any(|r| *r == run)
+    }
+
+    /// Whether the other has the same runs.
+    pub fn same(&self, other: &Label) -> bool
+        ensures { IsTrue result ↔ self.now ≡ other.now }
+    {
+        self.runs == other.runs
+    }
+
+    /// The same runs once more.
+    pub fn copy(&self, alloc: Global) -> Result<Label, Memory>
+        ensures { IfOk result (λ copy. copy ≡ self.now) }
+    {
+        Ok(Label {
+            runs: self.runs.to_vec(alloc)?,
+        })
+    }
+
+    /// Takes a run in that isn't among them. After want of memory the runs are as before.
+    pub fn insert(&mut self, run: u32) -> Result<(), Memory>
+        requires given { run ≢ 0 }
+        requires new { is_among self.old run ≡ false }
+        ensures with { OnOk result (self.new ≡ with_number self.old run) }
+        ensures err { OnErr result (self.new ≡ self.old) }
+    {
+        let mut at = 0;
+        while at < self.runs.len() && self.runs[at] < run {
+            at += 1;
+        }
+        self.runs.insert(at, run)?;
+        Ok(())
+    }
+
+    /// Takes a run out, if it is among them. Takes no memory.
+    pub fn remove(&mut self, run: u32)
+        ensures { self.new ≡ filter (λ r. not (r == run)) self.old }
+    {
+        self.runs.retain(|r| *r != run);
     }
 }

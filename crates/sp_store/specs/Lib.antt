@@ -1,0 +1,4 @@
+pub mod Stored
+pub mod Faults
+pub mod Places
+pub mod Lends

@@ -1,0 +1,26 @@
+use Rattle.std.proofs.Common.{◌≡◌, ◌-◌, length, sym, ap, subst, ◌∙◌, refl}
+use Rattle.sp_store.specs.Stored.{Stored}
+use Rattle.sp_tree.specs.Joined.{joined}
+use Rattle.sp_tree.specs.Changes.{changed_by}
+use Rattle.sp_tree.proofs.Pruned.{At, at_start, step_kept, step_gone}
+use Rattle.sp_tree.proofs.tree.prune.Goals as goal
+
+pub loop-i-init : goal.loop-i-init
+loop-i-init g c = (at_start c.args.first (changed_by c.args.change) c.args.versions.now.items c.args.values.now c.len-i.result c.requires.joined (c.len-i.ensures ∙ c.args.versions.now.ok.0) c.requires.within, refl, refl)
+
+pub loop-i-preserved-then-not-stays : goal.loop-i-preserved-then-not-stays
+loop-i-preserved-then-not-stays g c =
+    let h = c.loop-i.invariant in let rest = c.take.ensures.rest in (
+      subst (λ (z : Stored g.row.V.Denot). At c.args.first (changed_by c.args.change) (c.loop-i.i - 1) (joined c.args.versions.now.items c.args.values.now.entries) c.remove-gone.new.self.items z) (sym rest)
+          (step_gone c.args.first (changed_by c.args.change) c.loop-i.i (joined c.args.versions.now.items c.args.values.now.entries) c.loop-i.versions.items c.loop-i.values c.loop-i-test.true h.0 c.stays.new.versions.items c.remove-gone.new.self.items c.remove-gone.result c.if-not-stays.ensures c.remove-gone.ensures.value c.remove-gone.ensures.items),
+      ap (λ (z : Stored g.row.V.Denot). z.next) rest ∙ h.1,
+      ap (λ (z : Stored g.row.V.Denot). z.bound) rest ∙ h.2,
+    )
+
+pub loop-i-preserved : goal.loop-i-preserved
+loop-i-preserved g c =
+    let h = c.loop-i.invariant in (
+      step_kept c.args.first (changed_by c.args.change) c.loop-i.i (joined c.args.versions.now.items c.args.values.now.entries) c.loop-i.versions.items c.loop-i.values c.loop-i-test.true h.0 c.stays.new.versions.items c.if-not-stays.ensures,
+      h.1,
+      h.2,
+    )

@@ -1,0 +1,15 @@
+use Rattle.std.proofs.Common.{◌≡◌, ◌<◌, ◌≤◌, length, take, drop}
+use Rattle.sp_group.specs.Family.{prune}
+use Rattle.sp_tree.specs.Changes.{changed_by}
+use Rattle.sp_tree.specs.Grown.{kin, lifted}
+use Rattle.sp_tree.specs.Joined.{joined, AreJoined}
+use Rattle.sp_tree.proofs.Pruned.{At}
+use Rattle.sp_tree.proofs.tree.prune.Given as goal
+
+abbrev pub invariant-loop-i : goal.invariant-loop-i
+invariant-loop-i g l =
+    At l.first (changed_by l.change) l.i (joined l.initial.versions.items l.initial.values.entries) l.versions.items l.values
+    × (l.values.next ≡ l.initial.values.next) × (l.values.bound ≡ l.initial.values.bound)
+
+abbrev pub decreases-loop-i : goal.decreases-loop-i
+decreases-loop-i g l = l.i

@@ -1,0 +1,60 @@
+-- What each call does to one version of a tree: it stays, perhaps changed, or it goes.
+use Rattle.std.specs.Prelude.{◌≡◌, ℕ, Bool, true, false, not, List, [], ◌∷◌, filter, Option, Some, None, is_some, ◌==◌, if◌then◌else◌}
+use Rattle.sp_plan.specs.Runs.{is_among}
+use Rattle.sp_group.specs.declared.outcome.Outcome.{Outcome}
+use Rattle.sp_group.specs.declared.outcome.Outcome.TheVariants.{Completed, Abandoned}
+use Rattle.sp_group.specs.Family.{Kin, is_parent}
+use Rattle.sp_tree.specs.declared.version.Version.{Version}
+use Rattle.sp_tree.specs.declared.version.Change.{Change}
+use Rattle.sp_tree.specs.declared.version.Change.TheVariants as c
+
+-- versions by their ids and parents
+abbrev pub branches : Kin Version
+branches = record { id = λ v. v.id; parent = λ v. v.parent }
+
+-- runs but this one
+abbrev pub others : ℕ → List ℕ → List ℕ
+others run runs = filter (λ r. not (r == run)) runs
+
+-- whether a label foresaw what became of a group
+abbrev pub foresaw : ℕ → Outcome → List ℕ → Bool
+foresaw run Completed label = is_among label run
+foresaw run Abandoned label = not (is_among label run)
+
+-- a child of the owner of a decided group: it stays where its label foresaw the outcome, and its label loses the group
+abbrev pub child_decided : ℕ → Outcome → Version → Option Version
+child_decided run outcome v = if foresaw run outcome v.label then Some (record v { label = others run v.label }) else None
+
+-- a group of the owner is decided: it is open no more, and each child stays or goes
+abbrev pub decided : ℕ → ℕ → Outcome → Version → Option Version
+decided owner run outcome v =
+    if v.id == owner then Some (record v { groups = others run v.groups })
+    else if is_parent owner v.parent then child_decided run outcome v
+    else Some v
+
+-- all but one version
+abbrev pub but : ℕ → Version → Option Version
+but id v = if v.id == id then None else Some v
+
+-- the root goes, and its children lose their parent
+abbrev pub promoted : ℕ → Version → Option Version
+promoted root v =
+    if v.id == root then None
+    else if is_parent root v.parent then Some (record v { parent = None })
+    else Some v
+
+-- each kind of change as a rule
+abbrev pub changed_by : Change → Version → Option Version
+changed_by (c.Decide owner run outcome) v = decided owner run outcome v
+changed_by (c.Promote root) v = promoted root v
+changed_by c.Prune v = Some v
+
+-- the version stays as the rule has it, or goes; its id is kept in either case
+abbrev pub IsSettled : (Version → Option Version) → Version → Version → Bool → Type 0
+IsSettled rule old new true = (rule old ≡ Some new) × (new.id ≡ old.id)
+IsSettled rule old new false = (rule old ≡ None) × (new.id ≡ old.id)
+
+-- the version that has no parent
+abbrev pub root_among : List Version → Option ℕ
+root_among [] = None
+root_among (v ∷ vs) = if is_some v.parent then root_among vs else Some v.id

@@ -1,0 +1,114 @@
+-- What a tree is to its callers, and what each call does to it.
+use Rattle.std.specs.Prelude.{◌≡◌, ◌≢◌, ℕ, ◌+◌, ◌<◌, ◌≤◌, Bool, true, false, ◌&&◌, List, [], ◌∷◌, length, Option, Some, None, is_some, ◌==◌, if◌then◌else◌, refl}
+use Rattle.std.specs.List.{All}
+use Rattle.std.specs.Coded.{Coded, code_by, coded×, coded_ℕ, coded_list, coded_option}
+use Rattle.sp_plan.specs.Runs.{is_among}
+use Rattle.sp_group.specs.declared.outcome.Outcome.{Outcome}
+use Rattle.sp_group.specs.Family.{Kin, entry_at, parent_there, prune, is_parent}
+use Rattle.sp_tree.specs.declared.version.Version.{Version}
+use Rattle.sp_tree.specs.Changes.{decided, but, promoted}
+
+-- a live version: where it stands, and its value
+pub record Entry (V : Type 0) : Type 0 where
+  pub version : Version
+  pub value : V
+
+-- the live versions, the newest first; the next id; how many may be live
+pub record Grown (V : Type 0) : Type 0 where
+  pub entries : List (Entry V)
+  pub next : ℕ
+  pub bound : ℕ
+
+abbrev pub version_code : Coded Version
+version_code =
+    code_by
+    (ℕ × (Option ℕ × (List ℕ × List ℕ)))
+    (coded× coded_ℕ (coded× (coded_option coded_ℕ) (coded× (coded_list coded_ℕ) (coded_list coded_ℕ))))
+    (λ v. (v.id, (v.parent, (v.label, v.groups))))
+    (λ p. record { id = p.0; parent = p.1.0; label = p.1.1.0; groups = p.1.1.1 })
+    (λ _. refl)
+
+abbrev pub entry_code : {V : Type 0} → Coded V → Coded (Entry V)
+entry_code {V} code = code_by (Version × V) (coded× version_code code) (λ e. (e.version, e.value)) (λ p. record { version = p.0; value = p.1 }) (λ _. refl)
+
+-- a tree is kept as the tuple of its fields
+abbrev pub grown_code : {V : Type 0} → Coded V → Coded (Grown V)
+grown_code {V} code =
+    code_by
+    (List (Entry V) × (ℕ × ℕ))
+    (coded× (coded_list (entry_code code)) (coded× coded_ℕ coded_ℕ))
+    (λ s. (s.entries, (s.next, s.bound)))
+    (λ p. record { entries = p.0; next = p.1.0; bound = p.1.1 })
+    (λ _. refl)
+
+module _ {V : Type 0} where
+  -- entries by the ids and parents of their versions
+  abbrev pub kin : Kin (Entry V)
+  kin = record { id = λ e. e.version.id; parent = λ e. e.version.parent }
+
+  -- an entry whose version a rule changes or takes away
+  abbrev pub with_version : V → Option Version → Option (Entry V)
+  with_version value None = None
+  with_version value (Some v) = Some (record { version = v; value = value })
+
+  abbrev pub lifted : (Version → Option Version) → Entry V → Option (Entry V)
+  lifted rule e = with_version e.value (rule e.version)
+
+  -- a tree of this bound before the first version
+  abbrev pub opened : ℕ → Grown V
+  opened bound = record { entries = []; next = 1; bound = bound }
+
+  -- the tree with all its versions changed by a rule; what has lost its parent is gone
+  abbrev pub pruned : (Version → Option Version) → Grown V → Grown V
+  pruned rule t = record t { entries = prune kin (lifted rule) t.entries }
+
+  -- the tree with a version more, under the next id
+  abbrev pub with_child : Grown V → Option ℕ → List ℕ → V → Grown V
+  with_child t parent label value = record t {
+    entries = record { version = record { id = t.next; parent = parent; label = label; groups = [] }; value = value } ∷ t.entries;
+    next = t.next + 1;
+  }
+
+  -- the value of an id
+  abbrev pub value_of : Option (Entry V) → Option V
+  value_of None = None
+  value_of (Some e) = Some e.value
+
+  -- the open groups of a version, none where it is not live
+  abbrev pub groups_of : Option (Entry V) → List ℕ
+  groups_of None = []
+  groups_of (Some e) = e.version.groups
+
+  -- whether a group of a version is open
+  abbrev pub is_open : Grown V → ℕ → ℕ → Bool
+  is_open t owner run = is_among (groups_of (entry_at kin t.entries owner)) run
+
+  -- each parent that is named stands behind its children
+  abbrev pub AreRooted : List (Entry V) → Type 0
+  AreRooted [] = Unit {0}
+  AreRooted (e ∷ es) = (parent_there kin es e.version.parent ≡ true) × AreRooted es
+
+  -- the ids fall, and are below this one
+  abbrev pub FallFrom : ℕ → List (Entry V) → Type 0
+  FallFrom top [] = Unit {0}
+  FallFrom top (e ∷ es) = (e.version.id < top) × FallFrom e.version.id es
+
+  -- the version that has no parent
+  abbrev pub root_in : List (Entry V) → Option ℕ
+  root_in [] = None
+  root_in (e ∷ es) = if is_some e.version.parent then root_in es else Some e.version.id
+
+  -- the tree without its root, whose children have no parent
+  abbrev pub without_root : Grown V → Option ℕ → Grown V
+  without_root t None = t
+  without_root t (Some root) = pruned (promoted root) t
+
+  -- no child of the parent has this label
+  abbrev pub LacksChild : List (Entry V) → ℕ → List ℕ → Type 0
+  LacksChild [] p label = Unit {0}
+  LacksChild (e ∷ es) p label = ¬ ((e.version.parent ≡ Some p) × (e.version.label ≡ label)) × LacksChild es p label
+
+  -- where a version may be added: a root to an empty tree; a child under a live parent, over open groups of it, where no other child has that label
+  abbrev pub CanStand : Grown V → Option ℕ → List ℕ → Type 0
+  CanStand t None label = (t.entries ≡ []) × (label ≡ [])
+  CanStand t (Some p) label = (is_some (entry_at kin t.entries p) ≡ true) × All (λ r. is_open t p r ≡ true) label × LacksChild t.entries p label

@@ -1,0 +1,4 @@
+pub mod Changes
+pub mod Grown
+pub mod Faults
+pub mod Joined

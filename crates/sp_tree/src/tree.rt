@@ -1,0 +1,194 @@
+ghost use Rattle.std.specs.Prelude.{◌≡◌, ◌+◌, ◌<◌, ◌≤◌, length, option_copied, IfOk, IfErr, OnOk, OnErr, IsTrue, IsSome, IsNone, IfSome, []};
+ghost use Rattle.sp_group.specs.Family.{entry_at, prune};
+ghost use Rattle.sp_tree.specs.Changes.{changed_by, decided, promoted};
+ghost use Rattle.sp_tree.specs.Grown.{Grown, opened, kin, lifted, pruned, with_child, value_of, is_open, groups_of, root_in, without_root, CanStand};
+ghost use Rattle.sp_tree.specs.Joined.{joined, AreJoined, IsPrunedFrom, IsKept};
+ghost use Rattle.sp_tree.specs.Faults.{IsAddFault};
+
+use crate::Memory;
+use crate::version::{Change, Version, has_parent, root_of};
+use sp_group::{Label, Outcome};
+use sp_store::{PutFault, Store};
+use std::alloc::Global;
+use std::marker::Model;
+
+/// The live versions, each with its parent, its label, its open groups and a value. Contracts see `entries`,
+/// the newest first, the `next` id, and the `bound`, how many versions may be live at a time.
+#[derive(Drop)]
+pub struct Tree<V> {
+    // The newest first, as the values are.
+    versions: Vec<Version>,
+    values: Store<V>,
+}
+
+impl<V> Model for Tree<V> {
+    ghost use Rattle.sp_tree.specs.Grown.{Grown, grown_code};
+
+    ghost Value = { Grown V };
+
+    ghost coded = { grown_code V.code };
+
+    ghost use Rattle.sp_tree.specs.Joined.{joined, IsTree};
+
+    ghost view = { λ t. record {
+      entries = joined t.versions.items t.values.entries;
+      next = t.values.next;
+      bound = t.values.bound;
+    } };
+
+    ghost invariant = { λ t. IsTree t.versions.items t.values };
+}
+
+impl<V> Tree<V> {
+    /// No version, and room for `bound` of them. The first id is 1.
+    pub fn new(alloc: Global, bound: u32) -> Result<Tree<V>, Memory>
+        requires some { 0 < bound }
+        requires most { bound ≤ 4096 }
+        ensures { IfOk result (λ tree. tree ≡ opened bound) }
+    {
+        let values = Store::new(alloc, bound)?;
+        Ok(Tree {
+            versions: Vec::new(alloc),
+            values,
+        })
+    }
+
+    /// The value of a version, None exactly where the id isn't live.
+    pub fn get(&self, id: u64) -> Option<&V>
+        ensures { option_copied result ≡ value_of (entry_at kin self.now.entries id) }
+    {
+        self.values.get(id)
+    }
+
+    /// The version that has no parent; None exactly where no version is live.
+    pub fn root(&self) -> Option<u64>
+        ensures root { result ≡ root_in self.now.entries }
+        ensures none { IsNone result → self.now.entries ≡ [] }
+    {
+        root_of(&self.versions)
+    }
+
+    /// Takes a version in under the next id, and answers the id: a root into an empty tree, or a child of a
+    /// live parent, over some of its open groups. A fault hands the value back, and the tree is as before:
+    /// `Full` comes exactly where as many versions are live as may be.
+    pub fn add(
+        &mut self,
+        alloc: Global,
+        parent: Option<u64>,
+        label: Label,
+        value: V,
+    ) -> Result<u64, PutFault<V>>
+        requires next { self.old.next < 18446744073709551615 }
+        requires stands { CanStand self.old parent label }
+        ensures id { IfOk result (λ id. id ≡ self.old.next) }
+        ensures room { OnOk result (length self.old.entries < self.old.bound) }
+        ensures added { OnOk result (self.new ≡ with_child self.old parent label value) }
+        ensures err { OnErr result (self.new ≡ self.old) }
+        ensures fault { IfErr result (IsAddFault self.old value) }
+    {
+        let live = self.values.live();
+        let bound = self.values.bound();
+        if live == bound {
+            return Err(PutFault::Full { live, bound, value });
+        }
+        if self.versions.reserve(1).is_err() {
+            return Err(PutFault::Memory(value));
+        }
+        match self.values.put(value) {
+            Ok(id) => {
+                let groups = Label::empty(alloc);
+                let version = Version {
+                    id,
+                    parent,
+                    label,
+                    groups,
+                };
+                // There is room for it.
+                let _ = self.versions.insert(0, version);
+                Ok(id)
+            }
+            Err(fault) => Err(fault),
+        }
+    }
+
+    /// How many versions are live.
+    pub fn live(&self) -> u32
+        ensures { result ≡ length self.now.entries }
+    {
+        self.values.live()
+    }
+
+    /// How many versions may be live at a time.
+    pub fn bound(&self) -> u32
+        ensures { result ≡ self.now.bound }
+    {
+        self.values.bound()
+    }
+}
+
+impl<V: Drop> Tree<V> {
+    /// An open group of the owner is decided: it is open no more, and each child of the owner goes whose label
+    /// foresaw another outcome, with all below it. The labels of the others lose the group. Answers how many
+    /// versions went. Takes no memory.
+    pub fn decide(&mut self, owner: u64, run: u32, outcome: Outcome) -> u32
+        requires { IsTrue (is_open self.old owner run) }
+        ensures tree { self.new ≡ pruned (decided owner run outcome) self.old }
+        ensures count { result + length self.new.entries ≡ length self.old.entries }
+    {
+        let live = self.values.live();
+        let change = Change::Decide {
+            owner,
+            run,
+            outcome,
+        };
+        prune(&mut self.versions, &mut self.values, 0, change);
+        live - self.values.live()
+    }
+
+    /// The root, which has no open group, goes, and its child is the root then; None exactly where it had no
+    /// child. Takes no memory.
+    pub fn promote(&mut self) -> Option<u64>
+        requires root { IsSome (root_in self.old.entries) }
+        requires groups { IfSome (root_in self.old.entries) (λ root. groups_of (entry_at kin self.old.entries root) ≡ []) }
+        ensures tree { self.new ≡ without_root self.old (root_in self.old.entries) }
+        ensures root { result ≡ root_in self.new.entries }
+        ensures none { IsNone result → self.new.entries ≡ [] }
+    {
+        let root = root_of(&self.versions)?;
+        let change = Change::Promote { root };
+        prune(&mut self.versions, &mut self.values, 0, change);
+        root_of(&self.versions)
+    }
+}
+
+/// Changes all versions but the first ones, and takes away those that go or have lost their parent, with
+/// their values.
+fn prune<V: Drop>(versions: &mut Vec<Version>, values: &mut Store<V>, first: usize, change: Change)
+    requires joined { AreJoined versions.old.items values.old }
+    requires within { first ≤ length versions.old.items }
+    ensures entries { IsPrunedFrom first (changed_by change) (joined versions.old.items values.old.entries) (joined versions.new.items values.new.entries) }
+    ensures joined { AreJoined versions.new.items values.new }
+    ensures rest { (values.new.next ≡ values.old.next) × (values.new.bound ≡ values.old.bound) }
+{
+    let mut i = versions.len();
+    while i > first {
+        i -= 1;
+        if !stays(versions, i, change) {
+            let gone = versions.remove(i);
+            values.take(gone.id);
+        }
+    }
+}
+
+/// Whether a version stays over the older ones; it is changed then.
+fn stays(versions: &mut Vec<Version>, i: usize, change: Change) -> bool
+    requires { i < length versions.old.items }
+    ensures { IsKept (changed_by change) i versions.old.items versions.new.items result }
+{
+    let version = &mut versions[i];
+    if !version.settle(change) {
+        return false;
+    }
+    let parent = version.parent;
+    has_parent(&versions[i + 1..], parent)
+}

@@ -1,0 +1,112 @@
+ghost use Rattle.std.specs.Prelude.{◌≡◌, ◌<◌, ℕ, length, option_copied, IsTrue};
+ghost use Rattle.sp_group.specs.Family.{entry_at, parent_there};
+ghost use Rattle.sp_tree.specs.Changes.{branches, changed_by, decided, promoted, root_among, IsSettled};
+
+use sp_group::{Label, Outcome};
+
+/// Where a version stands in the tree: under which parent and by which of the parent's groups, and which
+/// groups of its own are open.
+#[derive(Drop)]
+pub(crate) struct Version {
+    pub(crate) id: u64,
+    pub(crate) parent: Option<u64>,
+    pub(crate) label: Label,
+    pub(crate) groups: Label,
+}
+
+/// What happens to all versions at once.
+#[derive(Clone, Copy, Drop)]
+pub(crate) enum Change {
+    /// A group of the owner is decided.
+    Decide {
+        owner: u64,
+        run: u32,
+        outcome: Outcome,
+    },
+    /// The root goes, and its children lose their parent.
+    Promote {
+        root: u64,
+    },
+    /// Nothing, but that what has lost its parent goes.
+    Prune,
+}
+
+impl Version {
+    /// Whether the version stays; it is changed then.
+    pub(crate) fn settle(&mut self, change: Change) -> bool
+        ensures { IsSettled (changed_by change) self.old self.new result }
+    {
+        match change {
+            Change::Decide {
+                owner,
+                run,
+                outcome,
+            } => self.decide(owner, run, outcome),
+            Change::Promote { root } => self.promote(root),
+            Change::Prune => true,
+        }
+    }
+
+    fn decide(&mut self, owner: u64, run: u32, outcome: Outcome) -> bool
+        ensures { IsSettled (decided owner run outcome) self.old self.new result }
+    {
+        if self.id == owner {
+            self.groups.remove(run);
+            return true;
+        }
+        if self.parent != Some(owner) {
+            return true;
+        }
+        if self.label.has(run) != (outcome == Outcome::Completed) {
+            return false;
+        }
+        self.label.remove(run);
+        true
+    }
+
+    fn promote(&mut self, root: u64) -> bool
+        ensures { IsSettled (promoted root) self.old self.new result }
+    {
+        if self.id == root {
+            return false;
+        }
+        if self.parent == Some(root) {
+            self.parent = None;
+        }
+        true
+    }
+}
+
+/// The version of an id.
+pub(crate) fn find(versions: &[Version], id: u64) -> Option<&Version>
+    ensures { option_copied result ≡ entry_at branches versions.now id }
+{
+    for version in versions {
+        if version.id == id {
+            return Some(version);
+        }
+    }
+    None
+}
+
+/// Whether the parent is there, where one is named.
+pub(crate) fn has_parent(versions: &[Version], parent: Option<u64>) -> bool
+    ensures { result ≡ parent_there branches versions.now parent }
+{
+    match parent {
+        None => true,
+        Some(id) => find(versions, id).is_some(),
+    }
+}
+
+/// The version that has no parent.
+pub(crate) fn root_of(versions: &[Version]) -> Option<u64>
+    ensures { result ≡ root_among versions.now }
+{
+    for version in versions {
+        if version.parent.is_none() {
+            return Some(version.id);
+        }
+    }
+    None
+}
