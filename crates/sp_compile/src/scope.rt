@@ -1,6 +1,4 @@
 // What a predicate may name.
-ghost use Rattle.std.specs.Prelude.{◌≡◌};
-
 use crate::elements::Named;
 use sp_query::QueryColumn;
 use std::marker::Model;
@@ -20,5 +18,6 @@ impl<'a> Model for Scope<'a> {
 
     ghost Value = { scopes.Scope };
 
-    ghost view = { λ scope. record { columns = scope.columns.now; names = scope.names.now; here = scope.here } };
+    ghost view = { λ scope.
+        record { columns = scope.columns.now; names = scope.names.now; here = scope.here } };
 }

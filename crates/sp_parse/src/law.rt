@@ -1,7 +1,6 @@
 // What holds of every text.
-ghost use Rattle.std.specs.Prelude.{◌≡◌, ◌≢◌, ℕ, List};
-ghost use Rattle.sp_parse.specs.declared.fault.ParseFault.{ParseFault};
-ghost use Rattle.sp_parse.specs.Parses.{Refuses};
+ghost use Rattle.std.specs.Prelude.{◌≡◌, ℕ, List};
+ghost use Rattle.sp_parse.specs.Laws.{QueryOrOneFault};
 ghost use Rattle.sp_query.specs.declared.query.Query.{Query};
 ghost use Rattle.sp_query.specs.Queries.{IsQuery};
 
@@ -12,6 +11,5 @@ pub fn one_query()
 
 /// Law: a text has at most one fault, but for want of memory, and none where it is a query.
 pub fn one_fault()
-    ensures fault { (text : List ℕ) (one other : ParseFault) → one ≢ ParseFault.Memory → other ≢ ParseFault.Memory → Refuses text one → Refuses text other → one ≡ other }
-    ensures apart { (text : List ℕ) (query : Query) (fault : ParseFault) → fault ≢ ParseFault.Memory → IsQuery text query → Refuses text fault → ⊥ }
+    ensures { QueryOrOneFault }
 {}

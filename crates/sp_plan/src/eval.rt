@@ -58,7 +58,8 @@ fn turned(factor: i128) -> i128
 fn added(sum: i128, factor: i128, value: i128) -> i128
     requires { unsigned_abs sum + unsigned_abs factor * unsigned_abs value ≤ b.greatest }
     ensures value { result ≡ sum +ℤ factor *ℤ value }
-    ensures small { unsigned_abs result ≤ unsigned_abs sum + unsigned_abs factor * unsigned_abs value }
+    ensures small { unsigned_abs result ≤
+        unsigned_abs sum + unsigned_abs factor * unsigned_abs value }
 {
     sum + factor * value
 }
