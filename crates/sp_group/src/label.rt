@@ -99,4 +99,11 @@ impl Label {
     {
         self.runs.retain(|r| *r != run);
     }
+
+    /// Takes all runs out. Takes no memory.
+    pub fn clear(&mut self)
+        ensures { self.new ≡ [] }
+    {
+        self.runs.clear();
+    }
 }

@@ -1,10 +1,10 @@
 -- What each call does to a store, over its places.
-use Rattle.std.proofs.Common.{◌≡◌, ◌≢◌, ℕ, suc, ◌+◌, ◌<◌, ◌≤◌, List, ◌∷◌, length, get_or, remove, Option, Some, None, refl, sym, ap, subst, ◌∙◌, arith}
+use Rattle.std.proofs.Common.{◌≡◌, ◌≢◌, ℕ, ◌+◌, ◌<◌, List, ◌∷◌, length, get_or, remove, Option, Some, None, refl, sym, ap, subst, ◌∙◌, arith}
 use Rattle.std.proofs.lemmas.Bool.{false≢true}
 use Rattle.std.specs.Prelude.{IsSome, Result, Ok, Err, is_ok, OnOk, true}
 use Rattle.sp_store.specs.declared.place.Place.{Place}
-use Rattle.sp_store.specs.Stored.{Stored, found, left, written, put_in, without, moved, renewed, renewed_id, answered, with_value}
-use Rattle.sp_store.specs.Places.{Falls, Lacks, HasId, IsFree, AreKeyed, listed, paired, IsSound}
+use Rattle.sp_store.specs.Stored.{Stored, found, left, written, without, moved, renewed, renewed_id, answered}
+use Rattle.sp_store.specs.Places.{Lacks, HasId, IsFree, listed, paired, IsSound}
 use Rattle.sp_store.proofs.Listed.{falls_left, length_left, none_found, none_left, key_there, found_there, free_vacant, free_gone, keyed_gone, keyed_same, listed_same, left_gone, written_there}
 
 -- what a clause says of an `Ok`, where it is one

@@ -1,2 +1,3 @@
 pub mod Zipped
 pub mod Pruned
+pub mod Renewed

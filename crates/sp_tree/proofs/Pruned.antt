@@ -1,12 +1,12 @@
 -- The loop that changes all versions, from the oldest on.
-use Rattle.std.proofs.Common.{◌≡◌, ◌≢◌, ℕ, zero, suc, ◌+◌, ◌<◌, ◌≤◌, Bool, true, false, ◌==◌, List, [], ◌∷◌, ◌++◌, length, get_or, set, remove, take, drop, Option, Some, None, is_some, refl, sym, ap, subst, ◌∙◌, arith, ◌-◌, add-one}
+use Rattle.std.proofs.Common.{◌≡◌, ℕ, zero, suc, ◌+◌, ◌<◌, ◌≤◌, Bool, true, false, List, [], ◌∷◌, length, get_or, set, remove, take, drop, Option, Some, None, refl, sym, ap, subst, ◌∙◌, arith, ◌-◌, add-one}
 use Rattle.std.proofs.lemmas.List.{take-set, length-set, get_or-take, drop_all, get_or_default, take_all, length-drop, drop-set-lt, get_or-set_same}
 use Rattle.sp_tree.proofs.Zipped.{length_joined, drop_joined, there_joined, set_joined, remove_joined}
-use Rattle.sp_store.specs.Stored.{Stored, FallFrom, found, left, without}
-use Rattle.sp_group.specs.Family.{entry_at, parent_there, prune, kept}
+use Rattle.sp_store.specs.Stored.{Stored, FallFrom, left, without}
+use Rattle.sp_group.specs.Family.{parent_there, prune, kept}
 use Rattle.sp_tree.specs.declared.version.Version.{Version}
 use Rattle.sp_tree.specs.Changes.{branches}
-use Rattle.sp_tree.specs.Grown.{Entry, kin, value_of, lifted, with_version}
+use Rattle.sp_tree.specs.Grown.{Entry, kin, lifted, with_version}
 use Rattle.sp_tree.specs.Joined.{joined, HaveIds, AreJoined, IsGone, IsKept, IsStanding}
 
 head_of : {X : Type 0} (j : ℕ) (xs : List X) (d : X) → j < length xs → drop j xs ≡ get_or xs j d ∷ drop (suc j) xs

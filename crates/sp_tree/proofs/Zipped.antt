@@ -1,5 +1,5 @@
 -- Versions and their values, in step.
-use Rattle.std.proofs.Common.{◌≡◌, ◌≢◌, ℕ, zero, suc, ◌+◌, ◌<◌, ◌≤◌, Bool, true, false, ◌==◌, List, [], ◌∷◌, ◌++◌, length, get_or, set, remove, take, drop, Option, Some, None, is_some, refl, sym, ap, subst, ◌∙◌, arith, eq-eqb, cond}
+use Rattle.std.proofs.Common.{◌≡◌, ◌≢◌, ℕ, zero, suc, ◌+◌, ◌<◌, ◌≤◌, Bool, true, false, ◌==◌, List, [], ◌∷◌, length, get_or, set, remove, drop, Option, Some, None, is_some, refl, sym, ap, subst, ◌∙◌, arith, eq-eqb, cond}
 use Rattle.std.specs.Prelude.{IsNone}
 use Rattle.std.proofs.lemmas.List.{drop_more}
 use Rattle.std.proofs.lemmas.Bool.{false≢true}
@@ -13,7 +13,7 @@ use Rattle.sp_group.specs.Family.{entry_at, parent_there, prune, kept}
 use Rattle.sp_tree.specs.declared.version.Version.{Version}
 use Rattle.sp_tree.specs.Changes.{branches, root_among}
 use Rattle.sp_tree.specs.Grown.{Grown, Entry, kin, value_of, root_in, AreRooted}
-use Rattle.sp_tree.specs.Joined.{joined, HaveIds, AreJoined}
+use Rattle.sp_tree.specs.Joined.{joined, HaveIds}
 
 differs : (m n : ℕ) → m ≢ n → (m == n) ≡ false
 differs m n h = grind (arith, nat_tests)
@@ -123,7 +123,7 @@ module _ {V : Type 0} where
       let rest = set_joined j vs es w h.1 (omega arith) same in
       (rest.0, ap (λ l. record { version = v; value = e.1 } ∷ l) rest.1, rest.2, (h.0, rest.3))
 
-  id_below : (j top : ℕ) (vs : List Version) (es : List (ℕ × V)) (d : Version) → HaveIds vs es → FallFrom top es → j < length vs → (get_or vs j d).id < top
+  pub id_below : (j top : ℕ) (vs : List Version) (es : List (ℕ × V)) (d : Version) → HaveIds vs es → FallFrom top es → j < length vs → (get_or vs j d).id < top
   id_below j top [] es d h f within = absurd (omega arith)
   id_below j top (v ∷ vs) [] d h f within = absurd h
   id_below zero top (v ∷ vs) (e ∷ es) d h f within = subst (λ n. n < top) (sym h.0) f.0

@@ -1,5 +1,5 @@
 -- What each call does to one version of a tree: it stays, perhaps changed, or it goes.
-use Rattle.std.specs.Prelude.{◌≡◌, ℕ, Bool, true, false, not, List, [], ◌∷◌, filter, Option, Some, None, is_some, ◌==◌, if◌then◌else◌}
+use Rattle.std.specs.Prelude.{◌≡◌, ◌<◌, ℕ, length, slice_index_or, Bool, true, false, not, List, [], ◌∷◌, filter, Option, Some, None, is_some, ◌==◌, if◌then◌else◌}
 use Rattle.sp_plan.specs.Runs.{is_among}
 use Rattle.sp_group.specs.declared.outcome.Outcome.{Outcome}
 use Rattle.sp_group.specs.declared.outcome.Outcome.TheVariants.{Completed, Abandoned}
@@ -58,3 +58,7 @@ IsSettled rule old new false = (rule old ≡ None) × (new.id ≡ old.id)
 abbrev pub root_among : List Version → Option ℕ
 root_among [] = None
 root_among (v ∷ vs) = if is_some v.parent then root_among vs else Some v.id
+
+-- the version at the index has this id
+abbrev pub IsIndex : List Version → ℕ → ℕ → Type 0
+IsIndex vs id index = (index < length vs) × ((d : Version) → (slice_index_or vs index d).id ≡ id)

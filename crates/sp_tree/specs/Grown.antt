@@ -1,12 +1,11 @@
 -- What a tree is to its callers, and what each call does to it.
-use Rattle.std.specs.Prelude.{◌≡◌, ◌≢◌, ℕ, ◌+◌, ◌<◌, ◌≤◌, Bool, true, false, ◌&&◌, List, [], ◌∷◌, length, Option, Some, None, is_some, ◌==◌, if◌then◌else◌, refl}
+use Rattle.std.specs.Prelude.{◌≡◌, ℕ, ◌+◌, ◌<◌, Bool, true, List, [], ◌∷◌, Option, Some, None, is_some, if◌then◌else◌, refl}
 use Rattle.std.specs.List.{All}
 use Rattle.std.specs.Coded.{Coded, code_by, coded×, coded_ℕ, coded_list, coded_option}
 use Rattle.sp_plan.specs.Runs.{is_among}
-use Rattle.sp_group.specs.declared.outcome.Outcome.{Outcome}
-use Rattle.sp_group.specs.Family.{Kin, entry_at, parent_there, prune, is_parent}
+use Rattle.sp_group.specs.Family.{Kin, entry_at, parent_there, prune}
 use Rattle.sp_tree.specs.declared.version.Version.{Version}
-use Rattle.sp_tree.specs.Changes.{decided, but, promoted}
+use Rattle.sp_tree.specs.Changes.{but, promoted}
 
 -- a live version: where it stands, and its value
 pub record Entry (V : Type 0) : Type 0 where
@@ -79,6 +78,15 @@ module _ {V : Type 0} where
   groups_of None = []
   groups_of (Some e) = e.version.groups
 
+  -- the parent and the label of a version
+  abbrev pub parent_of : Option (Entry V) → Option ℕ
+  parent_of None = None
+  parent_of (Some e) = e.version.parent
+
+  abbrev pub label_of : Option (Entry V) → Option (List ℕ)
+  label_of None = None
+  label_of (Some e) = Some e.version.label
+
   -- whether a group of a version is open
   abbrev pub is_open : Grown V → ℕ → ℕ → Bool
   is_open t owner run = is_among (groups_of (entry_at kin t.entries owner)) run
@@ -112,3 +120,19 @@ module _ {V : Type 0} where
   abbrev pub CanStand : Grown V → Option ℕ → List ℕ → Type 0
   CanStand t None label = (t.entries ≡ []) × (label ≡ [])
   CanStand t (Some p) label = (is_some (entry_at kin t.entries p) ≡ true) × All (λ r. is_open t p r ≡ true) label × LacksChild t.entries p label
+
+  -- the tree where a version, if it is live, begins anew: with the next id, no open group and nothing below it
+  abbrev pub begun_anew : Grown V → ℕ → Option (Entry V) → Grown V
+  begun_anew t id None = t
+  begun_anew t id (Some e) = record t {
+    entries = record { version = record { id = t.next; parent = e.version.parent; label = e.version.label; groups = [] }; value = e.value } ∷ prune kin (lifted (but id)) t.entries;
+    next = t.next + 1;
+  }
+
+  abbrev pub renewed : Grown V → ℕ → Grown V
+  renewed t id = begun_anew t id (entry_at kin t.entries id)
+
+  -- the id that a renewal answers
+  abbrev pub answered : ℕ → Option (Entry V) → Option ℕ
+  answered next None = None
+  answered next (Some e) = Some next

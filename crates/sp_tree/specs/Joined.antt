@@ -1,5 +1,5 @@
 -- How a tree keeps its entries: the versions, and the store of their values, both the newest first. No public clause cites this.
-use Rattle.std.specs.Prelude.{◌≡◌, ℕ, ◌+◌, ◌≤◌, Bool, true, false, Option, Some, None, List, [], ◌∷◌, ◌++◌, length, take, drop, slice_set as set, slice_index_or as get_or}
+use Rattle.std.specs.Prelude.{◌≡◌, ℕ, ◌+◌, Bool, true, false, Option, Some, None, List, [], ◌∷◌, ◌++◌, take, drop, slice_set as set, slice_index_or as get_or}
 use Rattle.sp_group.specs.Family.{parent_there, prune}
 use Rattle.sp_tree.specs.Changes.{branches}
 use Rattle.sp_store.specs.Stored.{Stored, FallFrom}

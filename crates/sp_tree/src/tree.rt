@@ -1,12 +1,12 @@
-ghost use Rattle.std.specs.Prelude.{◌≡◌, ◌+◌, ◌<◌, ◌≤◌, length, option_copied, IfOk, IfErr, OnOk, OnErr, IsTrue, IsSome, IsNone, IfSome, []};
+ghost use Rattle.std.specs.Prelude.{◌≡◌, ◌+◌, ◌<◌, ◌≤◌, length, option_copied, IfOk, IfErr, OnOk, OnErr, IsTrue, IsSome, IsNone, IfSome, [], reverse, map};
 ghost use Rattle.sp_group.specs.Family.{entry_at, prune};
 ghost use Rattle.sp_tree.specs.Changes.{changed_by, decided, promoted};
-ghost use Rattle.sp_tree.specs.Grown.{Grown, opened, kin, lifted, pruned, with_child, value_of, is_open, groups_of, root_in, without_root, CanStand};
+ghost use Rattle.sp_tree.specs.Grown.{Grown, opened, kin, lifted, pruned, with_child, value_of, is_open, groups_of, root_in, without_root, renewed, answered, parent_of, label_of, CanStand};
 ghost use Rattle.sp_tree.specs.Joined.{joined, AreJoined, IsPrunedFrom, IsKept};
 ghost use Rattle.sp_tree.specs.Faults.{IsAddFault};
 
 use crate::Memory;
-use crate::version::{Change, Version, has_parent, root_of};
+use crate::version::{Change, Version, find, has_parent, ids_of, index_of, root_of};
 use sp_group::{Label, Outcome};
 use sp_store::{PutFault, Store};
 use std::alloc::Global;
@@ -66,6 +66,43 @@ impl<V> Tree<V> {
         ensures none { IsNone result → self.now.entries ≡ [] }
     {
         root_of(&self.versions)
+    }
+
+    /// The parent of a version; None exactly where the id isn't live or is the root.
+    pub fn parent(&self, id: u64) -> Option<u64>
+        ensures { result ≡ parent_of (entry_at kin self.now.entries id) }
+    {
+        match find(&self.versions, id) {
+            Some(version) => version.parent,
+            None => None,
+        }
+    }
+
+    /// The label of a version; None exactly where the id isn't live.
+    pub fn label(&self, id: u64) -> Option<&Label>
+        ensures { option_copied result ≡ label_of (entry_at kin self.now.entries id) }
+    {
+        match find(&self.versions, id) {
+            Some(version) => Some(&version.label),
+            None => None,
+        }
+    }
+
+    /// The open groups of a version by rising run, none where the id isn't live.
+    pub fn groups(&self, id: u64) -> &[u32]
+        ensures { result.now ≡ groups_of (entry_at kin self.now.entries id) }
+    {
+        match find(&self.versions, id) {
+            Some(version) => version.groups.runs(),
+            None => &[],
+        }
+    }
+
+    /// The live ids, rising.
+    pub fn walk(&self, alloc: Global) -> Result<Vec<u64>, Memory>
+        ensures { IfOk result (λ ids. ids.items ≡ reverse (map (λ e. e.version.id) self.now.entries)) }
+    {
+        ids_of(alloc, &self.versions)
     }
 
     /// Takes a version in under the next id, and answers the id: a root into an empty tree, or a child of a
@@ -143,6 +180,24 @@ impl<V: Drop> Tree<V> {
         };
         prune(&mut self.versions, &mut self.values, 0, change);
         live - self.values.live()
+    }
+
+    /// A live version begins anew: it gets the next id, has no open group, and all below it goes. Answers the
+    /// new id; None exactly where the old one isn't live. Takes no memory.
+    pub fn renew(&mut self, id: u64) -> Option<u64>
+        requires { self.old.next < 18446744073709551615 }
+        ensures id { result ≡ answered self.old.next (entry_at kin self.old.entries id) }
+        ensures tree { self.new ≡ renewed self.old id }
+    {
+        let index = index_of(&self.versions, id)?;
+        let renewed = self.values.renew(id)?;
+        let mut version = self.versions.remove(index);
+        version.id = renewed;
+        version.groups.clear();
+        // The room of the version that was removed is left.
+        let _ = self.versions.insert(0, version);
+        prune(&mut self.versions, &mut self.values, 1, Change::Prune);
+        Some(renewed)
     }
 
     /// The root, which has no open group, goes, and its child is the root then; None exactly where it had no

@@ -1,8 +1,10 @@
-ghost use Rattle.std.specs.Prelude.{◌≡◌, ◌<◌, ℕ, length, option_copied, IsTrue};
+ghost use Rattle.std.specs.Prelude.{◌≡◌, ◌<◌, ℕ, length, option_copied, IsTrue, IfOk, IfSome, IsNone, None, map, reverse};
 ghost use Rattle.sp_group.specs.Family.{entry_at, parent_there};
-ghost use Rattle.sp_tree.specs.Changes.{branches, changed_by, decided, promoted, root_among, IsSettled};
+ghost use Rattle.sp_tree.specs.Changes.{branches, changed_by, decided, promoted, root_among, IsSettled, IsIndex};
 
+use crate::Memory;
 use sp_group::{Label, Outcome};
+use std::alloc::Global;
 
 /// Where a version stands in the tree: under which parent and by which of the parent's groups, and which
 /// groups of its own are open.
@@ -109,4 +111,24 @@ pub(crate) fn root_of(versions: &[Version]) -> Option<u64>
         }
     }
     None
+}
+
+/// The index of an id.
+pub(crate) fn index_of(versions: &[Version], id: u64) -> Option<usize>
+    ensures some { IfSome result (λ index. IsIndex versions.now id index) }
+    ensures none { IsNone result → entry_at branches versions.now id ≡ None }
+{
+    for i in 0..versions.len() {
+        if versions[i].id == id {
+            return Some(i);
+        }
+    }
+    None
+}
+
+/// Their ids, rising.
+pub(crate) fn ids_of(alloc: Global, versions: &[Version]) -> Result<Vec<u64>, Memory>
+    ensures { IfOk result (λ ids. ids.items ≡ map (λ v. v.id) (reverse versions.now)) }
+{
+    versions.iter().rev().map(|v| v.id).collect(alloc)
 }

@@ -1,5 +1,4 @@
 use Rattle.std.proofs.Common.{arith}
-use Rattle.std.proofs.lemmas.List.{get_or_default}
 use Rattle.sp_store.proofs.Searched.{rises, sinks, lacks_here, lacks_past}
 use Rattle.sp_store.proofs.place.index_of.Goals as goal
 use Rattle.sp_store.proofs.place.index_of.Goals.{else-low-places-via-then-low-places+else-places-low, else-low-places-via-else-low-places}

@@ -1,4 +1,4 @@
-use Rattle.std.proofs.Common.{◌≡◌, ◌-◌, length, sym, ap, subst, ◌∙◌, refl}
+use Rattle.std.proofs.Common.{◌-◌, sym, ap, subst, ◌∙◌, refl}
 use Rattle.sp_store.specs.Stored.{Stored}
 use Rattle.sp_tree.specs.Joined.{joined}
 use Rattle.sp_tree.specs.Changes.{changed_by}

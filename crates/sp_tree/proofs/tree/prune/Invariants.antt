@@ -1,8 +1,6 @@
-use Rattle.std.proofs.Common.{◌≡◌, ◌<◌, ◌≤◌, length, take, drop}
-use Rattle.sp_group.specs.Family.{prune}
+use Rattle.std.proofs.Common.{◌≡◌}
 use Rattle.sp_tree.specs.Changes.{changed_by}
-use Rattle.sp_tree.specs.Grown.{kin, lifted}
-use Rattle.sp_tree.specs.Joined.{joined, AreJoined}
+use Rattle.sp_tree.specs.Joined.{joined}
 use Rattle.sp_tree.proofs.Pruned.{At}
 use Rattle.sp_tree.proofs.tree.prune.Given as goal
 

@@ -1,4 +1,4 @@
-use Rattle.std.proofs.Common.{◌≡◌, sym, ◌∙◌}
+use Rattle.std.proofs.Common.{sym, ◌∙◌}
 use Rattle.sp_tree.proofs.Zipped.{entry_here}
 use Rattle.sp_tree.proofs.version.find.Goals as goal
 

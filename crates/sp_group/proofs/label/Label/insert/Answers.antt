@@ -1,4 +1,4 @@
-use Rattle.std.proofs.Common.{◌≡◌, ℕ, ◌<◌, ◌≤◌, Bool, List, length, get_or, insert, sym, ap, subst, ◌∙◌, arith, false}
+use Rattle.std.proofs.Common.{◌≡◌, ◌<◌, length, get_or, sym, ap, subst, ◌∙◌, arith, false}
 use Rattle.std.proofs.lemmas.Grind.{get_or_default_zero}
 use Rattle.sp_plan.specs.Runs.{is_among}
 use Rattle.sp_group.specs.Rising.{IsLabel, with_number}

@@ -1,4 +1,4 @@
-use Rattle.std.proofs.Common.{◌≡◌, List, option_copied, sym, ap, subst, ◌∙◌, refl}
+use Rattle.std.proofs.Common.{List, option_copied, sym, ap, subst, ◌∙◌, refl}
 use Rattle.slab.specs.Slab.{get}
 use Rattle.sp_store.specs.declared.place.Place.{Place}
 use Rattle.sp_store.specs.Places.{Lacks, HasId}

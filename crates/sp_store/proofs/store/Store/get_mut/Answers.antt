@@ -1,12 +1,11 @@
-use Rattle.std.proofs.Common.{◌≡◌, List, sym, ap, subst, ◌∙◌, refl}
+use Rattle.std.proofs.Common.{List, sym, subst, ◌∙◌, refl}
 use Rattle.std.specs.Option.{ghost_name_of}
 use borrow.Follows.Closed.{read_of}
 use Rattle.slab.specs.Slab.{get}
 use Rattle.slab.specs.Slab.{with_value as slot_written}
 use Rattle.slab.proofs.SlabLemmas.{Updates-with_value}
 use Rattle.sp_store.specs.declared.place.Place.{Place}
-use Rattle.sp_store.specs.Stored.{Stored}
-use Rattle.sp_store.specs.Places.{Lacks, HasId, IsSound, listed}
+use Rattle.sp_store.specs.Places.{Lacks, HasId}
 use Rattle.sp_store.proofs.Steps.{stored, found_at, there, lacks_found, written_at}
 use Rattle.sp_store.proofs.store.Store.get_mut.Goals as goal
 

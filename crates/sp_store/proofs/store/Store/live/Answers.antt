@@ -1,6 +1,5 @@
-use Rattle.std.proofs.Common.{rules, ◌≡◌, ◌≤◌, length, sym, ap, subst, ◌∙◌, arith}
+use Rattle.std.proofs.Common.{rules, ◌∙◌}
 use Rattle.slab.specs.Slab.{get}
-use Rattle.sp_store.specs.Stored.{AreListed}
 use Rattle.sp_store.proofs.Listed.{length_listed, fall_listed}
 use Rattle.sp_store.proofs.store.Store.live.Goals as goal
 

@@ -1,8 +1,7 @@
-use Rattle.std.proofs.Common.{rules, ◌≡◌, ◌≢◌, ℕ, ◌+◌, ◌<◌, ◌≤◌, List, ◌∷◌, length, Some, None, sym, ap, subst, ◌∙◌, refl, arith, Bool, if◌then◌else◌}
+use Rattle.std.proofs.Common.{◌≡◌, ◌+◌, ◌<◌, List, ◌∷◌, length, sym, ap, subst, ◌∙◌, refl, arith, if◌then◌else◌}
 use Rattle.slab.specs.Slab.{get, Slab}
 use Rattle.sp_store.specs.declared.place.Place.{Place}
-use Rattle.sp_store.specs.Stored.{Stored}
-use Rattle.sp_store.specs.Places.{Lacks, HasId, IsSound, listed}
+use Rattle.sp_store.specs.Places.{IsSound}
 use Rattle.sp_store.proofs.Listed.{length_listed}
 use Rattle.sp_store.proofs.Steps.{put_sound, at_ok}
 use Rattle.sp_store.proofs.store.Store.put.Goals as goal

@@ -1,8 +1,7 @@
-use Rattle.std.proofs.Common.{rules, ◌≡◌, ◌≢◌, ℕ, ◌+◌, ◌<◌, ◌≤◌, List, ◌∷◌, length, remove, Some, None, sym, ap, subst, ◌∙◌, refl, arith, Bool, if◌then◌else◌}
+use Rattle.std.proofs.Common.{◌≡◌, ◌+◌, List, ◌∷◌, remove, sym, ap, subst, ◌∙◌, refl, arith, if◌then◌else◌}
 use Rattle.slab.specs.Slab.{get}
 use Rattle.sp_store.specs.declared.place.Place.{Place}
-use Rattle.sp_store.specs.Stored.{Stored}
-use Rattle.sp_store.specs.Places.{Lacks, HasId, IsSound, listed}
+use Rattle.sp_store.specs.Places.{Lacks, HasId, IsSound}
 use Rattle.sp_store.proofs.Steps.{lacks_answer, lacks_renewed, renewed_sound, renewed_at, renewed_answer}
 use Rattle.sp_store.proofs.store.Store.renew.Goals as goal
 

@@ -1,8 +1,7 @@
-use Rattle.std.proofs.Common.{◌≡◌, ℕ, List, remove, Option, sym, ap, subst, ◌∙◌, refl}
+use Rattle.std.proofs.Common.{List, sym, subst, ◌∙◌, refl}
 use Rattle.slab.specs.Slab.{get}
 use Rattle.sp_store.specs.declared.place.Place.{Place}
-use Rattle.sp_store.specs.Stored.{Stored}
-use Rattle.sp_store.specs.Places.{Lacks, HasId, IsSound, listed}
+use Rattle.sp_store.specs.Places.{Lacks, HasId, IsSound}
 use Rattle.sp_store.proofs.Steps.{found_at, lacks_found, lacks_left, taken}
 use Rattle.sp_store.proofs.store.Store.take.Goals as goal
 

@@ -1,4 +1,4 @@
-use Rattle.std.proofs.Common.{◌≡◌, ◌<◌, ◌≤◌, List, length, sym, ap, subst, ◌∙◌, refl, arith}
+use Rattle.std.proofs.Common.{sym, subst, ◌∙◌, refl, arith}
 use Rattle.sp_tree.specs.Grown.{Grown}
 use Rattle.sp_tree.specs.Faults.{IsAddFault}
 use Rattle.sp_tree.proofs.Zipped.{length_values, fault_joined}

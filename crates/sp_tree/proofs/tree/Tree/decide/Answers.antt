@@ -1,6 +1,6 @@
-use Rattle.std.proofs.Common.{◌≡◌, ◌≤◌, List, length, sym, ap, subst, ◌∙◌, arith}
+use Rattle.std.proofs.Common.{length, sym, ap, subst, arith}
 use Rattle.sp_tree.specs.Changes.{decided}
-use Rattle.sp_tree.specs.Grown.{lifted, kin, AreRooted}
+use Rattle.sp_tree.specs.Grown.{lifted, AreRooted}
 use Rattle.sp_tree.specs.Joined.{joined}
 use Rattle.sp_tree.proofs.Zipped.{length_values, length_pruned, rooted_pruned}
 use Rattle.sp_tree.proofs.tree.Tree.decide.Goals as goal

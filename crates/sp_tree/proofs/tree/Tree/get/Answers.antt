@@ -1,4 +1,4 @@
-use Rattle.std.proofs.Common.{◌≡◌, length, sym, ◌∙◌}
+use Rattle.std.proofs.Common.{◌∙◌}
 use Rattle.sp_tree.proofs.Zipped.{found_joined}
 use Rattle.sp_tree.proofs.tree.Tree.get.Goals as goal
 

@@ -1,4 +1,4 @@
-use Rattle.std.proofs.Common.{◌≡◌, length, sym, ◌∙◌}
+use Rattle.std.proofs.Common.{sym, ◌∙◌}
 use Rattle.sp_tree.proofs.Zipped.{length_values}
 use Rattle.sp_tree.proofs.tree.Tree.live.Goals as goal
 

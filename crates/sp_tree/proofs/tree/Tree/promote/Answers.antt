@@ -1,4 +1,4 @@
-use Rattle.std.proofs.Common.{◌≡◌, List, sym, ap, subst, ◌∙◌, None}
+use Rattle.std.proofs.Common.{sym, ap, subst, ◌∙◌}
 use Rattle.sp_tree.specs.Changes.{root_among, promoted}
 use Rattle.sp_tree.specs.Grown.{lifted, AreRooted, without_root}
 use Rattle.sp_tree.specs.Joined.{joined}

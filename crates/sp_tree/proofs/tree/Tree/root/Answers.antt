@@ -1,4 +1,4 @@
-use Rattle.std.proofs.Common.{◌≡◌, List, sym, ap, ◌∙◌}
+use Rattle.std.proofs.Common.{sym, ap, ◌∙◌}
 use Rattle.sp_tree.specs.Changes.{root_among}
 use Rattle.sp_tree.specs.Joined.{joined}
 use Rattle.sp_tree.proofs.Zipped.{root_joined, root_there, none_is}
