@@ -1,6 +1,6 @@
 // The tokens of a text, each with its span.
 use crate::given::LONGEST;
-use sp_lex::{Kernel, Token, lex};
+use sp_lex::{Kernel, LexFault, Token, lex};
 use std::alloc::{AllocError, Global};
 use std::fmt::Write;
 use std::str;
@@ -45,6 +45,20 @@ fn push_token(token: &Token, out: &mut String) -> Result<(), AllocError> {
     writeln!(out, " {}..{}", token.span.from, token.span.to)
 }
 
+// Appends why a text has no tokens.
+fn push_fault(fault: LexFault, out: &mut String) -> Result<(), AllocError> {
+    match fault {
+        LexFault::BadCharacter { at } => {
+            writeln!(out, "a character that begins no token, at byte {at}")
+        }
+        LexFault::OpenText { at } => {
+            writeln!(out, "a text without its closing quote, from byte {at}")
+        }
+        LexFault::LongNumber { at } => { writeln!(out, "a number that is too long, at byte {at}") }
+        LexFault::Memory => Err(AllocError),
+    }
+}
+
 /// Appends a line for each token of the input, or the fault.
 pub(crate) fn tokens(alloc: Global, input: &[u8], out: &mut String) -> Result<(), AllocError> {
     let text = str::from_utf8(input).unwrap_or("");
@@ -58,6 +72,6 @@ pub(crate) fn tokens(alloc: Global, input: &[u8], out: &mut String) -> Result<()
             }
             Ok(())
         }
-        Err(fault) => writeln!(out, "{fault}"),
+        Err(fault) => push_fault(fault, out),
     }
 }
