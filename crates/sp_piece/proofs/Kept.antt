@@ -1,6 +1,7 @@
 -- What a piece keeps when it reads one event more.
 use Rattle.std.proofs.Common.{◌≡◌, ℕ, suc, ◌+◌, ◌<◌, Bool, true, false, List, [], ◌∷◌, ◌++◌, length, map, Option, Some, refl, sym, ◌∙◌, ap, subst, arith}
-use Rattle.std.specs.Prelude.{slice_get, if◌then◌else◌}
+use Rattle.std.specs.Prelude.{slice_get, if◌then◌else◌, not, nat_lt, ◌&&◌}
+use Rattle.std.proofs.lemmas.Bool.{ltb-true}
 use Rattle.std.specs.List.{All}
 use Rattle.std.proofs.lemmas.List.{append-nil, map-append}
 use Rattle.std.proofs.lemmas.List.Elements.{All-weaker}
@@ -12,7 +13,7 @@ use Rattle.sp_match.specs.Matching.{Matching, Stands, runs_of}
 use Rattle.sp_match.specs.declared.moves.Moves.{Moves}
 use Rattle.sp_piece.specs.declared.job.Job.{Job}
 use Rattle.sp_piece.specs.Reading.{Loan, Account, account, skips, read_on, accounts_on, event_accounts, seen_moves}
-use Rattle.sp_piece.specs.Pieced.{Pieced, loan}
+use Rattle.sp_piece.specs.Pieced.{Pieced, loan, has_event}
 use Rattle.sp_piece.specs.Keeping.{current, HandledOn, IsKept}
 
 -- an event passed over changes no runs, and tells nothing
@@ -123,3 +124,11 @@ unread p now list kept none not_closed =
     let led : Stands m (runs_of before) =
     subst (Stands m) ((λ i. if not_closed i then after_closing (read_on (loan p.job) (runs_of before) p.read) else read_on (loan p.job) (runs_of before) (none i))) (kept.led.stands (runs_of before) first) in
     λ i. record { plan = kept.led.plan i; open_runs = led.open_is i; started = led.started_is i }
+
+and_right : (a b : Bool) → (a && b) ≡ true → b ≡ true
+and_right true b both = both
+and_right false b both = absurd (cc)
+
+-- where an event is still to be read, fewer were read than lent
+pub read_within : (p : Pieced) → has_event p ≡ true → p.read < length p.job.events
+read_within p has = ltb-true _ _ (and_right (not p.short) (nat_lt p.read (length p.job.events)) has)

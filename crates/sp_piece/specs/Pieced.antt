@@ -23,15 +23,16 @@ loan job = record { plan = job.before.plan; events = job.events; first = job.fir
 abbrev pub begun : Job → Pieced
 begun job = record { job = job; read = 0; closed = false; short = false }
 
--- whether a lent event is still to be read
+-- whether a lent event is still to be read: none is where the piece was given up
 abbrev pub has_event : Pieced → Bool
-has_event p = nat_lt p.read (length p.job.events)
+has_event p = not p.short && nat_lt p.read (length p.job.events)
 
 -- whether the closing is next
 abbrev pub has_closing : Pieced → Bool
-has_closing p = not (has_event p) && not p.closed && p.job.closes
+has_closing p = not p.short && not (nat_lt p.read (length p.job.events)) && not p.closed && p.job.closes
 
--- the next lent event is read; behind the last one the closing, where it is lent too; then nothing changes
+-- the next lent event is read; behind the last one the closing, where it is lent too; then, and where the piece was given up, nothing
+-- changes
 abbrev pub after_step : Pieced → Pieced
 after_step p = record p {
   read = if has_event p then p.read + 1 else p.read;
@@ -42,7 +43,8 @@ after_step p = record p {
 abbrev pub refused : Pieced → Pieced
 refused p = record p { short = true }
 
--- what a step answers: which event was read and whether it was passed over; that the closing was read; that all was read before
+-- what a step answers: which event was read and whether it was passed over; that the closing was read; that all was read before, or the
+-- piece was given up
 abbrev pub answer : Pieced → Stepped
 answer p =
     if has_event p then s.Read (p.job.first + p.read) (skips (loan p.job) p.read)

@@ -56,13 +56,16 @@ impl Piece {
     }
 
     /// Reads the next lent event, passing over one of the snapshot; after the last one the window's
-    /// closing, where the job lends it; then answers `Finished`, and nothing changes. After want of memory
-    /// the piece is as before.
+    /// closing, where the job lends it; then, and where the piece was given up, answers `Finished`, and
+    /// nothing changes. After want of memory the piece is as before.
     pub fn step(&mut self, alloc: Global) -> Result<Stepped, Memory>
         ensures next { OnOk result (self.new ≡ after_step self.old) }
         ensures answer { IfOk result (λ stepped. stepped ≡ answer self.old) }
         ensures err { OnErr result (self.new ≡ self.old) }
     {
+        if self.short {
+            return Ok(Stepped::Finished);
+        }
         if (self.read as usize) < self.job.events.as_slice().len() {
             return self.read_event(alloc);
         }
