@@ -1,8 +1,8 @@
 // What events do to the runs of a window.
 ghost use Rattle.std.specs.Prelude.{◌≡◌, ◌+◌, ◌<◌, ◌^◌, true, OnOk};
 ghost use Rattle.std.specs.Arc.{arc_value};
-ghost use Rattle.sp_match.specs.Laws.{Below};
-ghost use Rattle.sp_match.specs.Matching.{runs_of};
+ghost use Rattle.sp_match.specs.public.Laws.{Below};
+ghost use Rattle.sp_match.specs.public.Matching.{runs_of};
 ghost use Rattle.sp_plan.specs.Compiled.{IsCompiled};
 ghost use Rattle.sp_plan.specs.Events.{fits};
 

@@ -1,7 +1,7 @@
 use Rattle.std.proofs.Common.{◌≡◌, ◌≤◌, ◌+◌}
 use Rattle.std.specs.Arc.{arc_value}
-use Rattle.sp_match.specs.Laws.{Below}
-use Rattle.sp_match.specs.Matching.{runs_of}
+use Rattle.sp_match.specs.public.Laws.{Below}
+use Rattle.sp_match.specs.public.Matching.{runs_of}
 use Rattle.sp_calls.proofs.matching.push_moves.Given as goal
 
 abbrev pub invariant-loop-event : goal.invariant-loop-event

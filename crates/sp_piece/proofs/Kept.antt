@@ -1,0 +1,134 @@
+-- What a piece keeps when it reads one event more.
+use Rattle.std.proofs.Common.{◌≡◌, ℕ, suc, ◌+◌, ◌<◌, Bool, true, false, List, [], ◌∷◌, ◌++◌, length, map, Option, Some, refl, sym, ◌∙◌, ap, subst, arith}
+use Rattle.std.specs.Prelude.{slice_get, if◌then◌else◌, not, nat_lt, ◌&&◌}
+use Rattle.std.proofs.lemmas.Bool.{ltb-true}
+use Rattle.std.specs.List.{All}
+use Rattle.std.proofs.lemmas.List.{append-nil, map-append}
+use Rattle.std.proofs.lemmas.List.Elements.{All-weaker}
+use Rattle.sp_plan.specs.declared.event.Event.{Event}
+use Rattle.sp_plan.specs.Runs.{Pair, Started, State, handle, after_closing}
+use Rattle.sp_plan.specs.Reading.{after_event}
+use Rattle.sp_match.specs.public.Laws.{Below}
+use Rattle.sp_match.specs.public.Matching.{Matching, Stands, runs_of}
+use Rattle.sp_match.specs.declared.moves.Moves.{Moves}
+use Rattle.sp_piece.specs.declared.job.Job.{Job}
+use Rattle.sp_piece.specs.Reading.{Loan, Account, account, skips, read_on, accounts_on, event_accounts, seen_moves}
+use Rattle.sp_piece.specs.Pieced.{Pieced, loan, has_event}
+use Rattle.sp_piece.specs.Keeping.{current, HandledOn, IsKept}
+
+-- an event passed over changes no runs, and tells nothing
+on_skipped : (l : Loan) (s : State) (n : ℕ) → skips l n ≡ true → read_on l s (n + 1) ≡ read_on l s n
+on_skipped l s n skip =
+    let next : n + 1 ≡ suc n = omega arith in
+    ap (read_on l s) next
+    ∙ ap (λ (b : Bool). if b then read_on l s n else after_event l.plan (read_on l s n) (l.first + n) (slice_get l.events n)) skip
+
+told_skipped : (l : Loan) (s : State) (n : ℕ) → skips l n ≡ true → accounts_on l s (n + 1) ≡ accounts_on l s n
+told_skipped l s n skip =
+    let next : n + 1 ≡ suc n = omega arith in
+    ap (accounts_on l s) next
+    ∙ ap (λ (b : Bool). accounts_on l s n ++ (if b then [] else event_accounts l.plan (read_on l s n) (l.first + n) (slice_get l.events n))) skip
+    ∙ append-nil (accounts_on l s n)
+
+-- an event that is not passed over is handled, and told of behind the others
+on_handled : (l : Loan) (s : State) (n : ℕ) (e : Event) → skips l n ≡ false → slice_get l.events n ≡ Some e
+    → read_on l s (n + 1) ≡ handle l.plan (read_on l s n) (l.first + n, e)
+on_handled l s n e seen there =
+    let next : n + 1 ≡ suc n = omega arith in
+    ap (read_on l s) next
+    ∙ ap (λ (b : Bool). if b then read_on l s n else after_event l.plan (read_on l s n) (l.first + n) (slice_get l.events n)) seen
+    ∙ ap (λ (o : Option Event). after_event l.plan (read_on l s n) (l.first + n) o) there
+
+told_handled : (l : Loan) (s : State) (n : ℕ) (e : Event) → skips l n ≡ false → slice_get l.events n ≡ Some e
+    → accounts_on l s (n + 1) ≡ accounts_on l s n ++ account l.plan (read_on l s n) (l.first + n, e) ∷ []
+told_handled l s n e seen there =
+    let next : n + 1 ≡ suc n = omega arith in
+    ap (accounts_on l s) next
+    ∙ ap (λ (b : Bool). accounts_on l s n ++ (if b then [] else event_accounts l.plan (read_on l s n) (l.first + n) (slice_get l.events n))) seen
+    ∙ ap (λ (o : Option Event). accounts_on l s n ++ event_accounts l.plan (read_on l s n) (l.first + n) o) there
+
+abbrev is_below : ℕ → Pair → Type 0
+is_below n pair = pair.number < n
+
+abbrev holds_below : ℕ → Started → Type 0
+holds_below n run = All (is_below n) run.1
+
+-- what is below a number is below the next one
+below_next : (n : ℕ) (s : State) → Below n s → Below (n + 1) s
+below_next n s below = record {
+  events = All-weaker (holds_below n) (holds_below (n + 1)) (λ run all. All-weaker (is_below n) (is_below (n + 1)) (λ pair less. omega arith) run.1 all) s.open_runs below.events;
+  started = let less = below.started in omega arith;
+}
+
+abbrev at : Job → ℕ → Bool → Bool → Pieced
+at job read closed short = record { job = job; read = read; closed = closed; short = short }
+
+-- the lent event of this number is passed over
+pub kept_skipped : (job : Job) (read : ℕ) (closed short : Bool) (now : Option Matching) (list : List Moves) → IsKept (at job read closed short) now list
+    → read < length job.events → skips (loan job) read ≡ true → IsKept (at job (read + 1) closed short) now list
+kept_skipped job read true short now list kept within skip = absurd (omega (arith, (kept.last refl).0))
+kept_skipped job read false short now list kept within skip = record {
+  within = omega arith;
+  led = record {
+    plan = kept.led.plan;
+    stands = λ s stands. subst (Stands (current now job.before)) (sym (on_skipped (loan job) s read skip)) (kept.led.stands s stands);
+  };
+  tells = λ s stands. kept.tells s stands ∙ sym (told_skipped (loan job) s read skip);
+  below =
+      let same : job.first + read + 1 ≡ job.first + (read + 1) = omega arith in
+      subst (λ n. Below n (runs_of (current now job.before))) same (below_next _ _ kept.below);
+  last = λ h. absurd (cc h);
+}
+
+-- it is handled
+pub kept_handled : (job : Job) (read : ℕ) (closed short : Bool) (now later : Option Matching) (list more : List Moves) (e : Event)
+    → IsKept (at job read closed short) now list → read < length job.events → skips (loan job) read ≡ false → slice_get job.events read ≡ Some e
+    → HandledOn (job.first + read, e) (current now job.before) (current later job.before) list more → IsKept (at job (read + 1) closed short) later more
+kept_handled job read true short now later list more e kept within seen there handled = absurd (omega (arith, (kept.last refl).0))
+kept_handled job read false short now later list more e kept within seen there handled =
+    let l = loan job in
+    let plan : (current now job.before).plan ≡ job.before.plan = kept.led.plan in
+    record {
+      within = omega arith;
+      led = record {
+        plan = handled.plan ∙ plan;
+        stands = λ s stands.
+            subst (Stands (current later job.before)) (sym (on_handled l s read e seen there))
+            (subst (λ q. Stands (current later job.before) (handle q (read_on l s read) (job.first + read, e))) plan
+            (handled.stands (read_on l s read) (kept.led.stands s stands)));
+      };
+      tells = λ s stands.
+          handled.told (read_on l s read) (kept.led.stands s stands)
+          ∙ ap (λ (old : List Account). old ++ account (current now job.before).plan (read_on l s read) (job.first + read, e) ∷ []) (kept.tells s stands)
+          ∙ ap (λ q. accounts_on l s read ++ account q (read_on l s read) (job.first + read, e) ∷ []) plan
+          ∙ sym (told_handled l s read e seen there);
+      below =
+          let same : job.first + read + 1 ≡ job.first + (read + 1) = omega arith in
+          subst (λ n. Below n (runs_of (current later job.before))) same handled.below;
+      last = λ h. absurd (cc h);
+    }
+
+-- moves behind others are told behind them
+pub told_behind : (list more new : List Moves) (m : Moves) (a : Account) → more ≡ new ++ m ∷ [] → new ≡ list → (seen_moves m).told ≡ a.told → (seen_moves m).wanted ≡ a.wanted
+    → map seen_moves more ≡ map seen_moves list ++ a ∷ []
+told_behind list more new m a added kept told wanted =
+    let same : seen_moves m ≡ a = λ i. record { told = told i; wanted = wanted i } in
+    ap (map seen_moves) (added ∙ ap (λ l. l ++ m ∷ []) kept) ∙ map-append seen_moves list (m ∷ []) ∙ ap (λ b. map seen_moves list ++ b ∷ []) same
+
+-- where nothing was read the matcher is the job's
+pub unread : (p : Pieced) (now : Option Matching) (list : List Moves) → IsKept p now list → p.read ≡ 0 → p.closed ≡ false → current now p.job.before ≡ p.job.before
+unread p now list kept none not_closed =
+    let before = p.job.before in
+    let m = current now before in
+    let first : Stands before (runs_of before) = record { open_is = refl; started_is = refl } in
+    let led : Stands m (runs_of before) =
+    subst (Stands m) ((λ i. if not_closed i then after_closing (read_on (loan p.job) (runs_of before) p.read) else read_on (loan p.job) (runs_of before) (none i))) (kept.led.stands (runs_of before) first) in
+    λ i. record { plan = kept.led.plan i; open_runs = led.open_is i; started = led.started_is i }
+
+and_right : (a b : Bool) → (a && b) ≡ true → b ≡ true
+and_right true b both = both
+and_right false b both = absurd (cc)
+
+-- where an event is still to be read, fewer were read than lent
+pub read_within : (p : Pieced) → has_event p ≡ true → p.read < length p.job.events
+read_within p has = ltb-true _ _ (and_right (not p.short) (nat_lt p.read (length p.job.events)) has)

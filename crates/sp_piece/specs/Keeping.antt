@@ -1,0 +1,36 @@
+-- What a piece keeps between two steps.
+use Rattle.std.specs.Prelude.{◌≡◌, ◌+◌, ◌≤◌, true, List, [], ◌∷◌, ◌++◌, Option, Some, None, length, map}
+use Rattle.sp_plan.specs.Windows.{Numbered}
+use Rattle.sp_plan.specs.Runs.{State, handle}
+use Rattle.sp_match.specs.public.Laws.{Below}
+use Rattle.sp_match.specs.public.Matching.{Matching, Stands, runs_of}
+use Rattle.sp_match.specs.declared.moves.Moves.{Moves}
+use Rattle.sp_piece.specs.Reading.{account, closing_account, seen_moves}
+use Rattle.sp_piece.specs.Pieced.{Pieced, LedTo, Tells}
+
+-- the matcher that has read: the one of the job until there is another
+abbrev pub current : Option Matching → Matching → Matching
+current None before = before
+current (Some m) before = m
+
+-- It has read no more than was lent, its matcher stands for what that led to, its moves tell of it, and it can handle the next event.
+pub record IsKept (p : Pieced) (now : Option Matching) (list : List Moves) : Type 0 where
+  pub within : p.read ≤ length p.job.events
+  pub led : LedTo p (current now p.job.before)
+  pub tells : Tells p list
+  pub below : Below (p.job.first + p.read) (runs_of (current now p.job.before))
+  pub last : p.closed ≡ true → (p.read ≡ length p.job.events) × (p.job.closes ≡ true)
+
+-- What the handling of an event made of a matcher and a list of moves: one entry came behind the others.
+pub record HandledOn (x : Numbered) (m n : Matching) (list more : List Moves) : Type 0 where
+  pub plan : n.plan ≡ m.plan
+  pub stands : (s : State) → Stands m s → Stands n (handle m.plan s x)
+  pub told : (s : State) → Stands m s → map seen_moves more ≡ map seen_moves list ++ account m.plan s x ∷ []
+  pub below : Below (x.0 + 1) (runs_of n)
+
+-- What the closing made of them.
+pub record ClosedOff (m n : Matching) (list more : List Moves) : Type 0 where
+  pub plan : n.plan ≡ m.plan
+  pub none : n.open_runs ≡ []
+  pub count : n.started ≡ m.started
+  pub told : (s : State) → Stands m s → map seen_moves more ≡ map seen_moves list ++ closing_account m.plan s ∷ []

@@ -1,0 +1,4 @@
+pub mod Lending
+pub mod Reading
+pub mod Pieced
+pub mod Keeping

@@ -1,0 +1,27 @@
+ghost use Rattle.sp_piece.specs.Lending.{IsLendable};
+
+use sp_base::Numbers;
+use sp_match::Matcher;
+use sp_plan::{Event, Listed};
+
+/// What is lent to be read, with all that the reading needs. Its events fit the plan of `before`, which
+/// is compiled as each matcher's is; the first one's number is above each number that an open run of
+/// `before` holds and above the count of its runs; and no event's number passes 1,048,576.
+#[derive(Drop)]
+pub struct Job {
+    /// The ticket's number, from 1.
+    pub ticket: u64,
+    /// The version to which the events are lent.
+    pub version: u64,
+    /// The number of the first lent event.
+    pub first: u32,
+    /// The matcher of the version before these events.
+    pub before: Matcher,
+    /// The lent events, numbered from `first` on.
+    pub events: Listed<Event>,
+    /// The numbers of those that are to be skipped.
+    pub snapshot: Numbers,
+    /// Whether the window's closing comes behind them.
+    pub closes: bool,
+    pub ghost lendable: { IsLendable before events first },
+}

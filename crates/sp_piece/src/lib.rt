@@ -1,0 +1,16 @@
+//! Jobs, which carry all that a reading of lent events needs, and pieces, which do the reading event by
+//! event. Where a reading leads, and what is told of it, stands in `specs/Reading.antt`.
+#![tactic(auto)]
+
+mod going;
+mod job;
+mod piece;
+mod stepped;
+
+pub use job::Job;
+pub use piece::Piece;
+use std::alloc::AllocError;
+pub use stepped::Stepped;
+
+/// Want of memory. Any call that allocates may answer it, and says what stands after it.
+pub type Memory = AllocError;

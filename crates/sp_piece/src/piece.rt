@@ -1,0 +1,188 @@
+ghost use Rattle.std.specs.Prelude.{◌≡◌, ◌≤◌, ◌+◌, true, false, length, OnOk, OnErr, IfOk};
+ghost use Rattle.sp_match.specs.public.Laws.{Below};
+ghost use Rattle.sp_match.specs.public.Matching.{runs_of};
+ghost use Rattle.sp_piece.specs.Pieced.{LedTo, Tells, after_step, answer, begun, has_closing, has_event, refused};
+
+use crate::going::{handle_closing, handle_event};
+use crate::{Job, Memory, Stepped};
+use sp_match::{Matcher, Moves};
+use std::alloc::Global;
+use std::marker::Model;
+
+/// A reading of what a job lends, event by event. Contracts see the job, how many events were read,
+/// whether the closing was, and whether memory was refused.
+#[derive(Drop)]
+pub struct Piece {
+    job: Job,
+    // where the reading has led to; None until the first event is handled
+    matcher: Option<Matcher>,
+    moves: Vec<Moves>,
+    read: u32,
+    closed: bool,
+    short: bool,
+}
+
+impl Model for Piece {
+    ghost use Rattle.sp_piece.specs.Pieced.{Pieced};
+
+    ghost Value = { Pieced };
+
+    ghost use Rattle.sp_plan.specs.contracts.plan.Expr as expr;
+    ghost use Rattle.sp_plan.specs.contracts.plan.Pred as pred;
+    ghost use Rattle.std.specs.Coded.{codes};
+
+    ghost coded = { Prim.hlevel (codes, expr.the_row.coded, pred.the_row.coded) };
+
+    ghost use Rattle.sp_piece.specs.Keeping.{IsKept};
+
+    ghost view = { λ p. record { job = p.job; read = p.read; closed = p.closed; short = p.short } };
+
+    ghost invariant = { λ p. IsKept (record { job = p.job; read = p.read; closed = p.closed; short = p.short }) p.matcher p.moves.items };
+}
+
+impl Piece {
+    /// A piece that has read nothing. Takes no memory.
+    pub fn start(alloc: Global, job: Job) -> Piece
+        ensures { result ≡ begun job }
+    {
+        Piece {
+            job,
+            matcher: None,
+            moves: Vec::new(alloc),
+            read: 0,
+            closed: false,
+            short: false,
+        }
+    }
+
+    /// Reads the next lent event, passing over one of the snapshot; after the last one the window's
+    /// closing, where the job lends it; then, and where the piece was given up, answers `Finished`, and
+    /// nothing changes. After want of memory the piece is as before.
+    pub fn step(&mut self, alloc: Global) -> Result<Stepped, Memory>
+        ensures next { OnOk result (self.new ≡ after_step self.old) }
+        ensures answer { IfOk result (λ stepped. stepped ≡ answer self.old) }
+        ensures err { OnErr result (self.new ≡ self.old) }
+    {
+        if self.short {
+            return Ok(Stepped::Finished);
+        }
+        if (self.read as usize) < self.job.events.as_slice().len() {
+            return self.read_event(alloc);
+        }
+        if self.closed || !self.job.closes {
+            return Ok(Stepped::Finished);
+        }
+        self.read_closing(alloc)
+    }
+
+    // Reads the next lent event.
+    fn read_event(&mut self, alloc: Global) -> Result<Stepped, Memory>
+        requires { has_event self.old ≡ true }
+        ensures next { OnOk result (self.new ≡ after_step self.old) }
+        ensures answer { IfOk result (λ stepped. stepped ≡ answer self.old) }
+        ensures err { OnErr result (self.new ≡ self.old) }
+    {
+        let number = self.job.first + self.read;
+        if self.job.snapshot.has(number) {
+            self.read += 1;
+            return Ok(Stepped::Read {
+                number,
+                skipped: true,
+            });
+        }
+        let job = &self.job;
+        let event = &job.events.as_slice()[self.read as usize];
+        handle_event(
+            alloc,
+            &mut self.matcher,
+            &mut self.moves,
+            &job.before,
+            number,
+            event,
+        )?;
+        self.read += 1;
+        Ok(Stepped::Read {
+            number,
+            skipped: false,
+        })
+    }
+
+    // Reads the closing.
+    fn read_closing(&mut self, alloc: Global) -> Result<Stepped, Memory>
+        requires { has_closing self.old ≡ true }
+        ensures next { OnOk result (self.new ≡ after_step self.old) }
+        ensures answer { IfOk result (λ stepped. stepped ≡ answer self.old) }
+        ensures err { OnErr result (self.new ≡ self.old) }
+    {
+        let job = &self.job;
+        handle_closing(alloc, &mut self.matcher, &mut self.moves, &job.before)?;
+        self.closed = true;
+        Ok(Stepped::Closed)
+    }
+
+    /// Its job, as it was lent.
+    pub fn job(&self) -> &Job
+        ensures { result.now ≡ self.now.job }
+    {
+        &self.job
+    }
+
+    /// How many of the lent events it has read, those that it passed over among them.
+    pub fn read(&self) -> u32
+        ensures read { result ≡ self.now.read }
+        ensures most { result ≤ length self.now.job.events }
+    {
+        self.read
+    }
+
+    /// What it did: one entry for each event that was read and not passed over, in their order, and one
+    /// for the closing.
+    pub fn moves(&self) -> &[Moves]
+        ensures { Tells self.now result.now }
+    {
+        &self.moves
+    }
+
+    /// Marks that memory was refused. It can be read on.
+    pub fn give_up(&mut self)
+        ensures { self.new ≡ refused self.old }
+    {
+        self.short = true;
+    }
+
+    /// Whether memory was refused.
+    pub fn short(&self) -> bool
+        ensures { result ≡ self.now.short }
+    {
+        self.short
+    }
+
+    /// Whether it has read the closing, which comes behind all lent events.
+    pub fn closed(&self) -> bool
+        ensures closed { result ≡ self.now.closed }
+        ensures last { result ≡ true → self.now.read ≡ length self.now.job.events }
+        ensures lent { result ≡ true → self.now.job.closes ≡ true }
+    {
+        self.closed
+    }
+
+    /// The matcher to which the reading led, the one of the job where nothing was read. Takes no memory.
+    pub fn into_after(self) -> Matcher
+        ensures led { LedTo self result }
+        ensures below { Below (self.job.first + self.read) (runs_of result) }
+        ensures unread { self.read ≡ 0 → self.closed ≡ false → result ≡ self.job.before }
+    {
+        let Piece {
+            job,
+            matcher,
+            moves: _,
+            read: _,
+            closed: _,
+            short: _,
+        } = self;
+        match matcher {
+            Some(matcher) => matcher,
+            None => job.before,
+        }
+    }
+}

@@ -1,0 +1,34 @@
+// The least number of a part of a rising list that is not among others.
+ghost use Rattle.std.specs.Prelude.{◌≡◌, ◌+◌, ◌&&◌, not, nat_le, nat_lt};
+ghost use Rattle.std.specs.List.Sorted.{IsStrictlyIncreasing};
+ghost use Rattle.sp_base.specs.Place.{IsPlace};
+ghost use Rattle.sp_plan.specs.Runs.{is_among};
+ghost use Rattle.sp_group.specs.Rising.{least};
+
+use sp_base::Numbers;
+
+// How many numbers of a rising list are below this one.
+fn place(list: &[u32], n: u32) -> usize
+    requires { IsStrictlyIncreasing list.now }
+    ensures { IsPlace n list.now result }
+{
+    match list.binary_search(&n) {
+        Ok(at) => at,
+        Err(at) => at,
+    }
+}
+
+// The least number of the rising list that is one of so many from `first` on, and not skipped.
+pub(crate) fn least_among(list: &[u32], first: u32, count: u32, skipped: &Numbers) -> Option<u32>
+    requires { IsStrictlyIncreasing list.now }
+    ensures { result ≡ least (λ i. is_among list.now i && (nat_le first i && nat_lt i (first + count) && not (is_among skipped.now.list i))) first count }
+{
+    let mut at = place(list, first);
+    while at < list.len() && list[at] - first < count {
+        if !skipped.has(list[at]) {
+            return Some(list[at]);
+        }
+        at += 1;
+    }
+    None
+}
