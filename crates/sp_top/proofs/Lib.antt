@@ -1,9 +1,11 @@
+mod Alike
 mod Answered
 mod Answering
 mod Commands
 mod FewEvents
 mod Leading
 mod LinesOf
+mod OneRun
 mod ReadSoFar
 mod Refusals
 mod FitReading

@@ -5,3 +5,4 @@ pub mod Coming
 pub mod Outcome
 pub mod Answer
 pub mod Queries
+pub mod Alike
