@@ -5,6 +5,7 @@ mod Commands
 mod FewEvents
 mod Leading
 mod LinesOf
+mod OneOutcome
 mod OneRun
 mod ReadSoFar
 mod Refusals

@@ -34,7 +34,7 @@ one_literals (_ ∷ _) _ _ (some t rest own others texts parts more is) (some _ 
     is ∙ (λ i. literal_of (out-Tree t).node ++ (one_literals (out-Tree t).parts own own' parts parts' i ++ one_literals rest others others' more more' i)) ∙ sym is'
 
 -- what predicates of plans are, given what trees mean
-abbrev OneTruth : Type 0
+abbrev pub OneTruth : Type 0
 OneTruth = (scope : Scope) (texts : List (List ℕ)) (event : Event) (bound : BoundEvents) (tree : Tree) (one other : Bool) → Truth scope texts event bound tree one → Truth scope texts event bound tree other → one ≡ other
 
 opening_itself : (x : Opening) → OpeningsAlike x x

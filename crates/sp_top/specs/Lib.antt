@@ -6,3 +6,4 @@ pub mod Outcome
 pub mod Answer
 pub mod Queries
 pub mod Alike
+pub mod OneOutcome
