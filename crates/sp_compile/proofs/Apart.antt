@@ -13,9 +13,9 @@ use Rattle.sp_plan.specs.declared.plan.Column.{Column}
 use Rattle.sp_plan.specs.declared.plan.Name.{Name}
 use Rattle.sp_plan.specs.Compiled.{AreApart, IsKind}
 use Rattle.sp_plan.specs.Texts.{with_text}
-use Rattle.sp_query.specs.declared.query.Ident.{Ident}
 use Rattle.sp_query.specs.declared.query.Query.{Query}
 use Rattle.sp_query.specs.declared.query.QueryColumn.{QueryColumn}
+use Rattle.sp_compile.specs.Scopes.{PatternName}
 use Rattle.sp_compile.specs.Checks.{columns_fault, names_fault}
 use Rattle.sp_compile.specs.Stands.{plan_column, kind_of, StandForNames}
 use Rattle.sp_compile.proofs.Limits.{text_of, HasDigits, columns_unlike, columns_have_digits, names_unlike}
@@ -53,14 +53,14 @@ columns_sound columns none =
 -- ---- names
 
 -- the texts of the plan's names
-same_texts : (query : Query) (texts : List (List ℕ)) (names : List (Ident × ℕ)) (planned : List Name) → StandForNames query texts names planned → map (λ name. name.text) planned ≡ map text_of names
+same_texts : (query : Query) (texts : List (List ℕ)) (names : List PatternName) (planned : List Name) → StandForNames query texts names planned → map (λ name. name.text) planned ≡ map text_of names
 same_texts query texts [] [] s = refl
 same_texts query texts [] (p ∷ planned) s = absurd s
 same_texts query texts (name ∷ names) [] s = absurd s
 same_texts query texts (name ∷ names) (p ∷ planned) s =
     ap (λ (l : List (List ℕ)). p.text ∷ l) (same_texts query texts names planned s.1) ∙ ap (λ (t : List ℕ). t ∷ map text_of names) s.0.text
 
-pub names_apart : (query : Query) (texts : List (List ℕ)) (names : List (Ident × ℕ)) (planned : List Name) → StandForNames query texts names planned → names_fault [] names ≡ None → AreApart (map (λ name. name.text) planned)
+pub names_apart : (query : Query) (texts : List (List ℕ)) (names : List PatternName) (planned : List Name) → StandForNames query texts names planned → names_fault [] names ≡ None → AreApart (map (λ name. name.text) planned)
 names_apart query texts names planned stand none =
     subst AreApart (sym (same_texts query texts names planned stand)) (pairs_mapped text_of (λ one other. one ≢ other) names (names_unlike names none))
 

@@ -10,24 +10,25 @@ use Rattle.std.proofs.lemmas.List.Sums.{sum_by-cons}
 use Rattle.sp_plan.specs.declared.plan.Name.{Name}
 use Rattle.sp_plan.specs.declared.plan.Plan.{Plan}
 use Rattle.sp_plan.specs.Comparable.{IsComparable}
-use Rattle.sp_plan.specs.Compiled.{numbers_in, readable, ReadEarlier}
+use Rattle.sp_plan.specs.Compiled.{readable, ReadEarlier}
+use Rattle.sp_plan.specs.Runs.{names_of}
 use Rattle.sp_query.specs.declared.query.Ident.{Ident}
 use Rattle.sp_query.specs.declared.query.QueryElement.{QueryElement}
-use Rattle.sp_compile.specs.Scopes.{names_in, placed_names}
+use Rattle.sp_compile.specs.Scopes.{AreOrdered, names_in, placed_names, PatternName, in_element}
 use Rattle.sp_compile.specs.Stands.{width, plan_element, plan_elements}
 use Rattle.sp_compile.proofs.Placed.{length_names, numbers_here}
 
 -- names with the numbers of their elements
 abbrev Placed : Type 0
-Placed = List (Ident × ℕ)
+Placed = List PatternName
 
 -- how many names are of elements before this one
 abbrev before : ℕ → Placed → ℕ
-before here names = count_by (λ name. nat_lt name.1 here) names
+before here names = count_by (λ name. nat_lt name.element here) names
 
 -- a name, and those behind it
-one_more : (here : ℕ) (name : Ident × ℕ) (names : Placed) → before here (name ∷ names) ≡ cond (nat_lt name.1 here) 1 0 + before here names
-one_more here name names = sum_by-cons (λ (other : Ident × ℕ). cond (nat_lt other.1 here) 1 0) name names
+one_more : (here : ℕ) (name : PatternName) (names : Placed) → before here (name ∷ names) ≡ cond (nat_lt name.element here) 1 0 + before here names
+one_more here name names = sum_by-cons (λ (other : PatternName). cond (nat_lt other.element here) 1 0) name names
 
 pub is_before : (n here : ℕ) → n < here → nat_lt n here ≡ true
 is_before n here less = grind (arith, nat_tests)
@@ -37,69 +38,60 @@ is_not n here most = grind (arith, nat_tests)
 
 -- ---- names come in the order of their elements
 
--- the elements of names never go back
-abbrev Ordered : Placed → Type 0
-Ordered [] = Unit {0}
-Ordered (name ∷ names) = All (λ other. name.1 ≤ other.1) names × Ordered names
-
 -- the names of an element in front of those of later ones
-in_front : (names : List Ident) (at : ℕ) (rest : Placed) → Ordered rest → All (λ name. at ≤ name.1) rest
-    → Ordered (map (λ name. (name, at)) names ++ rest) × All (λ name. at ≤ name.1) (map (λ name. (name, at)) names ++ rest)
+in_front : (names : List Ident) (at : ℕ) (rest : Placed) → AreOrdered rest → All (λ name. at ≤ name.element) rest
+    → AreOrdered (map (in_element at) names ++ rest) × All (λ name. at ≤ name.element) (map (in_element at) names ++ rest)
 in_front [] at rest ordered later = (ordered, later)
 in_front (name ∷ names) at rest ordered later =
     let behind = in_front names at rest ordered later in
-    let all = map (λ (ident : Ident). (ident, at)) names ++ rest in
+    let all = map (in_element at) names ++ rest in
     let here : at ≤ at = omega arith in
-    ((behind.1, behind.0), All-cons (λ (other : Ident × ℕ). at ≤ other.1) (name, at) all here behind.1)
+    ((behind.1, behind.0), All-cons (λ (other : PatternName). at ≤ other.element) (in_element at name) all here behind.1)
 
-placed_ordered : (elements : List QueryElement) (at : ℕ) → Ordered (placed_names at elements) × All (λ name. at ≤ name.1) (placed_names at elements)
+pub placed_ordered : (elements : List QueryElement) (at : ℕ) → AreOrdered (placed_names at elements) × All (λ name. at ≤ name.element) (placed_names at elements)
 placed_ordered [] at = (tt, λ i d inside. absurd (omega arith))
 placed_ordered (element ∷ elements) at =
     let behind = placed_ordered elements (suc at) in
     let rest = placed_names (suc at) elements in
-    in_front (names_in element) at rest behind.0 (λ i d inside. let later : suc at ≤ (get_or rest i d).1 = behind.1 i d inside in omega arith)
+    in_front (names_in element) at rest behind.0 (λ i d inside. let later : suc at ≤ (get_or rest i d).element = behind.1 i d inside in omega arith)
 
 -- a name of an element before this one is among the first that are
-among_first : (here : ℕ) (names : Placed) (k : ℕ) (d : Ident × ℕ) → Ordered names → k < length names → (get_or names k d).1 < here → k < before here names
+pub among_first : (here : ℕ) (names : Placed) (k : ℕ) (d : PatternName) → AreOrdered names → k < length names → (get_or names k d).element < here → k < before here names
 among_first here [] k d ordered inside less = absurd (omega arith)
 among_first here (name ∷ names) zero d ordered inside less =
-    let first : nat_lt name.1 here ≡ true = is_before name.1 here less in
+    let first : nat_lt name.element here ≡ true = is_before name.element here less in
     let count : before here (name ∷ names) ≡ 1 + before here names = one_more here name names ∙ ap (λ (b : Bool). cond b 1 0 + before here names) first in
     omega (arith, count)
 among_first here (name ∷ names) (suc k) d ordered inside less =
-    let later : name.1 ≤ (get_or names k d).1 = ordered.0 k d (omega arith) in
-    let first : nat_lt name.1 here ≡ true = is_before name.1 here (omega arith) in
+    let later : name.element ≤ (get_or names k d).element = ordered.0 k d (omega arith) in
+    let first : nat_lt name.element here ≡ true = is_before name.element here (omega arith) in
     let behind : k < before here names = among_first here names k d ordered.1 (omega arith) less in
     let count : before here (name ∷ names) ≡ 1 + before here names = one_more here name names ∙ ap (λ (b : Bool). cond b 1 0 + before here names) first in
     omega (arith, count, behind)
 
--- the number of a name that is bound earlier
-pub bound_earlier : (elements : List QueryElement) (here k : ℕ) (d : Ident × ℕ) → k < length (placed_names 0 elements) → (get_or (placed_names 0 elements) k d).1 < here → k < before here (placed_names 0 elements)
-bound_earlier elements here k d inside less = among_first here (placed_names 0 elements) k d (placed_ordered elements 0).0 inside less
-
 -- ---- counts
 
-none_before : (here : ℕ) (names : Placed) → All (λ name. here ≤ name.1) names → before here names ≡ 0
+none_before : (here : ℕ) (names : Placed) → All (λ name. here ≤ name.element) names → before here names ≡ 0
 none_before here [] later = refl
 none_before here (name ∷ names) later =
     let behind : before here names ≡ 0 = none_before here names (λ i d inside. later (suc i) d (omega arith)) in
-    let count : before here (name ∷ names) ≡ 0 + before here names = one_more here name names ∙ ap (λ (b : Bool). cond b 1 0 + before here names) (is_not name.1 here (later 0 name (omega arith))) in
+    let count : before here (name ∷ names) ≡ 0 + before here names = one_more here name names ∙ ap (λ (b : Bool). cond b 1 0 + before here names) (is_not name.element here (later 0 name (omega arith))) in
     omega (arith, count, behind)
 
 -- those in front are, and those behind are not
-front_before : (here : ℕ) (front rest : Placed) → All (λ name. name.1 < here) front → All (λ name. here ≤ name.1) rest → before here (front ++ rest) ≡ length front
+front_before : (here : ℕ) (front rest : Placed) → All (λ name. name.element < here) front → All (λ name. here ≤ name.element) rest → before here (front ++ rest) ≡ length front
 front_before here [] rest earlier later = none_before here rest later
 front_before here (name ∷ front) rest earlier later =
     let behind : before here (front ++ rest) ≡ length front = front_before here front rest (λ i d inside. earlier (suc i) d (omega arith)) later in
     let count : before here (name ∷ (front ++ rest)) ≡ 1 + before here (front ++ rest) =
-    one_more here name (front ++ rest) ∙ ap (λ (b : Bool). cond b 1 0 + before here (front ++ rest)) (is_before name.1 here (earlier 0 name (omega arith))) in
+    one_more here name (front ++ rest) ∙ ap (λ (b : Bool). cond b 1 0 + before here (front ++ rest)) (is_before name.element here (earlier 0 name (omega arith))) in
     omega (arith, count, behind)
 
 -- ---- elements
 
 -- what is said of names by their elements, of the names of one element and of those behind
-zip_front : (Q : ℕ → Name → Type 0) (at : ℕ) (idents : List Ident) (rest : Placed) (names : List Name) → AllZip (λ name planned. Q name.1 planned) (map (λ ident. (ident, at)) idents ++ rest) names
-    → All (Q at) (take (length idents) names) × AllZip (λ name planned. Q name.1 planned) rest (drop (length idents) names)
+zip_front : (Q : ℕ → Name → Type 0) (at : ℕ) (idents : List Ident) (rest : Placed) (names : List Name) → AllZip (λ name planned. Q name.element planned) (map (in_element at) idents ++ rest) names
+    → All (Q at) (take (length idents) names) × AllZip (λ name planned. Q name.element planned) rest (drop (length idents) names)
 zip_front Q at [] rest names zip = (All-nil (Q at), zip)
 zip_front Q at (ident ∷ idents) rest [] zip = absurd zip
 zip_front Q at (ident ∷ idents) rest (name ∷ names) zip =
@@ -107,17 +99,17 @@ zip_front Q at (ident ∷ idents) rest (name ∷ names) zip =
     (All-cons (Q at) name (take (length idents) names) zip.0 behind.0, behind.1)
 
 -- the names of an element are of elements before the next
-all_here : (idents : List Ident) (at : ℕ) → All (λ (name : Ident × ℕ). name.1 < suc at) (map (λ (ident : Ident). (ident, at)) idents)
+all_here : (idents : List Ident) (at : ℕ) → All (λ (name : PatternName). name.element < suc at) (map (in_element at) idents)
 all_here [] at i d inside = absurd (omega arith)
 all_here (ident ∷ idents) at zero d inside = omega arith
 all_here (ident ∷ idents) at (suc i) d inside = all_here idents at i d (omega arith)
 
 -- names of elements before one are of elements before the next
-one_later : (at : ℕ) (front : Placed) → All (λ (name : Ident × ℕ). name.1 < at) front → All (λ (name : Ident × ℕ). name.1 < suc at) front
-one_later at front earlier i d inside = let less : (get_or front i d).1 < at = earlier i d inside in omega arith
+one_later : (at : ℕ) (front : Placed) → All (λ (name : PatternName). name.element < at) front → All (λ (name : PatternName). name.element < suc at) front
+one_later at front earlier i d inside = let less : (get_or front i d).element < at = earlier i d inside in omega arith
 
 -- as many numbers as names
-many_numbers : (first : ℕ) (element : QueryElement) → length (numbers_in (plan_element first element)) ≡ length (names_in element)
+many_numbers : (first : ℕ) (element : QueryElement) → length (names_of (plan_element first element)) ≡ length (names_in element)
 many_numbers first element = ap (λ (l : List ℕ). length l) (numbers_here first element) ∙ length-range_with_len first (width element) ∙ sym (length_names element)
 
 module _ (q : Plan) (whole : Placed) where
@@ -125,22 +117,22 @@ module _ (q : Plan) (whole : Placed) where
   abbrev pub Reads : ℕ → Name → Type 0
   Reads here planned = IsComparable (readable q (before here whole)) planned.pred
 
-  read_from : (elements : List QueryElement) (at : ℕ) (front : Placed) (names : List Name) (first : ℕ) → whole ≡ front ++ placed_names at elements → All (λ name. name.1 < at) front → length front ≡ first
-      → AllZip (λ name planned. Reads name.1 planned) (placed_names at elements) names → ReadEarlier q first (plan_elements first elements) names
+  read_from : (elements : List QueryElement) (at : ℕ) (front : Placed) (names : List Name) (first : ℕ) → whole ≡ front ++ placed_names at elements → All (λ name. name.element < at) front → length front ≡ first
+      → AllZip (λ name planned. Reads name.element planned) (placed_names at elements) names → ReadEarlier q first (plan_elements first elements) names
   read_from [] at front names first is earlier many zip = tt
   read_from (element ∷ elements) at front names first is earlier many zip =
       let idents = names_in element in
-      let here = map (λ (ident : Ident). (ident, at)) idents in
+      let here = map (in_element at) idents in
       let rest = placed_names (suc at) elements in
       let count : before at whole ≡ first = ap (before at) is ∙ front_before at front (here ++ rest) earlier (placed_ordered (element ∷ elements) at).1 ∙ many in
       let parts = zip_front Reads at idents rest names zip in
       let own : All (λ (name : Name). IsComparable (readable q first) name.pred) (take (length idents) names) = subst (λ (n : ℕ). All (λ (name : Name). IsComparable (readable q n) name.pred) (take (length idents) names)) count parts.0 in
       let wide : length idents ≡ width element = length_names element in
       let grown : length (front ++ here) ≡ first + width element =
-      length-append front here ∙ ap (λ (n : ℕ). n + length here) many ∙ ap (λ (n : ℕ). first + n) (length-map idents (λ (ident : Ident). (ident, at)) ∙ wide) in
+      length-append front here ∙ ap (λ (n : ℕ). n + length here) many ∙ ap (λ (n : ℕ). first + n) (length-map idents (in_element at) ∙ wide) in
       let again : whole ≡ (front ++ here) ++ rest = is ∙ sym (append_assoc front here rest) in
-      let below : All (λ (name : Ident × ℕ). name.1 < suc at) (front ++ here) =
-      All-append (λ (name : Ident × ℕ). name.1 < suc at) front here (one_later at front earlier) (all_here idents at) in
+      let below : All (λ (name : PatternName). name.element < suc at) (front ++ here) =
+      All-append (λ (name : PatternName). name.element < suc at) front here (one_later at front earlier) (all_here idents at) in
       let behind : ReadEarlier q (first + width element) (plan_elements (first + width element) elements) (drop (length idents) names) =
       read_from elements (suc at) (front ++ here) (drop (length idents) names) (first + width element) again below grown parts.1 in
       subst (λ (n : ℕ). All (λ (name : Name). IsComparable (readable q first) name.pred) (take n names) × ReadEarlier q (first + n) (plan_elements (first + width element) elements) (drop n names))
@@ -148,6 +140,6 @@ module _ (q : Plan) (whole : Placed) where
       (own, subst (λ (n : ℕ). ReadEarlier q (first + n) (plan_elements (first + width element) elements) (drop (length idents) names)) (sym wide) behind)
 
 -- all names of the pattern
-pub read_earlier : (q : Plan) (elements : List QueryElement) (names : List Name) → AllZip (λ name planned. IsComparable (readable q (before name.1 (placed_names 0 elements))) planned.pred) (placed_names 0 elements) names
+pub read_earlier : (q : Plan) (elements : List QueryElement) (names : List Name) → AllZip (λ name planned. IsComparable (readable q (before name.element (placed_names 0 elements))) planned.pred) (placed_names 0 elements) names
     → ReadEarlier q 0 (plan_elements 0 elements) names
-read_earlier q elements names zip = read_from q (placed_names 0 elements) elements 0 [] names 0 refl (All-nil (λ name. name.1 < 0)) refl zip
+read_earlier q elements names zip = read_from q (placed_names 0 elements) elements 0 [] names 0 refl (All-nil (λ name. name.element < 0)) refl zip

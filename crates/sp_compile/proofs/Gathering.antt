@@ -40,6 +40,12 @@ gathers_tree t before after d = record {
   gathered = d.gathered ∙ sym (fold_append before (literal_of (out-Tree t).node) d.literals) ∙ ap (λ l. fold with_text before (literal_of (out-Tree t).node ++ l)) (sym (append-nil d.literals));
 }
 
+-- an operator, behind the texts of its left part
+pub gathers_node : (t here right : Tree) (before between after : List (List ℕ)) → (out-Tree t).parts ≡ here ∷ right ∷ [] → literal_of (out-Tree t).node ≡ [] → Gathers (here ∷ []) before between → Gathers (right ∷ []) between after → Gathers (t ∷ []) before after
+gathers_node t here right before between after parts plain d e =
+    let both : Gathers (here ∷ right ∷ []) before after = gathers_append (here ∷ []) (right ∷ []) before between after d e in
+    gathers_tree t before after (subst (λ l. Gathers (out-Tree t).parts (fold with_text before l) after) (sym plain) (subst (λ l. Gathers l before after) (sym parts) both))
+
 -- one tree more, as at a step of a loop
 pub gathers_more : (trees : List Tree) (at : ℕ) (tree : Tree) (before between after : List (List ℕ)) → at < length trees → tree ≡ get_or trees at tree → Gathers (take at trees) before between → Gathers (tree ∷ []) between after → Gathers (take (at + 1) trees) before after
 gathers_more trees at tree before between after within is d e =

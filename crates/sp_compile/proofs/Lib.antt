@@ -19,3 +19,4 @@ pub mod Sorted
 pub mod EarlierNames
 mod Apart
 mod Ends
+mod SomeVerdict

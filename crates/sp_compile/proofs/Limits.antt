@@ -9,13 +9,13 @@ use Rattle.std.proofs.lemmas.List.Folds.{list_any_at}
 use Rattle.std.proofs.lemmas.Slice.Eq.{bytes_eq-Decides}
 use Rattle.sp_lex.specs.declared.token.Word.{Word}
 use Rattle.sp_lex.specs.declared.token.Word.TheVariants as w
-use Rattle.sp_query.specs.declared.query.Ident.{Ident}
 use Rattle.sp_query.specs.declared.query.QueryColumn.{QueryColumn}
 use Rattle.sp_compile.specs.declared.fault.CompileFault.{CompileFault}
 use Rattle.sp_compile.specs.declared.fault.CompileFault.TheVariants as f
 use Rattle.sp_query.specs.declared.query.Query.{Query}
-use Rattle.sp_compile.specs.Scopes.{pattern_names}
+use Rattle.sp_compile.specs.Scopes.{pattern_names, PatternName}
 use Rattle.sp_compile.specs.Answers.{IsNamed}
+use Rattle.sp_compile.proofs.EarlierNames.{placed_ordered}
 use Rattle.sp_compile.specs.Sorts.{first}
 use Rattle.sp_compile.specs.Checks.{is_among, is_decimal, column_fault, columns_fault, name_fault, names_fault}
 
@@ -132,33 +132,33 @@ columns_unlike columns none = all_unlike name_of column_fault columns_fault by_c
 -- ---- names of the pattern
 
 -- the text of a name of the pattern
-abbrev pub text_of : Ident × ℕ → List ℕ
-text_of name = name.0.text
+abbrev pub text_of : PatternName → List ℕ
+text_of name = name.name.text
 
 -- the fault of a name of the pattern, behind these
-abbrev name_fault_of : List (List ℕ) → Ident × ℕ → Option CompileFault
-name_fault_of before name = name_fault before name.0
+abbrev name_fault_of : List (List ℕ) → PatternName → Option CompileFault
+name_fault_of before name = name_fault before name.name
 
 -- names of the pattern are checked so
 by_names : FromLeft text_of name_fault_of names_fault
 by_names = record { some = λ before x xs. refl }
 
 -- what a name without a fault is
-fine_name : (before : List (List ℕ)) (name : Ident × ℕ) → name_fault_of before name ≡ None → (length before < 32) × (is_among before name.0.text ≡ false)
+fine_name : (before : List (List ℕ)) (name : PatternName) → name_fault_of before name ≡ None → (length before < 32) × (is_among before name.name.text ≡ false)
 fine_name before name none =
-    let unlike : Option CompileFault = if is_among before name.0.text then Some (f.Twice name.0.span) else None in
-    let many = untrue (nat_le 32 (length before)) (f.TooMany name.0.span) unlike none in
-    let taken = untrue (is_among before name.0.text) (f.Twice name.0.span) None many.1 in
+    let unlike : Option CompileFault = if is_among before name.name.text then Some (f.Twice name.name.span) else None in
+    let many = untrue (nat_le 32 (length before)) (f.TooMany name.name.span) unlike none in
+    let taken = untrue (is_among before name.name.text) (f.Twice name.name.span) None many.1 in
     (below (length before) 32 many.0, taken.0)
 
 -- names without a fault are at most 32
-pub at_most_32_names : (names : List (Ident × ℕ)) → names_fault [] names ≡ None → length names ≤ 32
+pub at_most_32_names : (names : List PatternName) → names_fault [] names ≡ None → length names ≤ 32
 at_most_32_names names none =
     let few : 0 + length names ≤ 32 = few_items text_of name_fault_of names_fault by_names 32 (λ before x fine. (fine_name before x fine).0) names [] none (omega arith) in
     omega arith
 
 -- and no two of them have one text
-pub names_unlike : (names : List (Ident × ℕ)) → names_fault [] names ≡ None → AllPairs (λ one other. one.0.text ≡ other.0.text → ⊥) names
+pub names_unlike : (names : List PatternName) → names_fault [] names ≡ None → AllPairs (λ one other. one.name.text ≡ other.name.text → ⊥) names
 names_unlike names none = all_unlike text_of name_fault_of names_fault by_names (λ before x fine. (fine_name before x fine).1) names none
 
 -- what is known of a query whose columns and names have no fault
@@ -167,4 +167,5 @@ is_named query columns names = record {
   columns = at_most_64_columns query.columns columns;
   digits = λ i d inside is. (columns_have_digits query.columns columns i d inside is).1;
   names = at_most_32_names (pattern_names query) names;
+  ordered = (placed_ordered query.elements 0).0;
 }

@@ -3,11 +3,11 @@ use Rattle.std.proofs.Common.{◌≡◌, ℕ, zero, suc, ◌+◌, ◌<◌, List,
 use Rattle.std.specs.List.{range_with_len}
 use Rattle.std.proofs.lemmas.List.{drop_more, length-map, length-append}
 use Rattle.sp_plan.specs.declared.plan.Element.{Element}
-use Rattle.sp_plan.specs.Compiled.{numbers_in, numbers_of}
-use Rattle.sp_query.specs.declared.query.Ident.{Ident}
+use Rattle.sp_plan.specs.Compiled.{numbers_of}
+use Rattle.sp_plan.specs.Runs.{names_of}
 use Rattle.sp_query.specs.declared.query.QueryElement.{QueryElement}
 use Rattle.sp_query.specs.declared.query.QueryElement.TheVariants as e
-use Rattle.sp_compile.specs.Scopes.{names_in, placed_names}
+use Rattle.sp_compile.specs.Scopes.{names_in, placed_names, PatternName, in_element}
 use Rattle.sp_compile.specs.Stands.{width, plan_element, plan_elements}
 
 -- an element has as many names as it is wide
@@ -20,8 +20,8 @@ length_names (e.Set names) = refl
 length_more : (element : QueryElement) (elements : List QueryElement) (at : ℕ) → length (placed_names at (element ∷ elements)) ≡ width element + length (placed_names (suc at) elements)
 length_more element elements at =
     let names = names_in element in
-    length-append (map (λ name. (name, at)) names) (placed_names (suc at) elements)
-    ∙ ap (λ (n : ℕ). n + length (placed_names (suc at) elements)) (length-map names (λ (name : Ident). (name, at)) ∙ length_names element)
+    length-append (map (in_element at) names) (placed_names (suc at) elements)
+    ∙ ap (λ (n : ℕ). n + length (placed_names (suc at) elements)) (length-map names (in_element at) ∙ length_names element)
 
 -- as many names, wherever the first element stands
 length_anywhere : (elements : List QueryElement) (at other : ℕ) → length (placed_names at elements) ≡ length (placed_names other elements)
@@ -37,11 +37,11 @@ module _ (elements : List QueryElement) (i : ℕ) (element : QueryElement) (insi
   opened = drop_more elements i element inside ∙ ap (λ (y : QueryElement). y ∷ drop (i + 1) elements) (sym is)
 
   -- its names behind those so far
-  pub more_names : (so_far now all : List (Ident × ℕ)) → so_far ++ placed_names i (drop i elements) ≡ all → now ≡ so_far ++ map (λ name. (name, i)) (names_in element) → now ++ placed_names (i + 1) (drop (i + 1) elements) ≡ all
+  pub more_names : (so_far now all : List PatternName) → so_far ++ placed_names i (drop i elements) ≡ all → now ≡ so_far ++ map (in_element i) (names_in element) → now ++ placed_names (i + 1) (drop (i + 1) elements) ≡ all
   more_names so_far now all before grown =
-      let names = map (λ (name : Ident). (name, i)) (names_in element) in
+      let names = map (in_element i) (names_in element) in
       let rest = drop (i + 1) elements in
-      ap (λ (l : List (Ident × ℕ)). l ++ placed_names (i + 1) rest) grown
+      ap (λ (l : List PatternName). l ++ placed_names (i + 1) rest) grown
       ∙ append_assoc so_far names (placed_names (i + 1) rest)
       ∙ ap (λ (n : ℕ). so_far ++ (names ++ placed_names n rest)) (add-one i)
       ∙ ap (λ (l : List QueryElement). so_far ++ placed_names i l) (sym opened)
@@ -75,7 +75,7 @@ range_joined from (suc m) n =
     ∙ ap (λ (l : List ℕ). from ∷ l) (range_joined (from + 1) m n ∙ ap (λ (k : ℕ). range_with_len (from + 1) m ++ range_with_len k n) (omega arith))
 
 -- the numbers of an element's names
-pub numbers_here : (first : ℕ) (element : QueryElement) → numbers_in (plan_element first element) ≡ range_with_len first (width element)
+pub numbers_here : (first : ℕ) (element : QueryElement) → names_of (plan_element first element) ≡ range_with_len first (width element)
 numbers_here first (e.One name) = refl
 numbers_here first (e.Plus name span) = refl
 numbers_here first (e.Set names) = refl

@@ -10,12 +10,11 @@ use Rattle.sp_plan.specs.declared.plan.Expr as e
 use Rattle.sp_plan.specs.Comparable.{Readable, ColumnOfScale, ColumnOfTexts, IsText, HasScale}
 use Rattle.sp_plan.specs.Bounds.{bound}
 use Rattle.sp_plan.specs.Values.{BoundEvents, earlier_column, last_bound}
-use Rattle.sp_query.specs.declared.query.Ident.{Ident}
 use Rattle.sp_query.specs.declared.query.QueryColumn.{QueryColumn}
 use Rattle.sp_compile.specs.declared.fault.CompileFault.TheVariants as f
 use Rattle.sp_compile.specs.Answers.{HasSort, bound_names, datum, IsBounded}
 use Rattle.sp_compile.specs.Parts.{IsSound, Reads, column_datum, placed_datum, bound_datum, earlier_datum}
-use Rattle.sp_compile.specs.Scopes.{Scope, column_place, name_place}
+use Rattle.sp_compile.specs.Scopes.{Scope, column_place, name_place, PatternName}
 use Rattle.sp_compile.specs.Sorts.{sort_of, column_sort, name_there, column_there, earlier_there, earlier_in, earlier_sort}
 use Rattle.sp_compile.specs.Stands.{kind_of, plan_column}
 use Rattle.sp_compile.specs.Meaning.{Datum, datum_of}
@@ -42,9 +41,9 @@ module _ (scope : Scope) (r : Readable) (reads : Reads scope r) (place : ℕ) (c
 
 -- ---- a column of an event that is bound earlier
 
-module _ (scope : Scope) (name text : List ℕ) (here number place : ℕ) (found : Ident × ℕ) (column : QueryColumn) (is : scope.here ≡ Some here)
+module _ (scope : Scope) (name text : List ℕ) (here number place : ℕ) (found : PatternName) (column : QueryColumn) (is : scope.here ≡ Some here)
     (named : name_place scope.names name ≡ Some number) (placed : column_place scope.columns text ≡ Some place) (column_is : slice_get scope.columns place ≡ Some column) where
-  pub earlier_verdict : (span : Span) → slice_get scope.names number ≡ Some found → found.1 < here → earlier_sort scope span name text ≡ Ok (column_sort column)
+  pub earlier_verdict : (span : Span) → slice_get scope.names number ≡ Some found → found.element < here → earlier_sort scope span name text ≡ Ok (column_sort column)
   earlier_verdict span found_is less =
       let columns = column_there scope.columns (column_place scope.columns text) in
       ap (λ o. earlier_in o scope span name text) is
@@ -52,7 +51,7 @@ module _ (scope : Scope) (name text : List ℕ) (here number place : ℕ) (found
       ∙ ap (λ o. earlier_there span (Some here) o columns) found_is
       ∙ ap (λ o. earlier_there span (Some here) (Some found) (column_there scope.columns o)) placed
       ∙ ap (λ o. earlier_there span (Some here) (Some found) o) column_is
-      ∙ ap (λ (b : Bool). if b then Ok (column_sort column) else Err (f.LateReference span)) (is_before found.1 here less)
+      ∙ ap (λ (b : Bool). if b then Ok (column_sort column) else Err (f.LateReference span)) (is_before found.element here less)
 
   pub earlier_comes : (event : Event) (bound : BoundEvents) → earlier_datum scope name text event bound ≡ Some (datum (column_sort column) (earlier_column (last_bound number bound) place))
   earlier_comes event bound =

@@ -21,6 +21,10 @@ two_with [] x z y e d = absurd cc
 two_with (v ∷ []) x z y e d = absurd cc
 two_with (v ∷ w ∷ us) x z y e d = let same : y ≡ z = d ∙ ap (λ (k : List Tree). get_or k 1 y) e in e ∙ ap (λ (k : Tree). x ∷ k ∷ []) (sym same)
 
+-- two parts, by their places
+pub two_parts : (xs : List Tree) (x y : Tree) → 2 ≤ length xs → length xs < 3 → x ≡ get_or xs 0 x → y ≡ get_or xs 1 y → xs ≡ x ∷ y ∷ []
+two_parts xs x y l u e d = let w = two_of xs x l u e in two_with xs x w.0 y w.1 d
+
 -- ---- the same list, cut before its last item
 
 snoc_same : (xs ys : List (Bor Tree)) (x y : Bor Tree) → xs ++ x ∷ [] ≡ ys ++ y ∷ [] → (xs ≡ ys) × (x ≡ y)

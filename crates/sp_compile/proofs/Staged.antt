@@ -8,7 +8,6 @@ use Rattle.sp_plan.specs.declared.plan.Name.{Name}
 use Rattle.sp_plan.specs.declared.plan.Opening.{Opening}
 use Rattle.sp_plan.specs.declared.plan.Plan.{Plan}
 use Rattle.sp_plan.specs.Compiled.{AreApart, IsCompiled}
-use Rattle.sp_query.specs.declared.query.Ident.{Ident}
 use Rattle.sp_query.specs.declared.query.Query.{Query}
 use Rattle.sp_compile.specs.declared.fault.CompileFault.{CompileFault}
 use Rattle.sp_compile.specs.declared.fault.CompileFault.TheVariants as f
@@ -16,7 +15,7 @@ use Rattle.sp_compile.specs.Answers.{IsNamed}
 use Rattle.sp_compile.specs.Checks.{columns_fault, time_fault, names_fault, last_fault, elements_fault, Defines, length_fault, OpeningFault, consume_fault, Then, stops, goes, Finds, Checks}
 use Rattle.sp_compile.specs.Gathers.{Gathers}
 use Rattle.sp_compile.specs.Naming.{AreNames, Misdefines}
-use Rattle.sp_compile.specs.Scopes.{pattern_names}
+use Rattle.sp_compile.specs.Scopes.{pattern_names, PatternName}
 use Rattle.sp_compile.specs.Sorts.{first}
 use Rattle.sp_compile.specs.Stages.{NamesPass, Misopens, EndPasses, Misends, plan_of}
 use Rattle.sp_compile.specs.Stands.{plan_column, all_trees, StandForNames, Stands}
@@ -68,7 +67,7 @@ module _ (query : Query) (fault : CompileFault) where
 
 -- ---- behind these
 
-module _ (query : Query) (listed : List (Ident × ℕ)) (named : NamesPass query listed) where
+module _ (query : Query) (listed : List PatternName) (named : NamesPass query listed) where
   -- what the checks behind the elements find is found in all
   after_names : (fault : Option CompileFault) → Then (Defines query [] query.defines) (Then (Finds (length_fault query)) (Then (OpeningFault query query.opening) (Finds (consume_fault query query.consume)))) fault → Checks query fault
   after_names fault d = goes fault (sym named.columns) (goes fault (sym named.time) (goes fault (sym named.elements) d))
@@ -109,13 +108,13 @@ module _ (query : Query) where
 -- ---- the plan
 
 -- as many names of the plan as of the pattern
-as_many : (query : Query) (texts : List (List ℕ)) (names : List (Ident × ℕ)) (planned : List Name) → StandForNames query texts names planned → length planned ≡ length names
+as_many : (query : Query) (texts : List (List ℕ)) (names : List PatternName) (planned : List Name) → StandForNames query texts names planned → length planned ≡ length names
 as_many query texts [] [] s = refl
 as_many query texts [] (p ∷ planned) s = absurd s
 as_many query texts (name ∷ names) [] s = absurd s
 as_many query texts (name ∷ names) (p ∷ planned) s = ap (λ (n : ℕ). suc n) (as_many query texts names planned s.1)
 
-module _ (query : Query) (listed : List (Ident × ℕ)) (texts : List (List ℕ)) (planned : List Name) (opening : Opening) (named : NamesPass query listed) (names : AreNames query texts planned) (ends : EndPasses query texts opening) where
+module _ (query : Query) (listed : List PatternName) (texts : List (List ℕ)) (planned : List Name) (opening : Opening) (named : NamesPass query listed) (names : AreNames query texts planned) (ends : EndPasses query texts opening) where
   -- the plan stands for the query
   plan_stands : Gathers (all_trees query) [] texts → Stands (plan_of query planned opening texts) query
   plan_stands gathers = record {

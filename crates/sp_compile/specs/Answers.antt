@@ -9,13 +9,13 @@ use Rattle.sp_plan.specs.Bounds.{bound, StaysWithin, PredWithin}
 use Rattle.sp_plan.specs.Comparable.{Readable, IsText, HasScale, IsComparable}
 use Rattle.sp_plan.specs.Values.{BoundEvents, value, holds}
 use Rattle.sp_query.specs.declared.tree.Tree.{Tree}
-use Rattle.sp_query.specs.declared.query.Ident.{Ident}
+use Rattle.sp_query.specs.declared.query.QueryColumn.{QueryColumn}
 use Rattle.sp_query.specs.declared.query.Query.{Query}
 use Rattle.sp_compile.specs.declared.fault.CompileFault.{CompileFault}
 use Rattle.sp_compile.specs.declared.fault.CompileFault.TheVariants as f
 use Rattle.sp_compile.specs.declared.sort.Sort.{Sort}
 use Rattle.sp_compile.specs.declared.sort.Sort.TheVariants as s
-use Rattle.sp_compile.specs.Scopes.{Scope, pattern_names}
+use Rattle.sp_compile.specs.Scopes.{Scope, AreOrdered, pattern_names, PatternName}
 use Rattle.sp_compile.specs.Checks.{Types, Tests}
 use Rattle.sp_compile.specs.Meaning.{Datum, number, text, Means, Truth}
 use Rattle.sp_compile.specs.Stands.{plan_column}
@@ -24,11 +24,16 @@ use Rattle.sp_compile.specs.Stands.{plan_column}
 abbrev pub scope_in : Query → Option ℕ → Scope
 scope_in query here = record { columns = query.columns; names = pattern_names query; here = here }
 
--- What the checks of columns and names have shown before predicates are looked at.
-pub record IsNamed (query : Query) : Type 0 where
-  pub columns : length query.columns ≤ 64
-  pub digits : All (λ column. column.kind ≡ w.Dec → column.digits ≤ 6) query.columns
-  pub names : length (pattern_names query) ≤ 32
+-- What the checks of columns and names have shown before predicates are looked at: there are few of them, kinds have few decimals,
+-- and names stand in the order of their elements.
+pub record AreNamed (listed : List QueryColumn) (named : List PatternName) : Type 0 where
+  pub columns : length listed ≤ 64
+  pub digits : All (λ column. column.kind ≡ w.Dec → column.digits ≤ 6) listed
+  pub names : length named ≤ 32
+  pub ordered : AreOrdered named
+
+abbrev pub IsNamed : Query → Type 0
+IsNamed query = AreNamed query.columns (pattern_names query)
 
 -- what a value of a sort is
 abbrev pub datum : Sort → ℤ → Datum
@@ -41,9 +46,9 @@ IsBounded expr s.Text = Unit {0}
 IsBounded expr (s.Number scale most) = (bound expr ≡ most) × (scale ≤ 36)
 
 -- how many names are of elements before this one
-abbrev pub bound_names : List (Ident × ℕ) → Option ℕ → ℕ
+abbrev pub bound_names : List PatternName → Option ℕ → ℕ
 bound_names names None = 0
-bound_names names (Some here) = count_by (λ name. nat_lt name.1 here) names
+bound_names names (Some here) = count_by (λ name. nat_lt name.element here) names
 
 -- what a predicate of this scope may read of the plan
 abbrev pub readable_in : Scope → List (List ℕ) → Readable

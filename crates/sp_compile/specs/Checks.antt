@@ -22,7 +22,7 @@ use Rattle.sp_query.specs.declared.query.QueryConsume.TheVariants as u
 use Rattle.sp_compile.specs.declared.fault.CompileFault.{CompileFault}
 use Rattle.sp_compile.specs.declared.fault.CompileFault.TheVariants as f
 use Rattle.sp_compile.specs.declared.sort.Sort.{Sort}
-use Rattle.sp_compile.specs.Scopes.{Scope, pattern_names, column_place, name_place}
+use Rattle.sp_compile.specs.Scopes.{Scope, pattern_names, column_place, name_place, PatternName}
 use Rattle.sp_compile.specs.Sorts.{Verdict, first, column_there, name_there, own_sort, earlier_sort, constant_sort, is_arithmetic, binary_sort, minus_sort, test_fault}
 
 -- ---- expressions and predicates: parts before the whole, left before right
@@ -94,9 +94,9 @@ name_fault before name =
     else None
 
 -- names of the pattern from the left, behind these
-abbrev pub names_fault : List (List ℕ) → List (Ident × ℕ) → Option CompileFault
+abbrev pub names_fault : List (List ℕ) → List PatternName → Option CompileFault
 names_fault before [] = None
-names_fault before (name ∷ names) = first (name_fault before name.0) (names_fault (before ++ name.0.text ∷ []) names)
+names_fault before (name ∷ names) = first (name_fault before name.name) (names_fault (before ++ name.name.text ∷ []) names)
 
 abbrev pub last_fault : Option QueryElement → Option CompileFault
 last_fault (Some (e.Plus name span)) = Some (f.PlusLast span)
@@ -107,16 +107,16 @@ abbrev pub elements_fault : Query → Option CompileFault
 elements_fault query = first (names_fault [] (pattern_names query)) (last_fault (last_or None query.elements))
 
 -- the scope of the predicate of a name that is there
-abbrev pub scope_of : Query → Option (Ident × ℕ) → Scope
+abbrev pub scope_of : Query → Option PatternName → Scope
 scope_of query None = record { columns = query.columns; names = pattern_names query; here = None }
-scope_of query (Some name) = record { columns = query.columns; names = pattern_names query; here = Some name.1 }
+scope_of query (Some name) = record { columns = query.columns; names = pattern_names query; here = Some name.element }
 
-abbrev pub defined_fault : List (List ℕ) → Ident → Option (Ident × ℕ) → Option CompileFault
+abbrev pub defined_fault : List (List ℕ) → Ident → Option PatternName → Option CompileFault
 defined_fault before name None = Some (f.Unknown name.span)
 defined_fault before name (Some there) = if is_among before name.text then Some (f.Twice name.span) else None
 
 -- the name of the pattern that a definition is of
-abbrev pub defined : Query → Ident → Option (Ident × ℕ)
+abbrev pub defined : Query → Ident → Option PatternName
 defined query name = name_there (pattern_names query) (name_place (pattern_names query) name.text)
 
 -- Definitions from the left, behind those of these names: first the name, then its predicate.

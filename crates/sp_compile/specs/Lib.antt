@@ -11,3 +11,4 @@ pub mod Parts
 pub mod Naming
 pub mod Stages
 pub mod Spines
+pub mod Laws

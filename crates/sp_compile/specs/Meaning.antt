@@ -1,5 +1,5 @@
 -- What the expressions and predicates of a query's text mean.
-use Rattle.std.specs.Prelude.{◌≡◌, ℕ, ℤ, pos, ◌+◌, ◌-◌, ◌^◌, max, ◌+ℤ◌, ◌-ℤ◌, ◌*ℤ◌, neg_ℤ, Bool, ◌&&◌, ◌||◌, not, List, [], ◌∷◌, Option, Some, None}
+use Rattle.std.specs.Prelude.{◌≡◌, ℕ, ℤ, pos, ◌+◌, ◌-◌, ◌^◌, max, ◌+ℤ◌, ◌-ℤ◌, ◌*ℤ◌, neg_ℤ, Bool, ◌&&◌, ◌||◌, not, List, [], ◌∷◌, Option, Some, None, if◌then◌else◌}
 use Rattle.sp_lex.specs.declared.token.Word.{Word}
 use Rattle.sp_lex.specs.declared.token.Word.TheVariants as w
 use Rattle.sp_plan.specs.declared.event.Event.{Event}
@@ -11,7 +11,7 @@ use Rattle.sp_query.specs.declared.tree.Node.{Node}
 use Rattle.sp_query.specs.declared.tree.Node.TheVariants as n
 use Rattle.sp_query.specs.declared.query.QueryColumn.{QueryColumn}
 use Rattle.sp_compile.specs.Scopes.{Scope, column_place, name_place}
-use Rattle.sp_compile.specs.Sorts.{column_there}
+use Rattle.sp_compile.specs.Sorts.{column_there, is_equality}
 
 -- a number as units and a scale, or a text by its number among the texts
 pub data Datum : Type 0 where
@@ -45,10 +45,10 @@ abbrev pub negative : Datum → Option Datum
 negative (number x k) = Some (number (neg_ℤ x) k)
 negative (text x) = None
 
--- numbers are compared at the greater scale, texts by their numbers
+-- Numbers are compared at the greater scale, texts by their numbers. Texts are equal or not, and in no order.
 abbrev pub compared : Compare → Datum → Datum → Option Bool
 compared by (number x k) (number y m) = Some (compares by (raised_units x k (max k m)) (raised_units y m (max k m)))
-compared by (text x) (text y) = Some (compares by x y)
+compared by (text x) (text y) = if is_equality by then Some (compares by x y) else None
 compared by _ _ = None
 
 -- What an expression comes to, over the event at hand and the events bound before it.

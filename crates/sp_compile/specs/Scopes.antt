@@ -1,6 +1,6 @@
 -- What the names of a query are: its columns, and the names of its pattern with their elements.
-use Rattle.std.specs.Prelude.{ℕ, suc, List, [], ◌∷◌, ◌++◌, map, Option}
-use Rattle.std.specs.List.{position}
+use Rattle.std.specs.Prelude.{ℕ, suc, ◌≤◌, List, [], ◌∷◌, ◌++◌, map, Option}
+use Rattle.std.specs.List.{All, position}
 use Rattle.std.specs.Str.{bytes_eq}
 use Rattle.sp_query.specs.declared.query.Ident.{Ident}
 use Rattle.sp_query.specs.declared.query.Query.{Query}
@@ -14,20 +14,34 @@ names_in (e.One name) = name ∷ []
 names_in (e.Plus name span) = name ∷ []
 names_in (e.Set names) = names
 
+-- A name of the pattern, and the number of its element from 0.
+pub record PatternName : Type 0 where
+  pub name : Ident
+  pub element : ℕ
+
+-- a name of the element with this number
+abbrev pub in_element : ℕ → Ident → PatternName
+in_element at name = record { name = name; element = at }
+
+-- no name is of an earlier element than the names before it
+abbrev pub AreOrdered : List PatternName → Type 0
+AreOrdered [] = Unit {0}
+AreOrdered (name ∷ names) = All (λ other. name.element ≤ other.element) names × AreOrdered names
+
 -- the names of these elements, each with the number of its element, the first of which has this one
-abbrev pub placed_names : ℕ → List QueryElement → List (Ident × ℕ)
+abbrev pub placed_names : ℕ → List QueryElement → List PatternName
 placed_names at [] = []
-placed_names at (element ∷ elements) = map (λ name. (name, at)) (names_in element) ++ placed_names (suc at) elements
+placed_names at (element ∷ elements) = map (in_element at) (names_in element) ++ placed_names (suc at) elements
 
 -- the names of the pattern, each with the number of its element from 0
-abbrev pub pattern_names : Query → List (Ident × ℕ)
+abbrev pub pattern_names : Query → List PatternName
 pattern_names query = placed_names 0 query.elements
 
 -- What a predicate may name: columns, and names of the pattern with their elements. Those of the elements before `here`
 -- are bound earlier; where there is no such element, none is.
 pub record Scope : Type 0 where
   pub columns : List QueryColumn
-  pub names : List (Ident × ℕ)
+  pub names : List PatternName
   pub here : Option ℕ
 
 -- the place of the first column of this name
@@ -35,5 +49,5 @@ abbrev pub column_place : List QueryColumn → List ℕ → Option ℕ
 column_place columns text = position (λ column. bytes_eq column.name.text text) columns
 
 -- the place of the first name of the pattern with this text
-abbrev pub name_place : List (Ident × ℕ) → List ℕ → Option ℕ
-name_place names text = position (λ name. bytes_eq name.0.text text) names
+abbrev pub name_place : List PatternName → List ℕ → Option ℕ
+name_place names text = position (λ name. bytes_eq name.name.text text) names

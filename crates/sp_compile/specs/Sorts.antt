@@ -8,13 +8,12 @@ use Rattle.sp_plan.specs.declared.plan.Compare.TheVariants as c
 use Rattle.sp_plan.specs.Bounds.{greatest}
 use Rattle.sp_query.specs.declared.tree.Node.{Node}
 use Rattle.sp_query.specs.declared.tree.Node.TheVariants as n
-use Rattle.sp_query.specs.declared.query.Ident.{Ident}
 use Rattle.sp_query.specs.declared.query.QueryColumn.{QueryColumn}
 use Rattle.sp_compile.specs.declared.fault.CompileFault.{CompileFault}
 use Rattle.sp_compile.specs.declared.fault.CompileFault.TheVariants as f
 use Rattle.sp_compile.specs.declared.sort.Sort.{Sort}
 use Rattle.sp_compile.specs.declared.sort.Sort.TheVariants as s
-use Rattle.sp_compile.specs.Scopes.{Scope, column_place, name_place}
+use Rattle.sp_compile.specs.Scopes.{Scope, column_place, name_place, PatternName}
 
 -- the sort of an expression, or the first fault in it
 abbrev pub Verdict : Type 0
@@ -49,17 +48,17 @@ abbrev pub own_sort : Scope → Span → List ℕ → Verdict
 own_sort scope span text = sort_there span (column_there scope.columns (column_place scope.columns text))
 
 -- whether the element of a name that is there is bound earlier
-abbrev pub is_earlier : Option ℕ → Option (Ident × ℕ) → Bool
+abbrev pub is_earlier : Option ℕ → Option PatternName → Bool
 is_earlier None name = false
 is_earlier (Some here) None = false
-is_earlier (Some here) (Some name) = nat_lt name.1 here
+is_earlier (Some here) (Some name) = nat_lt name.element here
 
-abbrev pub name_there : List (Ident × ℕ) → Option ℕ → Option (Ident × ℕ)
+abbrev pub name_there : List PatternName → Option ℕ → Option PatternName
 name_there names None = None
 name_there names (Some place) = slice_get names place
 
 -- a name that is there, of an earlier element, with a column that is there
-abbrev pub earlier_there : Span → Option ℕ → Option (Ident × ℕ) → Option QueryColumn → Verdict
+abbrev pub earlier_there : Span → Option ℕ → Option PatternName → Option QueryColumn → Verdict
 earlier_there span here None column = Err (f.Unknown span)
 earlier_there span here (Some name) None = Err (f.Unknown span)
 earlier_there span here (Some name) (Some column) = if is_earlier here (Some name) then Ok (column_sort column) else Err (f.LateReference span)

@@ -7,14 +7,13 @@ use Rattle.sp_plan.specs.declared.plan.Plan.{Plan}
 use Rattle.sp_plan.specs.declared.plan.Schema.{Schema}
 use Rattle.sp_plan.specs.Compiled.{OpeningWithin, OpeningReads}
 use Rattle.sp_plan.specs.Windows.{IsOpening}
-use Rattle.sp_query.specs.declared.query.Ident.{Ident}
 use Rattle.sp_query.specs.declared.query.Query.{Query}
 use Rattle.sp_query.specs.declared.query.QueryElement.{QueryElement}
 use Rattle.sp_query.specs.declared.query.QueryElement.TheVariants as e
 use Rattle.sp_compile.specs.Answers.{scope_in, readable_in}
 use Rattle.sp_compile.specs.declared.fault.CompileFault.{CompileFault}
 use Rattle.sp_compile.specs.declared.fault.CompileFault.TheVariants as f
-use Rattle.sp_compile.specs.Scopes.{pattern_names}
+use Rattle.sp_compile.specs.Scopes.{pattern_names, PatternName}
 use Rattle.sp_compile.specs.Checks.{columns_fault, time_fault, elements_fault, length_fault, consume_fault, OpeningFault, Then, Finds}
 use Rattle.sp_compile.specs.Stands.{plan_column, time_place, plan_elements, plan_select, plan_length, StandsForOpening}
 
@@ -25,7 +24,7 @@ is_wide (e.Plus name span) = true
 is_wide (e.Set names) = nat_le 2 (length names)
 
 -- The columns, the time and the elements have no fault, and these are the names of the pattern; it is one that a text has.
-pub record NamesPass (query : Query) (listed : List (Ident × ℕ)) : Type 0 where
+pub record NamesPass (query : Query) (listed : List PatternName) : Type 0 where
   pub columns : columns_fault [] query.columns ≡ None
   pub time : time_fault query.columns query.time ≡ None
   pub elements : elements_fault query ≡ None

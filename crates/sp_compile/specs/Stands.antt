@@ -33,7 +33,7 @@ use Rattle.sp_query.specs.declared.query.QueryOpening.{QueryOpening}
 use Rattle.sp_query.specs.declared.query.QueryOpening.TheVariants as o
 use Rattle.sp_query.specs.declared.query.QueryConsume.{QueryConsume}
 use Rattle.sp_query.specs.declared.query.QueryConsume.TheVariants as u
-use Rattle.sp_compile.specs.Scopes.{Scope, pattern_names, column_place}
+use Rattle.sp_compile.specs.Scopes.{Scope, pattern_names, column_place, PatternName}
 use Rattle.sp_compile.specs.Checks.{scope_of}
 use Rattle.sp_compile.specs.Meaning.{Truth}
 
@@ -96,7 +96,7 @@ abbrev pub HoldsAs : Scope → List (List ℕ) → Tree → Pred → Type 0
 HoldsAs scope texts tree pred = (event : Event) (bound : BoundEvents) → Truth scope texts event bound tree (holds pred event bound)
 
 -- The predicate of a name stands for its definition; without one it holds always.
-abbrev pub StandsForDefinition : Query → List (List ℕ) → Ident × ℕ → Option (Ident × Tree) → Pred → Type 0
+abbrev pub StandsForDefinition : Query → List (List ℕ) → PatternName → Option (Ident × Tree) → Pred → Type 0
 StandsForDefinition query texts name None pred = pred ≡ Always
 StandsForDefinition query texts name (Some define) pred = HoldsAs (scope_of query (Some name)) texts define.1 pred
 
@@ -110,13 +110,13 @@ is_consumed u.None text = false
 is_consumed (u.Names names) text = list_any (λ name. bytes_eq name.text text) names
 
 -- A name of the plan stands for a name of the pattern.
-pub record StandsForName (query : Query) (texts : List (List ℕ)) (name : Ident × ℕ) (planned : Name) : Type 0 where
-  pub text : planned.text ≡ name.0.text
-  pub pred : StandsForDefinition query texts name (definition_of query name.0.text) planned.pred
-  pub consumed : planned.consumed ≡ is_consumed query.consume name.0.text
+pub record StandsForName (query : Query) (texts : List (List ℕ)) (name : PatternName) (planned : Name) : Type 0 where
+  pub text : planned.text ≡ name.name.text
+  pub pred : StandsForDefinition query texts name (definition_of query name.name.text) planned.pred
+  pub consumed : planned.consumed ≡ is_consumed query.consume name.name.text
 
 -- Names stand for names, one by one.
-abbrev pub StandForNames : Query → List (List ℕ) → List (Ident × ℕ) → List Name → Type 0
+abbrev pub StandForNames : Query → List (List ℕ) → List PatternName → List Name → Type 0
 StandForNames query texts [] [] = Unit {0}
 StandForNames query texts (name ∷ names) (planned ∷ plans) = StandsForName query texts name planned × StandForNames query texts names plans
 StandForNames query texts _ _ = ⊥

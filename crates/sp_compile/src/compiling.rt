@@ -113,7 +113,9 @@ fn planned(alloc: Global, query: &Query, names: &[Named]) -> Result<Plan, Compil
 }
 
 /// The plan of a query that a text has, or the query's first fault, in the order of the checks. Want of
-/// memory may come at any point, and leaves nothing behind.
+/// memory may come at any point, and leaves nothing behind. It is also the answer for what no text has,
+/// where no fault stands before it: an operator with another count of parts, a number past 10^15 or of
+/// more than six decimals, a pattern without a name, a SET of one name.
 pub fn compile(alloc: Global, query: &Query) -> Result<Plan, CompileFault>
     ensures plan { IfOk result (λ plan. IsPlanOf plan query.now) }
     ensures refused { IfErr result (λ fault. Refuses query.now fault) }

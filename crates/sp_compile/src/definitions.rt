@@ -75,10 +75,10 @@ fn defined_pred(
 ) -> Result<Pred, CompileFault>
     requires named { IsNamed query.now }
     requires names { names.now ≡ scopes.pattern_names query.now }
-    ensures { PredAnswer (scope_in query.now (Some named.now.1)) texts.now tree.now result }
+    ensures { PredAnswer (scope_in query.now (Some named.now.element)) texts.now tree.now result }
 {
     let scope = Scope {
-        query,
+        columns: query.columns.as_slice(),
         names,
         here: Some(named.element),
     };

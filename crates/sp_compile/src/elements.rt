@@ -24,12 +24,11 @@ pub(crate) struct Named<'a> {
 }
 
 impl<'a> Model for Named<'a> {
-    ghost use Rattle.std.specs.Prelude.{ℕ};
-    ghost use Rattle.sp_query.specs.declared.query.Ident.{Ident};
+    ghost use Rattle.sp_compile.specs.Scopes.{PatternName};
 
-    ghost Value = { Ident × ℕ };
+    ghost Value = { PatternName };
 
-    ghost view = { λ named. (named.name.now, named.element) };
+    ghost view = { λ named. record { name = named.name.now; element = named.element } };
 }
 
 /// The names of an element.
@@ -63,7 +62,7 @@ pub(crate) fn pattern_names<'a>(
 
 // What is wrong with a name behind these.
 fn name_fault(before: &[Named], name: &Ident) -> Option<CompileFault>
-    ensures { result ≡ checks.name_fault (map (λ name. name.0.text) before.now) name.now }
+    ensures { result ≡ checks.name_fault (map (λ name. name.name.text) before.now) name.now }
 {
     if before.len() >= MOST_NAMES {
         Some(CompileFault::TooMany(name.span))

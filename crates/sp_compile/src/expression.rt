@@ -2,8 +2,7 @@
 ghost use Rattle.std.specs.Prelude.{◌≡◌, true, IfOk};
 ghost use Rattle.sp_query.specs.declared.tree.Tree.{out-Tree};
 ghost use Rattle.sp_compile.specs.Sorts.{is_arithmetic};
-ghost use Rattle.sp_compile.specs.Answers.{scope_in, IsNamed, ExprAnswer};
-ghost use Rattle.sp_compile.specs.Scopes.{pattern_names};
+ghost use Rattle.sp_compile.specs.Answers.{AreNamed, ExprAnswer};
 ghost use Rattle.sp_compile.specs.Parts.{IsSound, BothAnswer, NegativeAnswer, OperationAnswer};
 
 use crate::arithmetic::{arithmetic, minus};
@@ -34,9 +33,8 @@ pub(crate) fn both<T: Drop>(
 
 // A number, a text or a column.
 fn operand(scope: &Scope, texts: &[Text], tree: &Tree) -> Result<(Expr, Sort), CompileFault>
-    requires named { IsNamed scope.now.query.now }
-    requires names { scope.now.names.now ≡ pattern_names scope.now.query.now }
-    ensures { ExprAnswer (scope_in scope.now.query.now scope.now.here) texts.now tree.now result }
+    requires { AreNamed scope.now.columns scope.now.names }
+    ensures { ExprAnswer scope.now texts.now tree.now result }
 {
     match &tree.node {
         Node::Whole(units) => number(*units, 0),
@@ -85,9 +83,8 @@ pub(crate) fn expression(
     texts: &[Text],
     tree: &Tree,
 ) -> Result<(Expr, Sort), CompileFault>
-    requires named { IsNamed scope.now.query.now }
-    requires names { scope.now.names.now ≡ pattern_names scope.now.query.now }
-    ensures { ExprAnswer (scope_in scope.now.query.now scope.now.here) texts.now tree.now result }
+    requires { AreNamed scope.now.columns scope.now.names }
+    ensures { ExprAnswer scope.now texts.now tree.now result }
 {
     let (mut nodes, first) = spine(alloc, tree)?;
     let mut made = match (&first.node, first.parts.as_slice()) {

@@ -1,8 +1,7 @@
 // Numbers, texts and columns of expressions, each with what it is.
 ghost use Rattle.std.specs.Prelude.{◌≡◌, ◌≤◌};
 ghost use Rattle.sp_lex.specs.declared.token.Word.TheVariants as w;
-ghost use Rattle.sp_compile.specs.Answers.{scope_in, IsNamed};
-ghost use Rattle.sp_compile.specs.Scopes.{pattern_names};
+ghost use Rattle.sp_compile.specs.Answers.{AreNamed};
 ghost use Rattle.sp_compile.specs.Sorts as sorts;
 ghost use Rattle.sp_compile.specs.Parts.{MadeAnswer, NumberAnswer, TextAnswer, Reads, own_datum, earlier_datum};
 
@@ -63,11 +62,11 @@ pub(crate) fn literal(texts: &[Text], text: &Text) -> Result<(Expr, Sort), Compi
 
 // A column of the event at hand.
 pub(crate) fn own(scope: &Scope, span: Span, text: &Text) -> Result<(Expr, Sort), CompileFault>
-    requires { IsNamed scope.now.query.now }
-    ensures { let names = scope_in scope.now.query.now scope.now.here in
-        MadeAnswer (sorts.own_sort names span text.now) (own_datum names text.now) (Reads names) result }
+    requires { AreNamed scope.now.columns scope.now.names }
+    ensures { MadeAnswer (sorts.own_sort scope.now span text.now) (own_datum scope.now text.now)
+        (Reads scope.now) result }
 {
-    let columns = scope.query.columns.as_slice();
+    let columns = scope.columns;
     match column_place(columns, text) {
         Some(place) => Ok((Expr::Column(place as u16), column_sort(&columns[place]))),
         None => Err(CompileFault::Unknown(span)),
@@ -81,16 +80,14 @@ pub(crate) fn earlier(
     name: &Text,
     text: &Text,
 ) -> Result<(Expr, Sort), CompileFault>
-    requires named { IsNamed scope.now.query.now }
-    requires names { scope.now.names.now ≡ pattern_names scope.now.query.now }
-    ensures { let names = scope_in scope.now.query.now scope.now.here in
-        MadeAnswer (sorts.earlier_sort names span name.now text.now)
-        (earlier_datum names name.now text.now) (Reads names) result }
+    requires { AreNamed scope.now.columns scope.now.names }
+    ensures { MadeAnswer (sorts.earlier_sort scope.now span name.now text.now)
+        (earlier_datum scope.now name.now text.now) (Reads scope.now) result }
 {
     let Some(here) = scope.here else {
         return Err(CompileFault::LateReference(span));
     };
-    let columns = scope.query.columns.as_slice();
+    let columns = scope.columns;
     let (Some(number), Some(place)) = (name_place(scope.names, name), column_place(columns, text))
     else {
         return Err(CompileFault::Unknown(span));

@@ -25,5 +25,5 @@ mod window;
 
 pub use compiling::compile;
 pub use fault::CompileFault;
-pub use law::one_truth;
+pub use law::{one_truth, one_verdict};
 pub use sort::Sort;

@@ -40,7 +40,7 @@ fn opening_pred(
     ensures { PredAnswer (scope_in query.now None) texts.now tree.now result }
 {
     let scope = Scope {
-        query,
+        columns: query.columns.as_slice(),
         names,
         here: None,
     };

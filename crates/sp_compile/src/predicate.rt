@@ -1,12 +1,11 @@
 // From predicates of a query to those of its plan.
-ghost use Rattle.sp_compile.specs.Answers.{scope_in, IsNamed, PredAnswer};
+ghost use Rattle.sp_compile.specs.Answers.{AreNamed, PredAnswer};
 ghost use Rattle.sp_query.specs.declared.tree.Tree.{out-Tree};
 ghost use Rattle.sp_query.specs.declared.tree.Node.TheVariants as n;
 ghost use Rattle.std.specs.Prelude.{◌≡◌, ◌∷◌, [], true, Some, None, IfOk};
 ghost use Rattle.sp_plan.specs.Bounds.{PredWithin};
 ghost use Rattle.sp_plan.specs.Values.{holds};
 ghost use Rattle.sp_compile.specs.Checks.{is_junction};
-ghost use Rattle.sp_compile.specs.Scopes.{pattern_names};
 ghost use Rattle.sp_compile.specs.Parts.{BothComparable, MadePredAnswer, JointAnswer, NegationAnswer, joined};
 
 use crate::CompileFault;
@@ -29,11 +28,10 @@ fn test(
     left: &Tree,
     right: &Tree,
 ) -> Result<Pred, CompileFault>
-    requires named { IsNamed scope.now.query.now }
-    requires names { scope.now.names.now ≡ pattern_names scope.now.query.now }
+    requires named { AreNamed scope.now.columns scope.now.names }
     requires node { (out-Tree tree.now).node ≡ n.Test by }
     requires parts { (out-Tree tree.now).parts ≡ left.now ∷ right.now ∷ [] }
-    ensures { PredAnswer (scope_in scope.now.query.now scope.now.here) texts.now tree.now result }
+    ensures { PredAnswer scope.now texts.now tree.now result }
 {
     let spans = Spans {
         whole: tree.span,
@@ -94,9 +92,8 @@ pub(crate) fn predicate(
     texts: &[Text],
     tree: &Tree,
 ) -> Result<Pred, CompileFault>
-    requires named { IsNamed scope.now.query.now }
-    requires names { scope.now.names.now ≡ pattern_names scope.now.query.now }
-    ensures { PredAnswer (scope_in scope.now.query.now scope.now.here) texts.now tree.now result }
+    requires { AreNamed scope.now.columns scope.now.names }
+    ensures { PredAnswer scope.now texts.now tree.now result }
 {
     let (mut nodes, first) = spine(alloc, tree)?;
     let mut made = match (&first.node, first.parts.as_slice()) {

@@ -1,14 +1,23 @@
 // What a predicate may name.
-ghost use Rattle.std.specs.Prelude.{◌≡◌};
-
 use crate::elements::Named;
-use sp_query::Query;
+use sp_query::QueryColumn;
+use std::marker::Model;
 
-/// A query with the names of its pattern, and the number of the element whose predicate it is: the names of
-/// the elements before it are bound earlier. In the predicate of WHEN there is no such element.
-#[derive(Clone, Copy, Drop)]
+/// The columns and the names that a predicate may name, and the number of the element whose predicate it
+/// is: the names of the elements before it are bound earlier. In the predicate of WHEN there is no such
+/// element.
+#[derive(Drop)]
 pub(crate) struct Scope<'a> {
-    pub(crate) query: &'a Query,
+    pub(crate) columns: &'a [QueryColumn],
     pub(crate) names: &'a [Named<'a>],
     pub(crate) here: Option<usize>,
+}
+
+impl<'a> Model for Scope<'a> {
+    ghost use Rattle.sp_compile.specs.Scopes as scopes;
+
+    ghost Value = { scopes.Scope };
+
+    ghost view = { λ scope.
+        record { columns = scope.columns.now; names = scope.names.now; here = scope.here } };
 }

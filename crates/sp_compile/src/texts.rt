@@ -6,9 +6,10 @@ ghost use Rattle.sp_plan.specs.Texts.{with_text};
 ghost use Rattle.sp_compile.specs.Gathers.{Gathers};
 ghost use Rattle.sp_compile.specs.Stands.{all_trees, opening_trees};
 
+use crate::spine::spine;
 use sp_plan::{Memory, Text};
 use sp_query::{Node, Query, QueryOpening, Tree};
-use std::alloc::Global;
+use std::alloc::{AllocError, Global};
 
 // Whether a text is among those so far.
 fn is_known(texts: &[Text], text: &Text) -> bool
@@ -27,15 +28,34 @@ fn add_text(alloc: Global, texts: &mut Vec<Text>, text: &Text) -> Result<(), Mem
     Ok(())
 }
 
-// Puts the new texts of a tree behind those so far, from the left.
+// Puts the new texts of a tree behind those so far, from the left. The left operands are gone through
+// in a loop, since there may be thousands of them, one below the other.
 fn add_tree(alloc: Global, texts: &mut Vec<Text>, tree: &Tree) -> Result<(), Memory>
     ensures { OnOk result (Gathers (tree.now ∷ []) texts.old.items texts.new.items) }
 {
-    if let Node::Literal(text) = &tree.node {
+    let (mut nodes, first) = spine(alloc, tree)?;
+    if let Node::Literal(text) = &first.node {
         add_text(alloc, texts, text)?;
     }
-    for part in tree.parts.as_slice() {
-        add_tree(alloc, texts, part)?;
+    match first.parts.as_slice() {
+        [] => {}
+        [part] => add_tree(alloc, texts, part)?,
+        [left, right] => {
+            add_tree(alloc, texts, left)?;
+            add_tree(alloc, texts, right)?;
+        }
+        // No text has such a tree.
+        _ => return Err(AllocError),
+    }
+    while let Some(node) = nodes.pop() {
+        let (Node::Add | Node::Sub | Node::Mul | Node::And | Node::Or, [_, right]) = (
+            &node.node,
+            node.parts.as_slice(),
+        ) else {
+            // No spine has such a node.
+            return Err(AllocError);
+        };
+        add_tree(alloc, texts, right)?;
     }
     Ok(())
 }

@@ -4,3 +4,4 @@ pub mod Longest
 pub mod Front
 pub mod Lexing
 pub mod Faults
+pub mod Alone

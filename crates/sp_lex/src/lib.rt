@@ -3,6 +3,7 @@
 
 mod bytes;
 mod fault;
+mod law;
 mod lexer;
 mod literal;
 mod mark;
@@ -10,5 +11,6 @@ mod number;
 mod token;
 mod word;
 
+pub use law::one_fault;
 pub use lexer::lex;
 pub use token::{Kernel, LexFault, Span, Token, Word};

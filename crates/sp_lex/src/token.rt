@@ -110,18 +110,19 @@ pub struct Token {
     pub span: Span,
 }
 
-/// Why a text has no tokens, with the place of the first fault.
+/// Why a text has no tokens, with the place of the first fault. It is told by its code and its place;
+/// its message names neither.
 #[derive(Debug, Drop, thiserror::Error)]
 pub enum LexFault {
     /// The first byte of a character that begins no token.
-    #[error("a character that begins no token, at byte {at}")]
+    #[error("a character that begins no token")]
     BadCharacter { at: u32 },
     /// The quote that begins a literal without an end.
-    #[error("a text without its closing quote, from byte {at}")]
+    #[error("a text without its closing quote")]
     OpenText { at: u32 },
     /// The first byte of a number with more than six decimals, or that passes 10^15 when it is read
     /// without its point.
-    #[error("a number that is too long, at byte {at}")]
+    #[error("a number that is too long")]
     LongNumber { at: u32 },
     #[error("out of memory")]
     Memory,

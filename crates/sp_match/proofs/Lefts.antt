@@ -5,8 +5,7 @@ use Rattle.std.proofs.lemmas.List.{length_push, append-nil}
 use Rattle.std.proofs.lemmas.List.Elements.{filter-append}
 use Rattle.sp_plan.specs.declared.plan.Plan.{Plan}
 use Rattle.sp_plan.specs.declared.plan.Element.{Element}
-use Rattle.sp_plan.specs.declared.plan.Element.TheVariants.{One, Plus, Set}
-use Rattle.sp_plan.specs.Compiled.{IsCompiled, numbers_in, numbers_of}
+use Rattle.sp_plan.specs.Compiled.{IsCompiled, numbers_of}
 use Rattle.sp_plan.specs.Runs.{Run, is_bound, names_of, unbound}
 use Rattle.sp_plan.specs.Moves.{left}
 use Rattle.sp_match.proofs.Finds.{range_push}
@@ -15,15 +14,10 @@ use Rattle.sp_match.proofs.Finds.{range_push}
 abbrev pub lacks : Run → ℕ → Bool
 lacks r name = not (is_bound r name)
 
-same_names : (element : Element) → names_of element ≡ numbers_in element
-same_names (One name) = refl
-same_names (Plus name) = refl
-same_names (Set first count) = refl
-
 all_lacked : (r : Run) (elements : List Element) → flat_map (λ element. unbound r (Some element)) elements ≡ filter (lacks r) (numbers_of elements)
 all_lacked r [] = refl
 all_lacked r (element ∷ elements) =
-    (λ i. filter (lacks r) (same_names element i) ++ all_lacked r elements i) ∙ sym (filter-append (lacks r) (numbers_in element) (numbers_of elements))
+    ap (λ ns. filter (lacks r) (names_of element) ++ ns) (all_lacked r elements) ∙ sym (filter-append (lacks r) (names_of element) (numbers_of elements))
 
 pub left_is : (q : Plan) (r : Run) → IsCompiled q → left q r ≡ length (filter (lacks r) (range_with_len 0 (length q.names)))
 left_is q r compiled = ap length (all_lacked r q.elements) ∙ ap (λ (ns : List ℕ). length (filter (lacks r) ns)) compiled.elements

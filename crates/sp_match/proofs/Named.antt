@@ -8,7 +8,8 @@ use Rattle.std.proofs.lemmas.List.Folds.{list_all-append}
 use Rattle.sp_plan.specs.declared.plan.Plan.{Plan}
 use Rattle.sp_plan.specs.declared.plan.Element.{Element}
 use Rattle.sp_plan.specs.declared.plan.Element.TheVariants.{One, Plus, Set}
-use Rattle.sp_plan.specs.Compiled.{IsCompiled, numbers_in, numbers_of}
+use Rattle.sp_plan.specs.Compiled.{IsCompiled, numbers_of}
+use Rattle.sp_plan.specs.Runs.{names_of}
 use Rattle.sp_match.specs.Good.{IsNamed}
 
 abbrev few : List ℕ → Bool
@@ -29,7 +30,7 @@ last_few : (a m : ℕ) → few (range_with_len a (suc m)) ≡ true → a + suc m
 last_few a zero all = let first : nat_lt a 32 ≡ true = (both_true _ _ all).0 in grind (arith, nat_tests)
 last_few a (suc m) all = let rest : a + 1 + suc m ≤ 32 = last_few (a + 1) m (both_true (nat_lt a 32) (few (range_with_len (a + 1) (suc m))) all).1 in omega (arith, rest)
 
-named_one : (element : Element) → few (numbers_in element) ≡ true → IsNamed element
+named_one : (element : Element) → few (names_of element) ≡ true → IsNamed element
 named_one (One name) all = let first : nat_lt name 32 ≡ true = (both_true _ _ all).0 in grind (arith, nat_tests)
 named_one (Plus name) all = let first : nat_lt name 32 ≡ true = (both_true _ _ all).0 in grind (arith, nat_tests)
 named_one (Set first zero) all = inr refl
@@ -38,7 +39,7 @@ named_one (Set first (suc m)) all = inl (last_few first m all)
 named_all : (elements : List Element) → few (numbers_of elements) ≡ true → All IsNamed elements
 named_all [] all = All-nil IsNamed
 named_all (element ∷ elements) all =
-    let both = both_true (few (numbers_in element)) (few (numbers_of elements)) (sym (list_all-append (λ n. nat_lt n 32) (numbers_in element) (numbers_of elements)) ∙ all) in
+    let both = both_true (few (names_of element)) (few (numbers_of elements)) (sym (list_all-append (λ n. nat_lt n 32) (names_of element) (numbers_of elements)) ∙ all) in
     All-cons IsNamed element elements (named_one element both.0) (named_all elements both.1)
 
 pub elements_named : (q : Plan) → IsCompiled q → All IsNamed q.elements

@@ -18,3 +18,4 @@ pub mod Queries
 pub mod Places
 pub mod Unique
 pub mod UniqueClauses
+mod Alone

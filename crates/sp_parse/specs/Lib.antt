@@ -3,3 +3,4 @@ pub mod Follow
 pub mod Parses
 pub mod Codes
 pub mod Clauses
+pub mod Laws

@@ -18,5 +18,5 @@ mod tokens;
 mod trees;
 
 pub use fault::ParseFault;
-pub use law::one_query;
+pub use law::{one_fault, one_query};
 pub use parsing::parse;

@@ -5,6 +5,9 @@ mod WorkedMoves
 mod WorkedReading
 mod WorkedCompiled
 mod Products
+mod Integers
+mod Sizes
+mod Spines
 mod Fitting
 mod Zips
 mod Decided

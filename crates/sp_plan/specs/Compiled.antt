@@ -14,18 +14,13 @@ use Rattle.sp_plan.specs.declared.plan.Opening.{Opening}
 use Rattle.sp_plan.specs.declared.plan.Opening.TheVariants.{EveryEvents, EveryTime, When}
 use Rattle.sp_plan.specs.Bounds.{PredWithin}
 use Rattle.sp_plan.specs.Comparable.{Readable, IsComparable}
+use Rattle.sp_plan.specs.Runs.{names_of}
 use Rattle.sp_plan.specs.Windows.{IsWindowed}
-
--- the numbers of an element's names
-abbrev pub numbers_in : Element → List ℕ
-numbers_in (One name) = name ∷ []
-numbers_in (Plus name) = name ∷ []
-numbers_in (Set first count) = range_with_len first count
 
 -- the numbers of the names of all elements, in the order of the pattern
 abbrev pub numbers_of : List Element → List ℕ
 numbers_of [] = []
-numbers_of (element ∷ elements) = numbers_in element ++ numbers_of elements
+numbers_of (element ∷ elements) = names_of element ++ numbers_of elements
 
 -- the predicate of an opening stays within bounds
 abbrev pub OpeningWithin : Opening → Type 0
@@ -75,7 +70,7 @@ readable q bound = record { columns = q.schema.columns; texts = length q.texts; 
 abbrev pub ReadEarlier : Plan → ℕ → List Element → List Name → Type 0
 ReadEarlier q first [] names = Unit {0}
 ReadEarlier q first (element ∷ elements) names =
-    let width = length (numbers_in element) in
+    let width = length (names_of element) in
     All (λ name. IsComparable (readable q first) name.pred) (take width names) × ReadEarlier q (first + width) elements (drop width names)
 
 -- The predicate of an opening reads no name.

@@ -1,5 +1,5 @@
 // What expressions come to, and whether predicates hold.
-ghost use Rattle.std.specs.Prelude.{◌≡◌, ◌≤◌, ◌*◌, ◌^◌, ◌*ℤ◌, pos, unsigned_abs};
+ghost use Rattle.std.specs.Prelude.{◌≡◌, ◌≤◌, ◌+◌, ◌*◌, ◌^◌, ◌+ℤ◌, ◌*ℤ◌, neg_ℤ, pos, unsigned_abs};
 ghost use Rattle.sp_plan.specs.Values;
 ghost use Rattle.sp_plan.specs.Values.{column_of, earlier_column, last_bound};
 ghost use Rattle.sp_plan.specs.Bounds as b;
@@ -39,18 +39,82 @@ fn power_of_ten(by: u8) -> i128
     10u128.pow(u32::from(by)) as i128
 }
 
-// The product of two values that stay in bounds.
-fn product(left: i128, right: i128) -> i128
-    requires { unsigned_abs left * unsigned_abs right ≤ b.greatest }
-    ensures value { result ≡ left *ℤ right }
-    ensures small { unsigned_abs result ≡ unsigned_abs left * unsigned_abs right }
+// A factor times a value. A factor beside which the rest of a product is 0 may be of any size, and
+// what its bits wrap to is as good.
+fn scaled(factor: i128, by: i128) -> i128
+    ensures { unsigned_abs factor * unsigned_abs by ≤ b.greatest → result ≡ factor *ℤ by }
 {
-    left * right
+    factor.wrapping_mul(by)
+}
+
+// A factor with its sign turned, likewise.
+fn turned(factor: i128) -> i128
+    ensures { unsigned_abs factor ≤ b.greatest → result ≡ neg_ℤ factor }
+{
+    factor.wrapping_neg()
+}
+
+// A sum and a factor times a value more, where that stays in bounds.
+fn added(sum: i128, factor: i128, value: i128) -> i128
+    requires { unsigned_abs sum + unsigned_abs factor * unsigned_abs value ≤ b.greatest }
+    ensures value { result ≡ sum +ℤ factor *ℤ value }
+    ensures small { unsigned_abs result ≤
+        unsigned_abs sum + unsigned_abs factor * unsigned_abs value }
+{
+    sum + factor * value
+}
+
+// What a chain of operators comes to, which group from the left: it is gone along in a loop, and each
+// right side is a call.
+#[cycle(value)]
+fn chain(expr: &Expr, event: &Event, bound: &Bound) -> i128
+    requires within { b.StaysWithin expr.now }
+    requires event { b.IsSmall event.now }
+    requires bound { b.AllSmall bound.now }
+    ensures value { result ≡ Values.value expr.now event.now bound.now }
+    ensures small { unsigned_abs result ≤ b.bound expr.now }
+    ensures greatest { unsigned_abs result ≤ b.greatest }
+{
+    // The expression comes to the sum and the factor times the rest.
+    let mut sum = 0;
+    let mut factor = 1;
+    let mut rest = expr;
+    loop {
+        match rest {
+            Expr::Literal(n) => return added(sum, factor, i128::from(*n)),
+            Expr::Word(symbol) => return added(sum, factor, i128::from(*symbol)),
+            Expr::Column(column) => return added(sum, factor, column_value(event, *column)),
+            Expr::Earlier { name, column } => {
+                return added(sum, factor, earlier_value(bound, *name, *column));
+            }
+            Expr::Raise { by, inner } => {
+                factor = scaled(factor, power_of_ten(*by));
+                rest = inner;
+            }
+            Expr::Minus(inner) => {
+                factor = turned(factor);
+                rest = inner;
+            }
+            Expr::Add(left, right) => {
+                sum = added(sum, factor, value(right, event, bound));
+                rest = left;
+            }
+            Expr::Sub(left, right) => {
+                sum = added(sum, factor, -value(right, event, bound));
+                rest = left;
+            }
+            Expr::Mul(left, right) => {
+                factor = scaled(factor, value(right, event, bound));
+                rest = left;
+            }
+        }
+    }
 }
 
 /// What an expression comes to, in units of its scale, over the event at hand and the events bound
-/// before it; a text comes to its number. Takes no memory. No value in between passes 10^36 in
-/// magnitude.
+/// before it; a text comes to its number. Takes no memory. No sum in between passes 10^36 in
+/// magnitude. Calls nest as deep as brackets do, however long chains of operators are.
+#[cycle(value)]
 pub fn value(expr: &Expr, event: &Event, bound: &Bound) -> i128
     requires within { b.StaysWithin expr.now }
     requires event { b.IsSmall event.now }
@@ -64,11 +128,7 @@ pub fn value(expr: &Expr, event: &Event, bound: &Bound) -> i128
         Expr::Word(symbol) => i128::from(*symbol),
         Expr::Column(column) => column_value(event, *column),
         Expr::Earlier { name, column } => earlier_value(bound, *name, *column),
-        Expr::Raise { by, inner } => product(value(inner, event, bound), power_of_ten(*by)),
-        Expr::Minus(inner) => -value(inner, event, bound),
-        Expr::Add(left, right) => value(left, event, bound) + value(right, event, bound),
-        Expr::Sub(left, right) => value(left, event, bound) - value(right, event, bound),
-        Expr::Mul(left, right) => product(value(left, event, bound), value(right, event, bound)),
+        _ => chain(expr, event, bound),
     }
 }
 
@@ -87,21 +147,36 @@ fn compares(by: Compare, left: i128, right: i128) -> bool
 }
 
 /// Whether a predicate holds of the event at hand, over the events bound before it. Takes no memory.
+/// Of a chain the right side is tried first, and the left one gone on with in a loop; calls nest as
+/// deep as brackets and NOTs do.
 pub fn holds(pred: &Pred, event: &Event, bound: &Bound) -> bool
     requires within { b.PredWithin pred.now }
     requires event { b.IsSmall event.now }
     requires bound { b.AllSmall bound.now }
     ensures { result ≡ Values.holds pred.now event.now bound.now }
 {
-    match pred {
-        Pred::Always => true,
-        Pred::Test { by, left, right } => {
-            let left = value(left, event, bound);
-            let right = value(right, event, bound);
-            compares(*by, left, right)
+    let mut rest = pred;
+    loop {
+        match rest {
+            Pred::Always => return true,
+            Pred::Test { by, left, right } => {
+                let left = value(left, event, bound);
+                let right = value(right, event, bound);
+                return compares(*by, left, right);
+            }
+            Pred::And(left, right) => {
+                if !holds(right, event, bound) {
+                    return false;
+                }
+                rest = left;
+            }
+            Pred::Or(left, right) => {
+                if holds(right, event, bound) {
+                    return true;
+                }
+                rest = left;
+            }
+            Pred::Not(inner) => return !holds(inner, event, bound),
         }
-        Pred::And(left, right) => holds(left, event, bound) && holds(right, event, bound),
-        Pred::Or(left, right) => holds(left, event, bound) || holds(right, event, bound),
-        Pred::Not(inner) => !holds(inner, event, bound),
     }
 }

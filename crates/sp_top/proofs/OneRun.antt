@@ -19,7 +19,7 @@ use Rattle.sp_query.specs.declared.query.QueryOpening.TheVariants as o
 use Rattle.sp_query.specs.declared.tree.Tree.{Tree, out-Tree}
 use Rattle.sp_compile.specs.Checks.{scope_of}
 use Rattle.sp_compile.specs.Meaning.{Truth}
-use Rattle.sp_compile.specs.Scopes.{Scope, pattern_names}
+use Rattle.sp_compile.specs.Scopes.{Scope, PatternName, pattern_names}
 use Rattle.sp_compile.specs.Stands.{Literals, none, some, literal_of, all_trees, StandsForDefinition, StandForNames, StandsForOpening, Stands, definition_of}
 use Rattle.sp_compile.specs.Told.{IsPlanOf}
 use Rattle.sp_top.specs.Alike.{Alike, HoldAlike, NamesAlike, OpeningsAlike}
@@ -43,21 +43,21 @@ opening_itself (EveryEvents n) = refl
 opening_itself (EveryTime s) = refl
 
 module _ (truth : OneTruth) (query : Query) (texts : List (List ℕ)) where
-  definition_alike : (name : Ident × ℕ) (d : Option (Ident × Tree)) (p r : Pred) → StandsForDefinition query texts name d p → StandsForDefinition query texts name d r → HoldAlike p r
+  definition_alike : (name : PatternName) (d : Option (Ident × Tree)) (p r : Pred) → StandsForDefinition query texts name d p → StandsForDefinition query texts name d r → HoldAlike p r
   definition_alike name None p r first second = λ e b. ap (λ (x : Pred). holds x e b) (first ∙ sym second)
   definition_alike name (Some define) p r first second = λ e b. truth (scope_of query (Some name)) texts e b define.1 (holds p e b) (holds r e b) (first e b) (second e b)
 
-  names_alike : (names : List (Ident × ℕ)) (xs ys : List Name) → StandForNames query texts names xs → StandForNames query texts names ys → (i : ℕ) → NamesAlike (slice_get xs i) (slice_get ys i)
+  names_alike : (names : List (PatternName)) (xs ys : List Name) → StandForNames query texts names xs → StandForNames query texts names ys → (i : ℕ) → NamesAlike (slice_get xs i) (slice_get ys i)
   names_alike [] [] [] first second i = tt
   names_alike [] [] (y ∷ ys) first second i = absurd second
   names_alike [] (x ∷ xs) ys first second i = absurd first
   names_alike (name ∷ names) [] ys first second i = absurd first
   names_alike (name ∷ names) (x ∷ xs) [] first second i = absurd second
   names_alike (name ∷ names) (x ∷ xs) (y ∷ ys) first second zero =
-      (first.0.text ∙ sym second.0.text, first.0.consumed ∙ sym second.0.consumed, definition_alike name (definition_of query name.0.text) x.pred y.pred first.0.pred second.0.pred)
+      (first.0.text ∙ sym second.0.text, first.0.consumed ∙ sym second.0.consumed, definition_alike name (definition_of query name.name.text) x.pred y.pred first.0.pred second.0.pred)
   names_alike (name ∷ names) (x ∷ xs) (y ∷ ys) first second (suc i) = names_alike names xs ys first.1 second.1 i
 
-  count_alike : (names : List (Ident × ℕ)) (xs ys : List Name) → StandForNames query texts names xs → StandForNames query texts names ys → length xs ≡ length ys
+  count_alike : (names : List (PatternName)) (xs ys : List Name) → StandForNames query texts names xs → StandForNames query texts names ys → length xs ≡ length ys
   count_alike [] [] [] first second = refl
   count_alike [] [] (y ∷ ys) first second = absurd second
   count_alike [] (x ∷ xs) ys first second = absurd first

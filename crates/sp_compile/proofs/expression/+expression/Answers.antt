@@ -2,7 +2,7 @@ use Rattle.std.proofs.Common.{◌≡◌, ◌<◌, List, [], ◌∷◌, get_or, t
 use Rattle.std.proofs.lemmas.Grind.{common_steps}
 use Rattle.sp_query.specs.declared.tree.Tree.{Tree, out-Tree, size-Tree}
 use Rattle.sp_compile.specs.Sorts.{is_arithmetic}
-use Rattle.sp_compile.specs.Answers.{scope_in, ExprAnswer}
+use Rattle.sp_compile.specs.Answers.{ExprAnswer}
 use Rattle.sp_compile.proofs.Spined.{two_with, under, topped, first_falls, second_falls, no_larger}
 use Rattle.sp_compile.proofs.Expressions.{one_part, operation_is, negative_is, is_sound}
 use Rattle.sp_compile.proofs.expression.+expression.Goals.{in-Minus-len1, in_default}
@@ -15,11 +15,11 @@ expression-requires t c =
     let falls = first_falls c.in_ok-nodes.first.now c.part-item.result [] parts in
     let above = no_larger c.args.tree.now c.in_ok-nodes.nodes.items c.in_ok-nodes.first.now c.in_ok-nodes.ensures in
     let k : size-Tree c.part-item.result < t = omega arith in
-    (k, (c.requires.named, c.requires.names))
+    (k, c.requires)
 
 pub loop-node-init : goal.loop-node-init
 loop-node-init t c =
-    let S = scope_in c.args.scope.now.query.now c.args.scope.now.here in
+    let S = c.args.scope.now in
     let first = c.in_ok-nodes.first.now in
     let answer : ExprAnswer S c.args.texts.now first c.match-first.made = elim c.match-first.branch [
       | in-Minus-len1 w ↦
@@ -38,16 +38,16 @@ expression-right-requires t c =
     let falls = second_falls c.in-Some.node.now i.here c.right-item.result [] parts in
     let above = no_larger c.args.tree.now c.pop.new.self.items c.in-Some.node.now u.1.0 in
     let k : size-Tree c.right-item.result < t = omega arith in
-    (k, (c.requires.named, c.requires.names))
+    (k, c.requires)
 
 pub operation-made-requires-clause-left : goal.operation-made-requires-clause-left
 operation-made-requires-clause-left t c =
     let i = c.loop-node.invariant in
-    is_sound (scope_in c.args.scope.now.query.now c.args.scope.now.here) c.args.texts.now i.here c.loop-node.made i.answer
+    is_sound c.args.scope.now c.args.texts.now i.here c.loop-node.made i.answer
 
 pub loop-node-preserved : goal.loop-node-preserved
 loop-node-preserved t c =
-    let S = scope_in c.args.scope.now.query.now c.args.scope.now.here in
+    let S = c.args.scope.now in
     let node = c.in-Some.node.now in
     let i = c.loop-node.invariant in
     let u = under c.args.tree.now c.pop.new.self.items c.loop-node.nodes.items c.in-Some.node i.here i.spine c.in-Some.ensures.items in
@@ -57,7 +57,7 @@ loop-node-preserved t c =
 
 pub returns : goal.returns
 returns t c =
-    let S = scope_in c.args.scope.now.query.now c.args.scope.now.here in
+    let S = c.args.scope.now in
     let i = c.loop-node.invariant in
     let whole : vec_len c.loop-node.nodes ≡ length c.loop-node.nodes.items = c.loop-node.nodes.ok.0 in
     let none : length c.loop-node.nodes.items ≡ 0 = grind (arith, common_steps, c.in_default-pop.ensures.variant) in
