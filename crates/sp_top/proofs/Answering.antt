@@ -1,5 +1,5 @@
 -- Answers before the input is read, answers cut short by want of memory, and an outcome seen as another.
-use Rattle.std.proofs.Common.{◌⊎◌, ◌≡◌, ◌≢◌, ◌<◌, inr, ⊎_elim, ℕ, Bool, true, false, List, [], Option, Some, None, refl, ap, arith, sym, subst, ◌∙◌, inl}
+use Rattle.std.proofs.Common.{◌⊎◌, ◌≡◌, ◌<◌, inr, ⊎_elim, ℕ, Bool, true, false, List, [], Option, Some, None, refl, ap, arith, sym, subst, ◌∙◌, inl}
 use Rattle.std.proofs.lemmas.List.{append-nil}
 use Rattle.sp_io.specs.Outside.{Told, Gave, Grew, GrewWithin, Rose}
 use Rattle.sp_top.specs.declared.status.Status.{Status}
@@ -11,9 +11,9 @@ use Rattle.sp_top.specs.declared.input.Stop.TheVariants.{End, Failed, Open}
 use Rattle.sp_top.specs.declared.input.Failure.{Failure}
 use Rattle.sp_top.specs.declared.input.Failure.TheVariants.{Row, Limit}
 use Rattle.sp_top.specs.Commands.{Place, IsCommand}
-use Rattle.sp_top.specs.Outcome.{Outcome, QueryOutcome, IsOutcome, nothing_for, run_outcome, status_of, windows_text}
+use Rattle.sp_top.specs.Outcome.{Outcome, QueryOutcome, IsOutcome, run_outcome, status_of, windows_text}
 use Rattle.sp_top.specs.Reading.{Reading, read, stop_of, stop_or}
-use Rattle.sp_top.specs.Answer.{Outside, ReadsNoFurther, Ran, IsPlanRun, Filed, FileFault, FileTold, Answered, by_memory, by_file, by_refusal, by_run, SameCounts, OwnFile}
+use Rattle.sp_top.specs.Answer.{Outside, ReadsNoFurther, Ran, IsPlanRun, Filed, FileTold, Answered, by_memory, by_file, by_refusal, by_run, SameCounts, OwnFile}
 use Rattle.sp_top.specs.Queries.{IsPlanAt, IsUnread, RefusesPlace}
 use Rattle.sp_top.proofs.Told.{grew_none}
 

@@ -1,9 +1,12 @@
+mod Alike
 mod Answered
 mod Answering
 mod Commands
 mod FewEvents
 mod Leading
 mod LinesOf
+mod OneOutcome
+mod OneRun
 mod ReadSoFar
 mod Refusals
 mod FitReading

@@ -5,3 +5,5 @@ pub mod Coming
 pub mod Outcome
 pub mod Answer
 pub mod Queries
+pub mod Alike
+pub mod OneOutcome

@@ -5,6 +5,7 @@
 mod command;
 mod input;
 mod kept;
+mod law;
 mod output;
 mod placed;
 mod query;
@@ -13,4 +14,5 @@ mod run;
 mod status;
 mod top;
 
+pub use law::{one_outcome, plans_run_alike};
 pub use top::spectre;

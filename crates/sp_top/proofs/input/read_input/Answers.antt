@@ -1,5 +1,4 @@
 use Rattle.std.proofs.Common.{◌≡◌, ℕ, [], true, false, take, refl, sym, subst, ap, ◌∙◌, arith, rules}
-use Rattle.std.proofs.lemmas.Grind.{common_steps}
 use Rattle.std.specs.Prelude.{is_some}
 use Rattle.sp_io.specs.Outside.{Gave}
 use Rattle.sp_top.specs.Kept.{reading_of}

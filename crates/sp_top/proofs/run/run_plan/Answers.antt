@@ -1,4 +1,4 @@
-use Rattle.std.proofs.Common.{[], Ok, length, refl, sym, ap, subst, arith}
+use Rattle.std.proofs.Common.{[], Ok, refl, ap, subst}
 use Rattle.std.specs.Arc.{arc_value}
 use Rattle.sp_plan.specs.declared.plan.Plan.{Plan}
 use Rattle.sp_top.specs.Outcome.{run_outcome}

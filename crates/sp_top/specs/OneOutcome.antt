@@ -1,0 +1,7 @@
+-- What words, told files and bytes come to is one thing.
+use Rattle.std.specs.Prelude.{◌≡◌, ℕ, Bool, List, Some}
+use Rattle.sp_top.specs.Outcome.{Outcome, IsOutcome}
+
+-- For words, files that are told and bytes there is at most one outcome: one status and one text.
+abbrev pub OneOutcome : Type 0
+OneOutcome = (words : List (List ℕ)) (files : List (List ℕ × List ℕ)) (bytes : List ℕ) (ended : Bool) (one other : Outcome) → IsOutcome words (Some files) bytes ended one → IsOutcome words (Some files) bytes ended other → one ≡ other
