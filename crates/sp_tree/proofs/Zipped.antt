@@ -13,6 +13,7 @@ use Rattle.sp_group.specs.Family.{entry_at, parent_there, prune, kept}
 use Rattle.sp_tree.specs.declared.version.Version.{Version}
 use Rattle.sp_tree.specs.Changes.{branches, root_among}
 use Rattle.sp_tree.specs.Grown.{Grown, Entry, kin, value_of, root_in, AreRooted}
+use Rattle.sp_tree.specs.Grown as g
 use Rattle.sp_tree.specs.Joined.{joined, HaveIds}
 
 differs : (m n : ℕ) → m ≢ n → (m == n) ≡ false
@@ -33,6 +34,12 @@ module _ {V : Type 0} where
   length_values [] (e ∷ es) h = absurd h
   length_values (v ∷ vs) [] h = absurd h
   length_values (v ∷ vs) (e ∷ es) h = ap suc (length_values vs es h.1)
+
+  pub fall_joined : (top : ℕ) (vs : List Version) (es : List (ℕ × V)) → HaveIds vs es → FallFrom top es → g.FallFrom top (joined vs es)
+  fall_joined top [] es h f = tt
+  fall_joined top (v ∷ vs) [] h f = absurd h
+  fall_joined top (v ∷ vs) (e ∷ es) h f =
+      (subst (λ (n : ℕ). n < top) (sym h.0) f.0, subst (λ (n : ℕ). g.FallFrom n (joined vs es)) (sym h.0) (fall_joined e.0 vs es h.1 f.1))
 
   value_if : (b : Bool) (v : V) (o : Option V) (e : Option (Entry V)) → o ≡ value_of e → (w : Version) → cond b (Some v) o ≡ value_of (cond b (Some (record { version = w; value = v })) e)
   value_if true v o e h w = refl

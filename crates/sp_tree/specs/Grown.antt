@@ -1,5 +1,5 @@
 -- What a tree is to its callers, and what each call does to it.
-use Rattle.std.specs.Prelude.{◌≡◌, ℕ, ◌+◌, ◌<◌, Bool, true, List, [], ◌∷◌, Option, Some, None, is_some, if◌then◌else◌, refl}
+use Rattle.std.specs.Prelude.{◌≡◌, ℕ, ◌+◌, ◌<◌, ◌≤◌, length, Bool, true, List, [], ◌∷◌, Option, Some, None, is_some, ◌==◌, if◌then◌else◌, refl}
 use Rattle.std.specs.List.{All}
 use Rattle.std.specs.Coded.{Coded, code_by, coded×, coded_ℕ, coded_list, coded_option}
 use Rattle.sp_plan.specs.Runs.{is_among}
@@ -136,3 +136,18 @@ module _ {V : Type 0} where
   abbrev pub answered : ℕ → Option (Entry V) → Option ℕ
   answered next None = None
   answered next (Some e) = Some next
+
+  -- the entries with another value at that id
+  abbrev pub written : List (Entry V) → ℕ → V → List (Entry V)
+  written [] id value = []
+  written (e ∷ es) id value = if e.version.id == id then record e { value = value } ∷ es else e ∷ written es id value
+
+  -- the tree after a write to the value of a version
+  abbrev pub with_value : Grown V → ℕ → V → Grown V
+  with_value t id value = record t { entries = written t.entries id value }
+
+  -- what every tree keeps: its ids fall, all below the next one; no more are live than may be; each parent stands behind its children
+  pub record AreGrown (t : Grown V) : Type 0 where
+    pub fall : FallFrom t.next t.entries
+    pub most : length t.entries ≤ t.bound
+    pub rooted : AreRooted t.entries

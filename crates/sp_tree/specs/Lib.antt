@@ -2,3 +2,4 @@ pub mod Changes
 pub mod Grown
 pub mod Faults
 pub mod Joined
+pub mod Lends

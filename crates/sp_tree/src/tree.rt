@@ -1,7 +1,9 @@
 ghost use Rattle.std.specs.Prelude.{◌≡◌, ◌+◌, ◌<◌, ◌≤◌, length, option_copied, IfOk, IfErr, OnOk, OnErr, IsTrue, IsSome, IsNone, IfSome, [], reverse, map};
+ghost use Rattle.std.specs.Option.{option_copied_mut};
+ghost use Rattle.std.specs.Borrow.{sem};
 ghost use Rattle.sp_group.specs.Family.{entry_at, prune};
 ghost use Rattle.sp_tree.specs.Changes.{changed_by, decided, promoted};
-ghost use Rattle.sp_tree.specs.Grown.{Grown, opened, kin, lifted, pruned, with_child, value_of, is_open, groups_of, root_in, without_root, renewed, answered, parent_of, label_of, CanStand};
+ghost use Rattle.sp_tree.specs.Grown.{Grown, opened, kin, lifted, pruned, with_child, value_of, is_open, groups_of, root_in, without_root, renewed, answered, parent_of, label_of, AreGrown, CanStand};
 ghost use Rattle.sp_tree.specs.Joined.{joined, AreJoined, IsPrunedFrom, IsKept};
 ghost use Rattle.sp_tree.specs.Faults.{IsAddFault};
 
@@ -40,6 +42,8 @@ impl<V> Model for Tree<V> {
 }
 
 impl<V> Tree<V> {
+    ghost use Rattle.sp_tree.specs.Lends.{lends_found};
+
     /// No version, and room for `bound` of them. The first id is 1.
     pub fn new(alloc: Global, bound: u32) -> Result<Tree<V>, Memory>
         requires some { 0 < bound }
@@ -58,6 +62,14 @@ impl<V> Tree<V> {
         ensures { option_copied result ≡ value_of (entry_at kin self.now.entries id) }
     {
         self.values.get(id)
+    }
+
+    /// The value of a version for writing, None exactly where the id isn't live.
+    pub fn get_mut(&mut self, id: u64) -> Option<&mut V>
+        ensures* writes_back { sem 𝓛 (lends_found V.row self.entry id result) }
+        ensures value { option_copied_mut result ≡ value_of (entry_at kin self.old.entries id) }
+    {
+        self.values.get_mut(id)
     }
 
     /// The version that has no parent; None exactly where no version is live.
@@ -150,7 +162,8 @@ impl<V> Tree<V> {
 
     /// How many versions are live.
     pub fn live(&self) -> u32
-        ensures { result ≡ length self.now.entries }
+        ensures live { result ≡ length self.now.entries }
+        ensures grown { AreGrown self.now }
     {
         self.values.live()
     }
