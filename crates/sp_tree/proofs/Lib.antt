@@ -1,3 +1,4 @@
 pub mod Zipped
 pub mod Pruned
 pub mod Renewed
+pub mod Opened
