@@ -2,3 +2,4 @@ pub mod Zipped
 pub mod Pruned
 pub mod Renewed
 pub mod Written
+pub mod Opened

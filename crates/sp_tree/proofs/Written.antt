@@ -3,9 +3,8 @@ use Rattle.std.proofs.Common.{◌≡◌, ℕ, ◌<◌, Bool, true, false, ◌==�
 use Rattle.std.proofs.lemmas.Bool.Decides.{nat_tests}
 use Rattle.sp_store.specs.Stored.{Stored, FallFrom}
 use Rattle.sp_store.specs.Stored as s
-use Rattle.sp_group.specs.Family.{parent_there}
 use Rattle.sp_tree.specs.declared.version.Version.{Version}
-use Rattle.sp_tree.specs.Grown.{Entry, kin, AreRooted, written}
+use Rattle.sp_tree.specs.Grown.{Entry, AreRooted, written}
 use Rattle.sp_tree.specs.Joined.{joined, HaveIds, IsTree}
 use Rattle.sp_tree.proofs.Zipped.{there_joined}
 

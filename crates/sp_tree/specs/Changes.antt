@@ -3,6 +3,7 @@ use Rattle.std.specs.Prelude.{◌≡◌, ◌<◌, ℕ, length, slice_index_or, B
 use Rattle.sp_plan.specs.Runs.{is_among}
 use Rattle.sp_group.specs.declared.outcome.Outcome.{Outcome}
 use Rattle.sp_group.specs.declared.outcome.Outcome.TheVariants.{Completed, Abandoned}
+use Rattle.sp_group.specs.Rising.{with_number}
 use Rattle.sp_group.specs.Family.{Kin, is_parent}
 use Rattle.sp_tree.specs.declared.version.Version.{Version}
 use Rattle.sp_tree.specs.declared.version.Change.{Change}
@@ -62,3 +63,20 @@ root_among (v ∷ vs) = if is_some v.parent then root_among vs else Some v.id
 -- the version at the index has this id
 abbrev pub IsIndex : List Version → ℕ → ℕ → Type 0
 IsIndex vs id index = (index < length vs) × ((d : Version) → (slice_index_or vs index d).id ≡ id)
+
+-- the version is a child of the parent, with this label
+abbrev pub IsUnder : Version → ℕ → List ℕ → Type 0
+IsUnder v parent label = (v.parent ≡ Some parent) × (v.label ≡ label)
+
+-- some version of this id is the child
+abbrev pub IsChildAt : List Version → ℕ → List ℕ → ℕ → Type 0
+IsChildAt vs parent label id = (i : ℕ) × IsIndex vs id i × ((d : Version) → IsUnder (slice_index_or vs i d) parent label)
+
+-- no version is the child
+abbrev pub AreNoChild : List Version → ℕ → List ℕ → Type 0
+AreNoChild [] parent label = Unit {0}
+AreNoChild (v ∷ vs) parent label = ¬ IsUnder v parent label × AreNoChild vs parent label
+
+-- a version with one open group more
+abbrev pub with_run : ℕ → Version → Version
+with_run run v = record v { groups = with_number v.groups run }

@@ -5,7 +5,7 @@ use Rattle.std.specs.Coded.{Coded, code_by, coded×, coded_ℕ, coded_list, code
 use Rattle.sp_plan.specs.Runs.{is_among}
 use Rattle.sp_group.specs.Family.{Kin, entry_at, parent_there, prune}
 use Rattle.sp_tree.specs.declared.version.Version.{Version}
-use Rattle.sp_tree.specs.Changes.{but, promoted}
+use Rattle.sp_tree.specs.Changes.{but, promoted, with_run}
 
 -- a live version: where it stands, and its value
 pub record Entry (V : Type 0) : Type 0 where
@@ -115,6 +115,19 @@ module _ {V : Type 0} where
   abbrev pub LacksChild : List (Entry V) → ℕ → List ℕ → Type 0
   LacksChild [] p label = Unit {0}
   LacksChild (e ∷ es) p label = ¬ ((e.version.parent ≡ Some p) × (e.version.label ≡ label)) × LacksChild es p label
+
+  -- the version of the id is a child of the parent, with this label
+  abbrev pub IsChild : List (Entry V) → ℕ → List ℕ → ℕ → Type 0
+  IsChild es p label id = (e : Entry V) × (entry_at kin es id ≡ Some e) × (e.version.parent ≡ Some p) × (e.version.label ≡ label)
+
+  -- the entries where a group of the owner is open too
+  abbrev pub opened_for : ℕ → ℕ → List (Entry V) → List (Entry V)
+  opened_for owner run [] = []
+  opened_for owner run (e ∷ es) = if e.version.id == owner then record { version = with_run run e.version; value = e.value } ∷ es else e ∷ opened_for owner run es
+
+  -- the tree where a group of the owner is open too
+  abbrev pub with_group : Grown V → ℕ → ℕ → Grown V
+  with_group t owner run = record t { entries = opened_for owner run t.entries }
 
   -- where a version may be added: a root to an empty tree; a child under a live parent, over open groups of it, where no other child has that label
   abbrev pub CanStand : Grown V → Option ℕ → List ℕ → Type 0

@@ -2,6 +2,8 @@
 //! `specs/` stands what a tree is to its callers (`Grown`) and what each call does to it (`Pruning`).
 #![tactic(auto)]
 
+#[cfg(test)]
+mod tests;
 mod tree;
 mod version;
 

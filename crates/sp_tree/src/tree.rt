@@ -1,14 +1,14 @@
-ghost use Rattle.std.specs.Prelude.{◌≡◌, ◌+◌, ◌<◌, ◌≤◌, length, option_copied, IfOk, IfErr, OnOk, OnErr, IsTrue, IsSome, IsNone, IfSome, [], reverse, map};
+ghost use Rattle.std.specs.Prelude.{◌≡◌, ◌≢◌, ◌+◌, ◌<◌, ◌≤◌, false, length, option_copied, IfOk, IfErr, OnOk, OnErr, IsTrue, IsSome, IsNone, IfSome, [], reverse, map};
 ghost use Rattle.std.specs.Option.{option_copied_mut};
 ghost use Rattle.std.specs.Borrow.{sem};
 ghost use Rattle.sp_group.specs.Family.{entry_at, prune};
 ghost use Rattle.sp_tree.specs.Changes.{changed_by, decided, promoted};
-ghost use Rattle.sp_tree.specs.Grown.{Grown, opened, kin, lifted, pruned, with_child, value_of, is_open, groups_of, root_in, without_root, renewed, answered, parent_of, label_of, AreGrown, CanStand};
+ghost use Rattle.sp_tree.specs.Grown.{Grown, opened, kin, lifted, pruned, with_child, value_of, is_open, groups_of, root_in, without_root, renewed, answered, parent_of, label_of, with_group, AreGrown, CanStand, IsChild, LacksChild};
 ghost use Rattle.sp_tree.specs.Joined.{joined, AreJoined, IsPrunedFrom, IsKept};
 ghost use Rattle.sp_tree.specs.Faults.{IsAddFault};
 
 use crate::Memory;
-use crate::version::{Change, Version, find, has_parent, ids_of, index_of, root_of};
+use crate::version::{Change, Version, child_of, find, has_parent, ids_of, index_of, root_of};
 use sp_group::{Label, Outcome};
 use sp_store::{PutFault, Store};
 use std::alloc::Global;
@@ -110,6 +110,14 @@ impl<V> Tree<V> {
         }
     }
 
+    /// The child of a parent that has this label; None exactly where no child of it has.
+    pub fn child(&self, parent: u64, label: &Label) -> Option<u64>
+        ensures some { IfSome result (λ id. IsChild self.now.entries parent label.now id) }
+        ensures none { IsNone result → LacksChild self.now.entries parent label.now }
+    {
+        child_of(&self.versions, parent, label)
+    }
+
     /// The live ids, rising.
     pub fn walk(&self, alloc: Global) -> Result<Vec<u64>, Memory>
         ensures { IfOk result (λ ids. ids.items ≡ reverse (map (λ e. e.version.id) self.now.entries)) }
@@ -157,6 +165,25 @@ impl<V> Tree<V> {
                 Ok(id)
             }
             Err(fault) => Err(fault),
+        }
+    }
+
+    /// A group of a live version opens, which isn't among its open ones. After want of memory the tree is as
+    /// before.
+    pub fn open_group(&mut self, owner: u64, run: u32) -> Result<(), Memory>
+        requires live { IsSome (entry_at kin self.old.entries owner) }
+        requires given { run ≢ 0 }
+        requires new { is_open self.old owner run ≡ false }
+        ensures with { OnOk result (self.new ≡ with_group self.old owner run) }
+        ensures err { OnErr result (self.new ≡ self.old) }
+    {
+        match index_of(&self.versions, owner) {
+            Some(index) => {
+                let version = &mut self.versions[index];
+                version.groups.insert(run)
+            }
+            // The owner is live.
+            None => Ok(()),
         }
     }
 

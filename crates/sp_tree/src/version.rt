@@ -1,6 +1,6 @@
-ghost use Rattle.std.specs.Prelude.{◌≡◌, ◌<◌, ℕ, length, option_copied, IsTrue, IfOk, IfSome, IsNone, None, map, reverse};
+ghost use Rattle.std.specs.Prelude.{◌≡◌, ◌↔◌, ◌<◌, ℕ, length, option_copied, IsTrue, IfOk, IfSome, IsNone, None, map, reverse};
 ghost use Rattle.sp_group.specs.Family.{entry_at, parent_there};
-ghost use Rattle.sp_tree.specs.Changes.{branches, changed_by, decided, promoted, root_among, IsSettled, IsIndex};
+ghost use Rattle.sp_tree.specs.Changes.{branches, changed_by, decided, promoted, root_among, IsSettled, IsIndex, IsUnder, IsChildAt, AreNoChild};
 
 use crate::Memory;
 use sp_group::{Label, Outcome};
@@ -47,6 +47,13 @@ impl Version {
             Change::Promote { root } => self.promote(root),
             Change::Prune => true,
         }
+    }
+
+    /// Whether the version is a child of the parent, with this label.
+    fn is_under(&self, parent: u64, label: &Label) -> bool
+        ensures { IsTrue result ↔ IsUnder self.now parent label.now }
+    {
+        self.parent == Some(parent) && self.label.same(label)
     }
 
     fn decide(&mut self, owner: u64, run: u32, outcome: Outcome) -> bool
@@ -121,6 +128,20 @@ pub(crate) fn index_of(versions: &[Version], id: u64) -> Option<usize>
     for i in 0..versions.len() {
         if versions[i].id == id {
             return Some(i);
+        }
+    }
+    None
+}
+
+/// The child of a parent that has this label.
+pub(crate) fn child_of(versions: &[Version], parent: u64, label: &Label) -> Option<u64>
+    ensures some { IfSome result (λ id. IsChildAt versions.now parent label.now id) }
+    ensures none { IsNone result → AreNoChild versions.now parent label.now }
+{
+    for i in 0..versions.len() {
+        let version = &versions[i];
+        if version.is_under(parent, label) {
+            return Some(version.id);
         }
     }
     None
