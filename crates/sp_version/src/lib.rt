@@ -7,6 +7,7 @@ mod search;
 mod version;
 
 pub use laws::reads_alike;
+pub use search::least_unskipped;
 use std::alloc::AllocError;
 pub use version::Version;
 
