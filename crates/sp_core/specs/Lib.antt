@@ -1,0 +1,5 @@
+pub mod Running
+pub mod Carrying
+pub mod Faults
+pub mod Holding
+pub mod Rooms

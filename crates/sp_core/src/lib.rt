@@ -1,0 +1,21 @@
+//! The core of the speculative machine: the events, their windows, the versions of windows, and what was
+//! emitted. Each call is one step of the machine that `sp_group` defines; whoever takes the steps, in any
+//! order, has what processing the windows one after another gives. What callers see stands in
+//! `specs/Running.antt`.
+#![tactic(auto)]
+
+mod core;
+mod emitted;
+mod fault;
+mod given;
+mod lent;
+
+pub use core::Core;
+pub use emitted::Emitted;
+pub use fault::CoreFault;
+pub use given::Given;
+pub use lent::Lent;
+use std::alloc::AllocError;
+
+/// Want of memory. Any call that allocates may answer it, and says what stands after it.
+pub type Memory = AllocError;
