@@ -1,5 +1,5 @@
 -- What a core keeps, and for which state of the machine it stands.
-use Rattle.std.specs.Prelude.{◌≡◌, ℕ, ◌+◌, ◌-◌, ◌≤◌, Bool, List, [], map, length, vec_len, vec_capacity}
+use Rattle.std.specs.Prelude.{◌≡◌, ℕ, ◌+◌, ◌≤◌, Bool, List, [], map, length}
 use Rattle.std.specs.List.{All}
 use Rattle.std.specs.List.Sorted.{IsStrictlyIncreasing}
 use Rattle.std.specs.Arc.{arc_value}
@@ -23,11 +23,11 @@ use Rattle.sp_group.specs.Machine.{Machine, opening, inner, is_group, out_for}
 use Rattle.sp_group.specs.Steps.{steps}
 use Rattle.sp_tree.specs.Grown.{Grown, Entry, AreGrown}
 use Rattle.sp_rules.specs.Schedules.{Fits}
-use Rattle.sp_core.specs.declared.core.Core.TheInside.{Inside}
+use Rattle.sp_core.specs.declared.machine.Core.TheInside.{Inside}
 use Rattle.sp_core.specs.declared.lent.Lent.{Lent}
 use Rattle.sp_core.specs.Running.{Running, flat}
 use Rattle.sp_core.specs.Carrying.{ticket_of}
-use Rattle.sp_core.specs.Rooms.{entries_owed, matches_held, numbers_held}
+use Rattle.sp_core.specs.Rooms.{room, entries_owed, matches_held, numbers_held}
 
 -- the values of what a core keeps; the tickets with the newest first; the rooms are how many entries and matches more can be taken in
 -- without memory
@@ -59,8 +59,8 @@ holding c = record {
   tickets = c.tickets.items;
   next_ticket = c.next_ticket;
   journal = c.journal.items;
-  journal_room = vec_capacity c.journal - vec_len c.journal;
-  emitted_room = vec_capacity c.emitted - vec_len c.emitted;
+  journal_room = room c.journal;
+  emitted_room = room c.emitted;
 }
 
 -- the version of the machine for which an entry of the tree stands

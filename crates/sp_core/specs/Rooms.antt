@@ -1,8 +1,13 @@
 -- The room that the end of input, rolls and finishes need, which take no memory.
-use Rattle.std.specs.Prelude.{ℕ, ◌+◌, Bool, List, length, is_some, ◌||◌, nat_lt, map, if◌then◌else◌}
+use Rattle.std.specs.Prelude.{ℕ, ◌+◌, ◌-◌, Bool, vec_len, vec_capacity, List, length, is_some, ◌||◌, nat_lt, map, if◌then◌else◌}
 use Rattle.std.specs.List.{sum}
+use Rattle.std.specs.Global.{Vec}
 use Rattle.sp_tree.specs.Grown.{Entry}
 use Rattle.sp_version.specs.declared.version.Version.{Version}
+
+-- how many elements more a vector can take in without memory
+abbrev pub room : {X : Type 0} → Vec X → ℕ
+room v = vec_capacity v - vec_len v
 
 -- whether a version has read something, or something is out for it; only then can it be in conflict
 abbrev pub is_touched : Version → Bool

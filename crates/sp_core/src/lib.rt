@@ -4,17 +4,19 @@
 //! `specs/Running.antt`.
 #![tactic(auto)]
 
-mod core;
 mod emitted;
 mod fault;
+mod feeding;
 mod given;
 mod lent;
+mod machine;
+mod rooms;
 
-pub use core::Core;
 pub use emitted::Emitted;
 pub use fault::CoreFault;
 pub use given::Given;
 pub use lent::Lent;
+pub use machine::Core;
 use std::alloc::AllocError;
 
 /// Want of memory. Any call that allocates may answer it, and says what stands after it.
