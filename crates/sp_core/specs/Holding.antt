@@ -19,7 +19,7 @@ use Rattle.sp_version.specs.declared.version.Version.{Version}
 use Rattle.sp_group.specs.declared.step.Entry as step
 use Rattle.sp_group.specs.Rising.{with_numbers}
 use Rattle.sp_group.specs.Machine as machine
-use Rattle.sp_group.specs.Machine.{Machine, opening, inner, is_group, out_for}
+use Rattle.sp_group.specs.Machine.{Machine, Ticket, opening, inner, is_group, out_for}
 use Rattle.sp_group.specs.Steps.{steps}
 use Rattle.sp_tree.specs.Grown.{Grown, Entry, AreGrown}
 use Rattle.sp_rules.specs.Schedules.{Fits}
@@ -98,15 +98,15 @@ unnumbered q window s = map (λ run. match_of q window (0, run)) (matched_runs s
 
 -- A version holds what its runs come to: a matcher that stands for them, their matches twice, and what these used; its open groups are
 -- those of the runs, and its ticket is the one that is out for it.
-pub record Holds (q : Plan) (m : Machine) (e : Entry Version) : Type 0 where
-  pub first : e.value.first ≡ first q m.events e.value.window
+pub record Holds (q : Plan) (events : List Event) (tickets : List Ticket) (e : Entry Version) : Type 0 where
+  pub first : e.value.first ≡ first q events e.value.window
   pub plan : SamePlan e.value.matcher.plan q
-  pub stands : Stands e.value.matcher (inner q m.events (version_of e))
-  pub matches : e.value.matches.items ≡ unnumbered q e.value.window (inner q m.events (version_of e))
-  pub copies : e.value.copies.items ≡ unnumbered q e.value.window (inner q m.events (version_of e))
-  pub used : e.value.used.list ≡ with_numbers [] (used_by_all q (inner q m.events (version_of e)))
-  pub out : e.value.out ≡ out_for m.tickets e.version.id
-  pub groups : (r : ℕ) → is_among e.version.groups r ≡ is_group q (inner q m.events (version_of e)) r
+  pub stands : Stands e.value.matcher (inner q events (version_of e))
+  pub matches : e.value.matches.items ≡ unnumbered q e.value.window (inner q events (version_of e))
+  pub copies : e.value.copies.items ≡ unnumbered q e.value.window (inner q events (version_of e))
+  pub used : e.value.used.list ≡ with_numbers [] (used_by_all q (inner q events (version_of e)))
+  pub out : e.value.out ≡ out_for tickets e.version.id
+  pub groups : (r : ℕ) → is_among e.version.groups r ≡ is_group q (inner q events (version_of e)) r
   pub rising : IsStrictlyIncreasing e.version.groups
 
 -- The journal's steps could be taken one after another, and lead to the state of the machine.
@@ -130,6 +130,6 @@ pub record IsCore (h : Holding) : Type 0 where
   pub windows_plan : h.windows.plan ≡ h.plan
   pub windows : window.Stands h.windows h.events h.ended
   pub grown : AreGrown h.tree
-  pub versions : All (Holds h.plan (machine_of h)) h.tree.entries
+  pub versions : All (Holds h.plan h.events (map ticket_of h.tickets)) h.tree.entries
   pub replayed : IsReplayed h
   pub rooms : HasRooms h

@@ -3,3 +3,7 @@ pub mod Carrying
 pub mod Faults
 pub mod Holding
 pub mod Rooms
+pub mod Suppressing
+pub mod Withheld
+pub mod Leasing
+pub mod Spawning

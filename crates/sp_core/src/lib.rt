@@ -4,13 +4,18 @@
 //! `specs/Running.antt`.
 #![tactic(auto)]
 
+mod conflicts;
 mod emitted;
 mod fault;
 mod feeding;
 mod given;
+mod leasing;
 mod lent;
 mod machine;
+mod rolling;
 mod rooms;
+mod spawning;
+mod withheld;
 
 pub use emitted::Emitted;
 pub use fault::CoreFault;

@@ -1,0 +1,155 @@
+// A lease: the next unread events of a version go out under a ticket.
+ghost use Rattle.std.specs.Prelude.{◌≡◌, ◌≤◌, ℕ, None, Some, IfOk, IfErr, OnOk, OnErr, IsSome};
+ghost use Rattle.sp_group.specs.declared.step.Step.TheVariants as s;
+ghost use Rattle.sp_core.specs.Faults.{IsFault};
+ghost use Rattle.sp_core.specs.Leasing.{IsLent, IsLeased};
+ghost use Rattle.sp_core.specs.Running.{IsDone, after, refused};
+
+use crate::rooms::{enter, make_room};
+use crate::{Core, CoreFault, Lent, Memory};
+use sp_group::{Refusal, Step};
+use sp_piece::Job;
+use sp_plan::{Event, Listed};
+use sp_rules::every_schedule;
+use sp_window::{Window, windows_hold};
+use std::alloc::Global;
+
+// The same events once more.
+fn copies(alloc: Global, events: &[Event]) -> Result<Vec<Event>, Memory>
+    ensures { IfOk result (λ list. list.items ≡ events.now) }
+{
+    let mut list = Vec::with_capacity(alloc, events.len())?;
+    for event in events {
+        list.push(event.copy(alloc)?)?;
+    }
+    Ok(list)
+}
+
+impl Core {
+    // How many events of a window were fed, and whether it is closed.
+    fn fed_of(&self, window: Window) -> u32 {
+        match window.end {
+            Some(end) => end + 1 - window.first,
+            None => self.events.len() as u32 + 1 - window.first,
+        }
+    }
+
+    // Why a lease of a version is refused, however many events are asked for.
+    pub(crate) fn lease_refusal(&self, version: u64) -> Option<Refusal>
+        ensures { (count : ℕ) → result ≡ refused self.now (s.Lease version count) }
+    {
+        every_schedule();
+        windows_hold();
+        let Some(held) = self.tree.get(version) else {
+            return Some(Refusal::NotLive { version });
+        };
+        if let Some(ticket) = held.out {
+            return Some(Refusal::Out { ticket });
+        }
+        if let Some(event) = self.conflict_of(version) {
+            return Some(Refusal::Conflict { event });
+        }
+        let Some(window) = self.windows.get(held.window) else {
+            unreachable!()
+        };
+        let position = held.position;
+        if position < self.fed_of(window) || window.end.is_some() && !held.done {
+            None
+        } else {
+            Some(Refusal::NothingToRead { position })
+        }
+    }
+
+    // What goes out under the next ticket, where at most `count` events are asked for.
+    fn lent(&self, alloc: Global, version: u64, count: u32) -> Result<Lent, Memory>
+        requires passes { refused self.now (s.Lease version count) ≡ None }
+        ensures { IfOk result (IsLent self.now version count) }
+    {
+        every_schedule();
+        windows_hold();
+        let Some(held) = self.tree.get(version) else {
+            unreachable!()
+        };
+        let Some(window) = self.windows.get(held.window) else {
+            unreachable!()
+        };
+        let unread = self.fed_of(window) - held.position;
+        let first = held.first + held.position;
+        let lent = unread.min(count);
+        Ok(Lent {
+            ticket: self.next_ticket,
+            version,
+            first,
+            count: lent,
+            snapshot: self.suppressed_within(alloc, version, first, lent)?,
+            closes: window.end.is_some() && unread <= count,
+        })
+    }
+
+    // The job that carries what is lent.
+    fn job(&self, alloc: Global, lent: &Lent, count: u32) -> Result<Job, Memory>
+        requires lent { IsLent self.now lent.now.version count lent.now }
+        requires passes { refused self.now (s.Lease lent.now.version count) ≡ None }
+        ensures { IfOk result (IsLeased self.now lent.now.version count) }
+    {
+        every_schedule();
+        windows_hold();
+        let Some(held) = self.tree.get(lent.version) else {
+            unreachable!()
+        };
+        let place = lent.first as usize - 1;
+        let events = copies(alloc, &self.events[place..place + lent.count as usize])?;
+        Ok(Job {
+            ticket: lent.ticket,
+            version: lent.version,
+            first: lent.first,
+            before: held.matcher.copy(alloc)?,
+            events: Listed::of(events),
+            snapshot: lent.snapshot.copy(alloc)?,
+            closes: lent.closes,
+        })
+    }
+
+    // Enters the lease.
+    fn put_out(&mut self, alloc: Global, lent: Lent, count: u32) -> Result<(), Memory>
+        requires lent { IsLent self.old lent.version count lent }
+        requires passes { refused self.old (s.Lease lent.version count) ≡ None }
+        ensures ok { OnOk result (self.new ≡ after self.old (s.Lease lent.version count)) }
+        ensures err { OnErr result (self.new ≡ self.old) }
+    {
+        every_schedule();
+        let version = lent.version;
+        let ticket = lent.ticket;
+        make_room(&mut self.journal, self.tree.live())?;
+        self.tickets.reserve(1)?;
+        // There is room for it.
+        let _ = self.tickets.insert(0, lent);
+        self.next_ticket += 1;
+        if let Some(held) = self.tree.get_mut(version) {
+            held.out = Some(ticket);
+        }
+        enter(&mut self.journal, Step::Lease { version, count }, 1);
+        Ok(())
+    }
+
+    /// The next unread events of a version's window, at most `count`, 1 to 1,024, go out for reading, and the
+    /// window's closing with them where they reach its end and it is closed. After a fault the core is as
+    /// before. It is refused where the version is not live, a ticket is out for it, it is in conflict, and where
+    /// there is nothing to read.
+    pub fn lease(&mut self, alloc: Global, version: u64, count: u32) -> Result<Job, CoreFault>
+        requires some { 1 ≤ count }
+        requires most { count ≤ 1024 }
+        ensures done { OnOk result (IsDone (s.Lease version count) self.old self.new) }
+        ensures job { IfOk result (IsLeased self.old version count) }
+        ensures err { OnErr result (self.new ≡ self.old) }
+        ensures fault { IfErr result (IsFault self.old (s.Lease version count)) }
+    {
+        if let Some(refusal) = self.lease_refusal(version) {
+            return Err(CoreFault::Refused(refusal));
+        }
+        let lent = self.lent(alloc, version, count)?;
+        let job = self.job(alloc, &lent, count)?;
+        self.put_out(alloc, lent, count)?;
+        Ok(job)
+    }
+}
