@@ -1,1 +1,11 @@
+pub mod Alike
+pub mod Ancestors
+pub mod Entries
+pub mod HeldConflict
+pub mod InConflict
 pub mod Journal
+pub mod KeptBack
+pub mod Least
+pub mod Suppressed
+pub mod Tickets
+pub mod Withholding

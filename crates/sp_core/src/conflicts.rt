@@ -6,6 +6,7 @@ ghost use Rattle.sp_group.specs.Machine.{version_at};
 ghost use Rattle.sp_core.specs.Withheld.{lesser};
 ghost use Rattle.sp_core.specs.Suppressing.{conflict_at, least_suppressed, ready_ids, suppressed_within};
 
+use crate::lent::lent_under;
 use crate::withheld::{least_withheld, withheld_within};
 use crate::{Core, Memory};
 use sp_base::Numbers;
@@ -87,7 +88,7 @@ impl Core {
             return read;
         }
         let ticket = held.out?;
-        let lent = self.tickets.iter().find(|lent| lent.ticket == ticket)?;
+        let lent = lent_under(&self.tickets, ticket)?;
         self.least_suppressed(version, lent.first, lent.count, &lent.snapshot)
     }
 
