@@ -6,6 +6,7 @@ pub mod InConflict
 pub mod Journal
 pub mod KeptBack
 pub mod Least
+pub mod Range
 pub mod Suppressed
 pub mod Tickets
 pub mod Withholding

@@ -9,7 +9,7 @@ ghost use Rattle.sp_core.specs.Suppressing.{conflict_at, least_suppressed, ready
 use crate::lent::lent_under;
 use crate::withheld::{least_withheld, withheld_within};
 use crate::{Core, Memory};
-use sp_base::Numbers;
+use sp_base::{Numbers, rising_same};
 use sp_rules::every_schedule;
 use sp_version::least_unskipped;
 use std::alloc::Global;
@@ -37,7 +37,6 @@ impl Core {
         requires live { IsSome (version_at self.now.machine.versions version) }
         ensures { result ≡ least_suppressed self.now.plan self.now.machine version first count skipped.now.list }
     {
-        every_schedule();
         let mut found = None;
         let mut below = version;
         while let Some(parent) = self.tree.parent(below) {
@@ -64,8 +63,8 @@ impl Core {
         requires live { IsSome (version_at self.now.machine.versions version) }
         ensures { IfOk result (λ numbers. numbers.list ≡ suppressed_within self.now.plan self.now.machine version first count) }
     {
-        every_schedule();
-        let mut numbers = self.consumed.cut_to(alloc, first, count)?;
+        rising_same();
+        let mut numbers = Numbers::new(alloc);
         let mut below = version;
         while let Some(parent) = self.tree.parent(below) {
             let (Some(label), Some(held)) = (self.tree.label(below), self.tree.get(parent)) else {
@@ -74,6 +73,7 @@ impl Core {
             withheld_within(alloc, held, label, first, count, &mut numbers)?;
             below = parent;
         }
+        numbers.union(alloc, &self.consumed.cut_to(alloc, first, count)?)?;
         Ok(numbers)
     }
 
