@@ -3,7 +3,7 @@ ghost use Rattle.std.specs.Prelude.{◌≡◌, ◌≤◌, ℕ, None, Some, IfOk,
 ghost use Rattle.sp_plan.specs.WindowNumbers.{size};
 ghost use Rattle.sp_group.specs.declared.step.Step.TheVariants as s;
 ghost use Rattle.sp_core.specs.Faults.{IsFault};
-ghost use Rattle.sp_core.specs.Leasing.{HasBegun, IsLent, IsLeased, is_closed};
+ghost use Rattle.sp_core.specs.Leasing.{HasBegun, IsLent, IsLeased, is_closed, with_out};
 ghost use Rattle.sp_core.specs.Running.{IsDone, after, refused};
 
 use crate::rooms::{enter, make_room};
@@ -12,6 +12,8 @@ use sp_group::{Refusal, Step};
 use sp_piece::Job;
 use sp_plan::{Event, Listed};
 use sp_rules::every_schedule;
+use sp_tree::Tree;
+use sp_version::Version;
 use sp_window::{closed_come_first, windows_hold};
 use std::alloc::Global;
 
@@ -24,6 +26,15 @@ fn copies(alloc: Global, events: &[Event]) -> Result<Vec<Event>, Memory>
         list.push(event.copy(alloc)?)?;
     }
     Ok(list)
+}
+
+// A ticket is out for a version from now on.
+fn put_out_for(tree: &mut Tree<Version>, version: u64, ticket: u64)
+    ensures { tree.new ≡ with_out tree.old version ticket }
+{
+    if let Some(held) = tree.get_mut(version) {
+        held.out = Some(ticket);
+    }
 }
 
 impl Core {
@@ -121,7 +132,6 @@ impl Core {
         ensures ok { OnOk result (self.new ≡ after self.old (s.Lease lent.version count)) }
         ensures err { OnErr result (self.new ≡ self.old) }
     {
-        every_schedule();
         let version = lent.version;
         let ticket = lent.ticket;
         make_room(&mut self.journal, self.tree.live())?;
@@ -129,9 +139,7 @@ impl Core {
         // There is room for it.
         let _ = self.tickets.insert(0, lent);
         self.next_ticket += 1;
-        if let Some(held) = self.tree.get_mut(version) {
-            held.out = Some(ticket);
-        }
+        put_out_for(&mut self.tree, version, ticket);
         enter(&mut self.journal, Step::Lease { version, count }, 1);
         Ok(())
     }
