@@ -4,3 +4,4 @@ pub mod Owed
 pub mod Told
 pub mod Written
 pub mod Leased
+pub mod Lending
