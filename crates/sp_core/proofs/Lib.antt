@@ -1,1 +1,3 @@
 pub mod Journal
+pub mod KeptBack
+pub mod Least
