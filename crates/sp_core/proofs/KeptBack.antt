@@ -1,8 +1,11 @@
 -- What a parent keeps from a child, run by run.
-use Rattle.std.proofs.Common.{◌≡◌, ℕ, ◌+◌, ◌<◌, ◌≤◌, Bool, true, false, ◌&&◌, ◌||◌, List, [], ◌∷◌, length, map, take, get_or, refl, sym, ap, ◌∙◌, arith}
+use Rattle.std.proofs.Common.{◌≡◌, ℕ, ◌+◌, ◌<◌, ◌≤◌, Bool, true, false, ◌&&◌, ◌||◌, List, [], ◌∷◌, length, map, take, filter, get_or, ◌==◌, refl, sym, ap, ◌∙◌, arith}
 use Rattle.std.specs.List.{list_any}
 use Rattle.std.proofs.lemmas.List.{take_all}
+use Rattle.std.proofs.lemmas.Bool.{eqb-true}
 use Rattle.std.proofs.lemmas.List.Folds.{list_any_more}
+use Rattle.std.proofs.lemmas.Map.Views.{any-filter_same}
+use Rattle.sp_base.specs.Numbers.{has, is_within}
 use Rattle.sp_plan.specs.declared.plan.Plan.{Plan}
 use Rattle.sp_plan.specs.Runs.{Started, is_among, used as used_by}
 use Rattle.sp_match.specs.declared.run.Run.{Run}
@@ -78,3 +81,32 @@ kept_by_unnamed used label runs n i d within is unnamed =
 pub kept_by_all : (used label : List ℕ) (q : Plan) (runs : List Run) (open_runs : List Started) (n i : ℕ) → map seen_run runs ≡ map (shown q) open_runs → length runs ≤ n
     → is_kept_by used label runs n i ≡ (is_among used i || list_any (λ run. is_among label run.0 && is_among (used_by q run.1) i) open_runs)
 kept_by_all used label q runs open_runs n i same all = ap (λ (b : Bool). is_among used i || b) (held_by_all q runs open_runs label i n same all)
+
+-- numbers that are cut to those that pass a test
+pub has_filtered : (p : ℕ → Bool) (ns : List ℕ) (i : ℕ) → has (filter p ns) i ≡ (p i && has ns i)
+has_filtered p ns i = any-filter_same (λ (m : ℕ). m == i) p (p i) (λ k same. ap p (eqb-true k i same)) ns
+
+cut_more : (a w b c : Bool) → ((a || (w && b)) || (w && c)) ≡ (a || (w && (b || c)))
+cut_more true w b c = refl
+cut_more false true b c = refl
+cut_more false false b c = refl
+
+-- numbers that take in those of others that are within a range
+pub takes_in : (old new now : List ℕ) (first count : ℕ) (kept kept_now : ℕ → Bool) (before : ℕ → Bool)
+    → ((i : ℕ) → has old i ≡ (before i || (is_within first count i && kept i)))
+    → ((i : ℕ) → has new i ≡ (has old i || has (filter (is_within first count) now) i))
+    → ((i : ℕ) → (kept i || is_among now i) ≡ kept_now i)
+    → (i : ℕ) → has new i ≡ (before i || (is_within first count i && kept_now i))
+takes_in old new now first count kept kept_now before had has_now more i =
+    has_now i ∙ ap (λ (b : Bool). b || has (filter (is_within first count) now) i) (had i)
+    ∙ ap (λ (b : Bool). (before i || (is_within first count i && kept i)) || b) (has_filtered (is_within first count) now i)
+    ∙ cut_more (before i) (is_within first count i) (kept i) (is_among now i)
+    ∙ ap (λ (b : Bool). before i || (is_within first count i && b)) (more i)
+
+-- what its matches used, within a range
+pub takes_first : (old new used label : List ℕ) (runs : List Run) (first count : ℕ)
+    → ((i : ℕ) → has new i ≡ (has old i || has (filter (is_within first count) used) i))
+    → (i : ℕ) → has new i ≡ (has old i || (is_within first count i && is_kept_by used label runs 0 i))
+takes_first old new used label runs first count has_now i =
+    has_now i ∙ ap (λ (b : Bool). has old i || b) (has_filtered (is_within first count) used i)
+    ∙ ap (λ (b : Bool). has old i || (is_within first count i && b)) (kept_by_none used label runs i)
