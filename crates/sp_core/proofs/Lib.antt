@@ -1,7 +1,13 @@
-pub mod Journal
+pub mod Alike
+pub mod Ancestors
 pub mod Entries
-pub mod Owed
-pub mod Told
-pub mod Written
+pub mod Journal
+pub mod KeptBack
+pub mod Least
 pub mod Leased
 pub mod Lending
+pub mod Owed
+pub mod Suppressed
+pub mod Told
+pub mod Withholding
+pub mod Written
