@@ -1,5 +1,6 @@
 pub mod Alike
 pub mod Ancestors
+pub mod Conflicting
 pub mod Entries
 pub mod Journal
 pub mod KeptBack
@@ -7,6 +8,9 @@ pub mod Least
 pub mod Leased
 pub mod Lending
 pub mod Owed
+pub mod Pruning
+pub mod Renewing
+pub mod Rolled
 pub mod Suppressed
 pub mod Told
 pub mod Withholding
