@@ -13,5 +13,6 @@ pub mod Renewing
 pub mod Rolled
 pub mod Suppressed
 pub mod Told
+pub mod Unread
 pub mod Withholding
 pub mod Written

@@ -84,6 +84,7 @@ impl Core {
         ensures { IfOk result (IsLent self.now version count) }
     {
         every_schedule();
+        windows_hold();
         let Some(held) = self.tree.get(version) else {
             unreachable!()
         };
