@@ -7,3 +7,4 @@ pub mod Suppressing
 pub mod Withheld
 pub mod Leasing
 pub mod Spawning
+pub mod Renewing
