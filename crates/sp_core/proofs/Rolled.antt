@@ -1,5 +1,5 @@
 -- A core after a version began anew is what the machine makes of it.
-use Rattle.std.proofs.Common.{◌≡◌, ℕ, ◌+◌, ◌<◌, ◌≤◌, Bool, true, false, cond, not, ◌||◌, nat_lt, List, [], ◌∷◌, ◌++◌, length, map, Option, Some, None, is_some, refl, sym, ap, subst, ◌∙◌, arith}
+use Rattle.std.proofs.Common.{◌≡◌, ℕ, ◌+◌, ◌<◌, ◌≤◌, Bool, true, false, not, ◌||◌, nat_lt, List, [], ◌∷◌, ◌++◌, length, map, Option, Some, None, is_some, refl, sym, ap, subst, ◌∙◌, arith}
 use Rattle.std.specs.List.{All, sum}
 use Rattle.std.specs.Option.{option_map}
 use Rattle.sp_plan.specs.declared.plan.Plan.{Plan}
@@ -15,11 +15,11 @@ use Rattle.sp_group.specs.Refusing.{refuse_if, roll_refusal}
 use Rattle.sp_tree.specs.Grown as tree
 use Rattle.sp_tree.specs.Grown.{Grown, Entry, AreGrown}
 use Rattle.sp_rules.specs.Schedules.{EverySchedule}
-use Rattle.sp_core.specs.Running.{Running, IsDone, after, once, refused}
+use Rattle.sp_core.specs.Running.{Running, after, once, refused}
 use Rattle.sp_core.specs.Holding.{Holding, Holds, IsCore, machine_of, running, version_of}
 use Rattle.sp_core.specs.Carrying.{ticket_of}
-use Rattle.sp_core.specs.Renewing.{IsAnew, anew, all_anew}
-use Rattle.sp_core.specs.Rooms.{entries_for, entries_owed, is_touched, matches_held, numbers_held}
+use Rattle.sp_core.specs.Renewing.{IsAnew, anew}
+use Rattle.sp_core.specs.Rooms.{entries_for, is_touched, matches_held, numbers_held}
 use Rattle.sp_core.specs.Suppressing.{conflict_of, conflict_at}
 use Rattle.sp_core.proofs.Conflicting.{out_is, touched}
 use Rattle.sp_core.proofs.Journal.{reached, replayed_on}
