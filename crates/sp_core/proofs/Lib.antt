@@ -2,6 +2,9 @@ pub mod Alike
 pub mod Ancestors
 pub mod Conflicting
 pub mod Entries
+pub mod Finished
+pub mod HeirConflict
+pub mod Heirs
 pub mod HeldConflict
 pub mod InConflict
 pub mod Journal
@@ -9,12 +12,16 @@ pub mod KeptBack
 pub mod Leased
 pub mod Least
 pub mod Lending
+pub mod Numbering
 pub mod Owed
+pub mod Popped
 pub mod Pruning
 pub mod Range
 pub mod Renewing
 pub mod RisingLists
 pub mod Rolled
+pub mod Roots
+pub mod Settled
 pub mod Suppressed
 pub mod Tickets
 pub mod Told

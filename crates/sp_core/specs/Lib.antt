@@ -8,3 +8,4 @@ pub mod Withheld
 pub mod Leasing
 pub mod Spawning
 pub mod Renewing
+pub mod Finishing
