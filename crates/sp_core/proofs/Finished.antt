@@ -37,7 +37,8 @@ use Rattle.sp_core.proofs.HeirConflict.{versions_then}
 use Rattle.sp_core.proofs.Heirs.{CameOf, came_of, idle, orphan, orphaned, other, popped_from}
 use Rattle.sp_core.proofs.Journal.{reached, replayed_on}
 use Rattle.sp_core.proofs.Numbering.{numbered_on}
-use Rattle.sp_core.proofs.Pruning.{all_at, all_pruned, sum_without}
+use Rattle.sp_core.proofs.Entries.{found_of_all}
+use Rattle.sp_core.proofs.Pruning.{all_pruned, sum_without}
 use Rattle.sp_core.proofs.RisingLists.{among_numbers, numbers_rise, union_is}
 use Rattle.sp_core.proofs.Roots.{Done, done_is, root_id}
 use Rattle.sp_core.proofs.Settled.{Settles, settles}
@@ -94,7 +95,7 @@ module _ (law : EverySchedule) (h : Holding) (c : IsCore h) (root window : ℕ) 
   kept = (reached law h c).kept
 
   holds : Holds h.plan h.events (map ticket_of h.tickets) held_root
-  holds = all_at kin (Holds h.plan h.events (map ticket_of h.tickets)) h.tree.entries root held_root c.versions d.at.is
+  holds = found_of_all (Holds h.plan h.events (map ticket_of h.tickets)) h.tree.entries root held_root c.versions d.at.is
 
   window_next : window ≡ h.finished + 1
   window_next = sym d.window_is ∙ root_window h h.tree.entries kept.sane.shape root held_root d.at.is d.at.top

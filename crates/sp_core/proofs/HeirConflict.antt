@@ -19,7 +19,8 @@ use Rattle.sp_core.specs.Suppressing.{conflict_at, conflict_of}
 use Rattle.sp_core.proofs.Ancestors.{suppressed_child, suppressed_root}
 use Rattle.sp_core.proofs.Heirs.{Heir, no_heir, only_heir, orphaned, popped_from}
 use Rattle.sp_core.proofs.Least.{least_alike}
-use Rattle.sp_core.proofs.Pruning.{at_version, promoted_pruned}
+use Rattle.sp_core.proofs.Entries.{version_found}
+use Rattle.sp_core.proofs.Pruning.{promoted_pruned}
 use Rattle.sp_core.proofs.Renewing.{at_entry}
 use Rattle.sp_core.proofs.RisingLists.{among_numbers}
 use Rattle.sp_core.proofs.Roots.{Done, root_id}
@@ -91,5 +92,5 @@ module _ (h : Holding) (c : IsCore h) (k : Kept h.plan (machine_of h)) (root win
       → conflict_at h.plan (machine_of h) id ≡ heir_conflict h.plan (machine_of h) (machine.root_in (machine_of h).versions)
   heir_in_conflict id child =
       let x = only_heir h.plan h.events h.finished h.tree.next h.tree.entries c.grown.fall k.sane.shape root d.is_root d.at d.done id child.0 child.1 child.2 child.3 in
-      ap (conflict_of h.plan (machine_of h)) (at_version h.tree.entries id ∙ ap (option_map version_of) x.is)
+      ap (conflict_of h.plan (machine_of h)) (version_found h.tree.entries id ∙ ap (option_map version_of) x.is)
       ∙ same_conflict id x ∙ heir_of (Some (version_of (orphaned x.was))) x.version

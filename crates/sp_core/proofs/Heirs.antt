@@ -15,7 +15,8 @@ use Rattle.sp_tree.specs.Changes.{promoted}
 use Rattle.sp_tree.specs.Grown.{Entry, FallFrom, LacksChild, kin, lifted, root_in, with_version}
 use Rattle.sp_rules.specs.Kept.{Child, Shape, Stands}
 use Rattle.sp_core.specs.Holding.{version_of}
-use Rattle.sp_core.proofs.Pruning.{at_version, fall_pruned}
+use Rattle.sp_core.proofs.Entries.{version_found}
+use Rattle.sp_core.proofs.Pruning.{fall_pruned}
 use Rattle.sp_core.proofs.Renewing.{at_entry}
 use Rattle.sp_core.proofs.Roots.{Root, root_below}
 
@@ -173,7 +174,7 @@ module _ (q : Plan) (f : machine.Version → State) where
 
       other : (z w : Entry Version) (id : ℕ) → e ≡ z → z.version.parent ≡ Some p → entry_at kin es id ≡ Some w → w.version.parent ≡ Some p
           → w.version.label ≡ z.version.label → ⊥
-      other z w id is zp there wp label = (child z is zp).apart id (version_of w) (at_version es id ∙ ap (option_map version_of) there) wp label
+      other z w id is zp there wp label = (child z is zp).apart id (version_of w) (version_found es id ∙ ap (option_map version_of) there) wp label
 
       one : (c d : Bool) → cond c (Some e) (entry_at kin es a) ≡ Some x → cond d (Some e) (entry_at kin es b) ≡ Some y
           → (entry_at kin es a ≡ Some x → entry_at kin es b ≡ Some y → x ≡ y) → x ≡ y
@@ -245,7 +246,7 @@ module _ (q : Plan) (events : List Event) (finished top : ℕ) (es : List (Entry
   unlabelled : (id : ℕ) (x : Entry Version) → entry_at kin es id ≡ Some x → x.version.parent ≡ Some root → x.version.label ≡ []
   unlabelled id x at child =
       let a = above q (inner q events) finished es shape id root x at child in
-      let same : a.parent ≡ version_of r.entry = same_Some a.parent (version_of r.entry) (sym a.is ∙ at_version es root ∙ ap (option_map version_of) r.is) in
+      let same : a.parent ≡ version_of r.entry = same_Some a.parent (version_of r.entry) (sym a.is ∙ version_found es root ∙ ap (option_map version_of) r.is) in
       no_name x.version.label
       (λ n named. true≢false (sym (a.names n named) ∙ ap (λ (u : machine.Version). is_group q (inner q events u) n) same ∙ idle q events (version_of r.entry) done n))
 

@@ -14,7 +14,7 @@ use Rattle.sp_core.specs.Finishing.{IsSettled}
 use Rattle.sp_core.specs.Holding.{Holding, Holds, machine_of, version_of}
 use Rattle.sp_core.specs.Rooms.{entries_for, matches_held, numbers_held}
 use Rattle.sp_core.specs.Suppressing.{conflict_at, conflict_of}
-use Rattle.sp_core.proofs.Pruning.{at_version}
+use Rattle.sp_core.proofs.Entries.{version_found}
 use Rattle.sp_core.proofs.Rolled.{all_hold, entries_anew, machine_anew, matches_anew, numbers_anew}
 use Rattle.sp_core.proofs.Roots.{root_entry, root_id}
 
@@ -61,7 +61,7 @@ module _ (h : Holding) (all : All (Holds h.plan h.events (map ticket_of h.ticket
       one (Some id) is true told a =
           let r = root_entry h.tree id grown is in
           let u = version_of r.entry in
-          let there : version_at (machine_of h).versions id ≡ Some u = at_version h.tree.entries id ∙ ap (option_map version_of) r.is in
+          let there : version_at (machine_of h).versions id ≡ Some u = version_found h.tree.entries id ∙ ap (option_map version_of) r.is in
           let conflicts : is_some (conflict h.plan (machine_of h) u) ≡ true = ap (λ o. is_some (conflict_of h.plan (machine_of h) o)) (sym r.version) ∙ sym told in
           let hit : is_some (conflict_at h.plan (machine_of h) id) ≡ true = ap (λ o. is_some (conflict_of h.plan (machine_of h) o)) there ∙ conflicts in
           let less = entries_anew h all free id t a hit in
