@@ -20,3 +20,4 @@ pub mod Losses
 pub mod GoesOn
 pub mod Bound
 pub mod Reached
+pub mod Returning

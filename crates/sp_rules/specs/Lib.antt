@@ -1,3 +1,4 @@
 pub mod Lawful
 pub mod Kept
 pub mod Schedules
+pub mod Returning

@@ -6,6 +6,7 @@
 ghost use Rattle.sp_plan.specs.declared.plan.Plan.{Plan};
 ghost use Rattle.sp_plan.specs.Compiled.{IsCompiled};
 ghost use Rattle.sp_rules.specs.Lawful.{Lawful};
+ghost use Rattle.sp_rules.specs.Returning.{ReadingsAndReturn};
 ghost use Rattle.sp_rules.specs.Schedules.{EverySchedule};
 
 use sp_match::{
@@ -50,3 +51,9 @@ pub fn every_schedule()
 {
     compiled_plans_are_lawful();
 }
+
+/// Law: a ticket of which nothing was read is read event by event, up to its closing where that is
+/// lent, and returns: none of these steps is refused, and what was read comes home.
+pub fn readings_and_return()
+    ensures { ReadingsAndReturn }
+{}
