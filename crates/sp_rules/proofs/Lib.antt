@@ -21,3 +21,4 @@ pub mod GoesOn
 pub mod Bound
 pub mod Reached
 pub mod Returning
+pub mod ComingHome

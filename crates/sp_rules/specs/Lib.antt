@@ -2,3 +2,4 @@ pub mod Lawful
 pub mod Kept
 pub mod Schedules
 pub mod Returning
+pub mod ComingHome

@@ -5,6 +5,7 @@
 
 ghost use Rattle.sp_plan.specs.declared.plan.Plan.{Plan};
 ghost use Rattle.sp_plan.specs.Compiled.{IsCompiled};
+ghost use Rattle.sp_rules.specs.ComingHome.{PiecesComeHome};
 ghost use Rattle.sp_rules.specs.Lawful.{Lawful};
 ghost use Rattle.sp_rules.specs.Returning.{ReadingsAndReturn};
 ghost use Rattle.sp_rules.specs.Schedules.{EverySchedule};
@@ -57,3 +58,11 @@ pub fn every_schedule()
 pub fn readings_and_return()
     ensures { ReadingsAndReturn }
 {}
+
+/// Law: what a live version's ticket lends, read on from the version's runs, leads to the runs of the
+/// version once it has come home.
+pub fn pieces_come_home()
+    ensures { PiecesComeHome }
+{
+    compiled_plans_are_lawful();
+}
