@@ -22,3 +22,4 @@ pub mod Bound
 pub mod Reached
 pub mod Returning
 pub mod ComingHome
+pub mod ByGroups

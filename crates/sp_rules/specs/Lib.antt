@@ -3,3 +3,4 @@ pub mod Kept
 pub mod Schedules
 pub mod Returning
 pub mod ComingHome
+pub mod ByGroups

@@ -5,6 +5,7 @@
 
 ghost use Rattle.sp_plan.specs.declared.plan.Plan.{Plan};
 ghost use Rattle.sp_plan.specs.Compiled.{IsCompiled};
+ghost use Rattle.sp_rules.specs.ByGroups.{ReturnsByGroups, VersionsHaveGroups};
 ghost use Rattle.sp_rules.specs.ComingHome.{PiecesComeHome};
 ghost use Rattle.sp_rules.specs.Lawful.{Lawful};
 ghost use Rattle.sp_rules.specs.Returning.{ReadingsAndReturn};
@@ -63,6 +64,21 @@ pub fn readings_and_return()
 /// version once it has come home.
 pub fn pieces_come_home()
     ensures { PiecesComeHome }
+{
+    compiled_plans_are_lawful();
+}
+
+/// Law: the runs of every version have their groups, which are a label.
+pub fn versions_have_groups()
+    ensures { VersionsHaveGroups }
+{
+    compiled_plans_are_lawful();
+}
+
+/// Law: what a piece that comes home does to the versions is what the decisions of its version's groups
+/// do: those that are no group any more are completed where they matched, and else abandoned.
+pub fn returns_by_groups()
+    ensures { ReturnsByGroups }
 {
     compiled_plans_are_lawful();
 }
