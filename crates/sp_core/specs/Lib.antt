@@ -7,3 +7,5 @@ pub mod Suppressing
 pub mod Withheld
 pub mod Leasing
 pub mod Spawning
+pub mod Returning
+pub mod Homecoming

@@ -1,0 +1,212 @@
+// What a piece brings home, made before anything is changed.
+ghost use Rattle.std.specs.Prelude.{◌≡◌, ◌+◌, ◌<◌, ◌≤◌, [], map, length, IfOk, IfErr, OnOk, OnErr};
+ghost use Rattle.std.specs.List.{All, flat_map};
+ghost use Rattle.sp_group.specs.Rising.{with_numbers};
+ghost use Rattle.sp_core.specs.Homecoming.{AreLeft, AreNumbered, CanDecide, HasAll, HasRoomFor, IsBrought, IsDecided, IsSameButRooms, IsTakenUp, IsWith, completions, is_grouped, spent_run, unnumbered_told, used_told};
+
+use crate::Memory;
+use sp_base::Numbers;
+use sp_group::{Label, Outcome};
+use sp_match::{Matcher, Move, Moves, match_of};
+use sp_piece::Piece;
+use sp_plan::Match;
+use sp_tree::{Tree, decisions_add_up};
+use sp_version::Version;
+use std::alloc::Global;
+
+// What a piece brings home beside its matcher.
+#[derive(Drop)]
+pub(crate) struct Brought {
+    // The matches of the runs that completed, twice.
+    pub(crate) matches: Vec<Match>,
+    pub(crate) copies: Vec<Match>,
+    // The runs that completed and used an event.
+    pub(crate) completed: Vec<u32>,
+    // The numbers that they used.
+    pub(crate) used: Numbers,
+    // The groups of the version that were open, are open now, or completed.
+    pub(crate) groups: Label,
+}
+
+// The matches of the runs that completed, which are not numbered yet.
+fn matches_of(alloc: Global, window: u32, moves: &[Moves]) -> Result<Vec<Match>, Memory>
+    ensures { IfOk result (λ matches. matches.items ≡ map (unnumbered_told window) (completions moves.now)) }
+{
+    let mut matches = Vec::new(alloc);
+    for told in moves {
+        for one in &told.list {
+            if let Move::Completed { bound, used, .. } = one {
+                matches.push(match_of(alloc, window, 0, bound.as_slice(), used)?)?;
+            }
+        }
+    }
+    Ok(matches)
+}
+
+// The runs that completed and used an event.
+fn completed_of(alloc: Global, moves: &[Moves]) -> Result<Vec<u32>, Memory>
+    ensures { IfOk result (λ runs. runs.items ≡ flat_map spent_run (completions moves.now)) }
+{
+    let mut runs = Vec::new(alloc);
+    for told in moves {
+        for one in &told.list {
+            if let Move::Completed { run, used, .. } = one {
+                if !used.list().is_empty() {
+                    runs.push(*run)?;
+                }
+            }
+        }
+    }
+    Ok(runs)
+}
+
+// The numbers that the runs used which completed.
+fn used_of(alloc: Global, moves: &[Moves]) -> Result<Numbers, Memory>
+    ensures { IfOk result (λ numbers. numbers.list ≡ with_numbers [] (flat_map used_told (completions moves.now))) }
+{
+    let mut numbers = Numbers::new(alloc);
+    for told in moves {
+        for one in &told.list {
+            if let Move::Completed { used, .. } = one {
+                numbers.union(alloc, used)?;
+            }
+        }
+    }
+    Ok(numbers)
+}
+
+// Takes a run in, if it isn't among the groups.
+fn add_group(groups: &mut Label, run: u32) -> Result<(), Memory>
+    requires { 1 ≤ run }
+    ensures { OnOk result (IsWith groups.old run groups.new) }
+{
+    if groups.has(run) {
+        return Ok(());
+    }
+    groups.insert(run)
+}
+
+// The groups of a version with those that are open after a reading, and those that completed.
+fn groups_with(mut groups: Label, after: &Matcher, completed: &[u32]) -> Result<Label, Memory>
+    requires numbered { AreNumbered after.now }
+    requires given { All (λ run. 1 ≤ run) completed.now }
+    ensures { IfOk result (HasAll groups after.now completed.now) }
+{
+    for run in after.open_runs() {
+        if !run.used.list().is_empty() {
+            add_group(&mut groups, run.number)?;
+        }
+    }
+    for run in completed {
+        add_group(&mut groups, *run)?;
+    }
+    Ok(groups)
+}
+
+// Whether an open run of that number holds an event for consumption.
+pub(crate) fn is_grouped(matcher: &Matcher, number: u32) -> bool
+    ensures { result ≡ is_grouped matcher.now number }
+{
+    matcher
+        .open_runs()
+        .iter()
+        .any(|run| run.number == number && !run.used.list().is_empty())
+}
+
+// Makes what a reading brings home to a version of the window, which had these open groups.
+pub(crate) fn bring(
+    alloc: Global,
+    window: u32,
+    groups: Label,
+    after: &Matcher,
+    moves: &[Moves],
+) -> Result<Brought, Memory>
+    requires numbered { AreNumbered after.now }
+    requires given { All (λ run. 1 ≤ run) (flat_map spent_run (completions moves.now)) }
+    ensures { IfOk result (IsBrought window groups after.now moves.now) }
+{
+    let completed = completed_of(alloc, moves)?;
+    let groups = groups_with(groups, after, &completed)?;
+    Ok(Brought {
+        matches: matches_of(alloc, window, moves)?,
+        copies: matches_of(alloc, window, moves)?,
+        completed,
+        used: used_of(alloc, moves)?,
+        groups,
+    })
+}
+
+// Takes in numbers for which there is room.
+fn put_all(numbers: &mut Numbers, more: &[u32])
+    requires { length more.now ≤ numbers.old.spare }
+    ensures { numbers.new.list ≡ with_numbers numbers.old.list more.now }
+{
+    for n in more {
+        numbers.put(*n);
+    }
+}
+
+// The version takes up what was read and brought; after want of memory it is the same but for its rooms, and
+// the piece is handed back.
+pub(crate) fn take_up(
+    alloc: Global,
+    held: &mut Version,
+    piece: Piece,
+    brought: &mut Brought,
+) -> Result<(), Piece>
+    requires few { held.old.position + piece.read < 4294967296 }
+    ensures ok { OnOk result (IsTakenUp held.old piece brought.old held.new) }
+    ensures rest { OnOk result (AreLeft brought.old brought.new) }
+    ensures err { OnErr result (IsSameButRooms held.old held.new) }
+    ensures back { IfErr result (λ back. back ≡ piece) }
+{
+    let job = piece.job();
+    let Ok(passed) = job.snapshot.cut_to(alloc, 0, job.first + piece.read()) else {
+        return Err(piece);
+    };
+    if make_rooms(held, &passed, brought).is_err() {
+        return Err(piece);
+    }
+    held.position += piece.read();
+    held.done = held.done || piece.closed();
+    held.out = None;
+    held.matcher = piece.into_after();
+    put_all(&mut held.skipped, passed.list());
+    put_all(&mut held.used, brought.used.list());
+    let _ = held.matches.append(&mut brought.matches);
+    let _ = held.copies.append(&mut brought.copies);
+    Ok(())
+}
+
+// Makes room in a version for what comes.
+fn make_rooms(held: &mut Version, passed: &Numbers, brought: &Brought) -> Result<(), Memory>
+    ensures same { IsSameButRooms held.old held.new }
+    ensures ok { OnOk result (HasRoomFor held.new passed.now.list brought.now) }
+{
+    held.skipped.reserve(passed.list().len() as u32)?;
+    held.used.reserve(brought.used.list().len() as u32)?;
+    held.matches.reserve(brought.matches.len())?;
+    held.copies.reserve(brought.copies.len())
+}
+
+// Decides each open group of a live version that its matcher has no more.
+pub(crate) fn decide_ended(tree: &mut Tree<Version>, owner: u64, completed: &[u32])
+    requires { CanDecide tree.old owner }
+    ensures { IsDecided tree.old owner completed.now tree.new }
+{
+    decisions_add_up::<Version>();
+    let mut i = 0;
+    while i < tree.groups(owner).len() {
+        let run = tree.groups(owner)[i];
+        let Some(held) = tree.get(owner) else {
+            unreachable!()
+        };
+        if is_grouped(&held.matcher, run) {
+            i += 1;
+        } else if completed.contains(&run) {
+            tree.decide(owner, run, Outcome::Completed);
+        } else {
+            tree.decide(owner, run, Outcome::Abandoned);
+        }
+    }
+}
