@@ -9,3 +9,4 @@ pub mod Leasing
 pub mod Spawning
 pub mod Returning
 pub mod Homecoming
+pub mod Showing

@@ -12,6 +12,7 @@ mod given;
 mod homecoming;
 mod leasing;
 mod lent;
+mod looking;
 mod machine;
 mod returning;
 mod rolling;
