@@ -6,6 +6,8 @@ mod going;
 mod job;
 mod piece;
 mod stepped;
+#[cfg(test)]
+mod tests;
 
 pub use job::Job;
 pub use piece::Piece;
