@@ -1,5 +1,5 @@
 -- The decisions of groups do to labels what a reading does.
-use Rattle.std.proofs.Common.{◌≡◌, ◌≢◌, ℕ, ◌<◌, ◌≤◌, ◌⊎◌, Bool, true, false, cond, not, ◌||◌, ◌==◌, List, [], ◌∷◌, ◌++◌, filter, map, Option, Some, None, ⊎_elim, refl, sym, ap, ◌∙◌, subst, arith}
+use Rattle.std.proofs.Common.{◌≡◌, ◌≢◌, ℕ, ◌<◌, ◌≤◌, ◌⊎◌, Bool, true, false, cond, not, ◌&&◌, ◌||◌, ◌==◌, List, [], ◌∷◌, ◌++◌, filter, map, Option, Some, None, ⊎_elim, refl, sym, ap, ◌∙◌, subst, arith}
 use Rattle.std.specs.List.{All, flat_map, list_all, list_any}
 use Rattle.std.proofs.lemmas.Bool.Decides.{nat_tests}
 use Rattle.std.proofs.lemmas.List.{append-nil}
@@ -22,7 +22,7 @@ use Rattle.sp_rules.specs.Kept.{Lent, Shape}
 use Rattle.sp_rules.specs.Lawful.{Lawful}
 use Rattle.sp_rules.specs.Returning.{read_to}
 use Rattle.sp_rules.specs.ComingHome.{IsComingHome, come_home}
-use Rattle.sp_rules.specs.ByGroups.{grouped, HasGroups, VersionHasGroups, outcome_in, ended, AreToDecide, child_of_decided, after_decisions, IsByGroups}
+use Rattle.sp_rules.specs.ByGroups.{using_runs, grouped, HasGroups, VersionHasGroups, outcome_in, ended, AreToDecide, child_of_decided, after_decisions, IsByGroups}
 use Rattle.sp_rules.proofs.Facts.{ReadsOn, facts, group_open, spent_matched}
 use Rattle.sp_rules.proofs.Lists.{or_right, and_left, and_both, same_bool, absent, not_true, mem_filter, filter_mem, all_mem}
 use Rattle.sp_rules.proofs.RisingLists.{Rises, rises, rising_same}
@@ -92,6 +92,24 @@ module _ (q : Plan) where
   open_among [] r = refl
   open_among (x ∷ runs) r = ap (λ (b : Bool). x.0 == r || b) (open_among runs r)
 
+  any_among : (runs : List Started) (r : ℕ) → list_any (λ (run : Started). run.0 == r && has_number (used q run.1)) runs ≡ is_among (using_runs q runs) r
+  any_among [] r = refl
+  any_among (x ∷ runs) r = one (has_number (used q x.1)) (any_among runs r)
+    where
+      last : (a : Bool) → (a && true) ≡ a
+      last true = refl
+      last false = refl
+
+      none : (a : Bool) → (a && false) ≡ false
+      none true = refl
+      none false = refl
+
+      one : (b : Bool) → list_any (λ (run : Started). run.0 == r && has_number (used q run.1)) runs ≡ is_among (using_runs q runs) r
+          → ((x.0 == r && b) || list_any (λ (run : Started). run.0 == r && has_number (used q run.1)) runs)
+          ≡ is_among (map (λ (run : Started). run.0) (cond b (x ∷ filter (λ (run : Started). has_number (used q run.1)) runs) (filter (λ (run : Started). has_number (used q run.1)) runs))) r
+      one true rest = ap (λ (a : Bool). a || list_any (λ (run : Started). run.0 == r && has_number (used q run.1)) runs) (last (x.0 == r)) ∙ ap (λ (a : Bool). x.0 == r || a) rest
+      one false rest = ap (λ (a : Bool). a || list_any (λ (run : Started). run.0 == r && has_number (used q run.1)) runs) (none (x.0 == r)) ∙ rest
+
   given_numbers : (n : ℕ) (runs : List Started) → All (λ (run : Started). (1 ≤ run.0) × (run.0 ≤ n)) runs → All (λ r. r ≢ 0) (map (λ (run : Started). run.0) runs)
   given_numbers n runs given = All-map (λ r. r ≢ 0) (λ (run : Started). run.0) runs (λ k d within none. let low = (given k d within).0 in absurd (omega (arith, none)))
 
@@ -101,8 +119,8 @@ module _ (q : Plan) where
       rising = IsStrictlyIncreasing-filter (is_group q s) (map (λ (run : Started). run.0) s.open_runs) sound.ordered.rising;
       given = All-filter (is_group q s) (λ r. r ≢ 0) (map (λ (run : Started). run.0) s.open_runs) (given_numbers s.started s.open_runs sound.ordered.given);
     });
-    are = λ r. ap (λ (z : List ℕ). is_among z r) listed ∙ same_bool (is_among (filter (is_group q s) numbers) r) (is_group q s r)
-        (λ h. (mem_filter r (is_group q s) numbers h).1) (λ h. filter_mem r (is_group q s) numbers (open_among s.open_runs r ∙ group_open q law s r h) h);
+    are = are;
+    any = λ r. any_among s.open_runs r ∙ are r;
   }
     where
       numbers : List ℕ
@@ -111,7 +129,11 @@ module _ (q : Plan) where
       listed : grouped q s ≡ filter (is_group q s) (map (λ (run : Started). run.0) s.open_runs)
       listed = grouped_in s.open_runs (rises (map (λ (run : Started). run.0) s.open_runs) sound.ordered.rising)
 
-  inner_sound : (law : Lawful q) (events : List Event) (v : Version) → Sound (inner q events v)
+      are : (r : ℕ) → is_among (grouped q s) r ≡ is_group q s r
+      are r = ap (λ (z : List ℕ). is_among z r) listed ∙ same_bool (is_among (filter (is_group q s) numbers) r) (is_group q s r)
+          (λ h. (mem_filter r (is_group q s) numbers h).1) (λ h. filter_mem r (is_group q s) numbers (open_among s.open_runs r ∙ group_open q law s r h) h)
+
+  pub inner_sound : (law : Lawful q) (events : List Event) (v : Version) → Sound (inner q events v)
   inner_sound law events v = one v.done
     where
       one : (b : Bool) → Sound (cond b (after_closing (reading q events v.skipped (first q events v.window) v.position)) (reading q events v.skipped (first q events v.window) v.position))
@@ -211,6 +233,12 @@ module _ (q : Plan) where
         (λ r m. let x = mem_filter r (λ r. not (is_among (ended q t groups) r)) groups m in has.are r ∙ sym (left_if r x.0) ∙ x.1)
         (λ r m. let g = sym (has.are r) ∙ m in let a = to.after r g in filter_mem r (λ r. not (is_among (ended q t groups) r)) groups a (left_if r a ∙ g))
 
+  -- the ticket, read so far
+  pub lent_so_far : (law : Lawful q) (m : Machine) (n : ℕ) (t : Ticket) (v : Version) (k : ℕ) (closed : Bool) → IsComingHome q m n t v k closed → Lent q m.events m.ended (is_suppressed q m t.version) v (read_to t k closed)
+  lent_so_far law m n t v k closed comes =
+      let l = lent_is q law m n t v k closed comes in
+      record { begins = l.begins; fits = l.fits; closes = l.closes; undone = l.undone; snapshot = l.snapshot; reads = comes.so_far.within; shuts = comes.so_far.last }
+
   -- rules that do the same to each version
   prune_same : (f : Version → State) (fin : ℕ) (rule other : Version → Option Version) (vs : List Version) → Shape q f fin vs → Each (λ w. rule w ≡ other w) vs → prune kin rule vs ≡ prune kin other vs
   prune_same f fin rule other [] shape same = refl
@@ -236,11 +264,8 @@ module _ (q : Plan) where
       s' : State
       s' = inner q m.events (come_home v t k closed)
 
-      lent : Lent q m.events m.ended (is_suppressed q m t.version) v (read_to t k closed)
-      lent = let l = lent_is q law m n t v k closed comes in record { begins = l.begins; fits = l.fits; closes = l.closes; undone = l.undone; snapshot = l.snapshot; reads = comes.so_far.within; shuts = comes.so_far.last }
-
       on : ReadsOn q (inner q m.events v) (inner q m.events (come_home v t k closed))
-      on = home_leads q (facts q law) m.events m.ended (is_suppressed q m t.version) v (read_to t k closed) lent
+      on = home_leads q (facts q law) m.events m.ended (is_suppressed q m t.version) v (read_to t k closed) (lent_so_far law m n t v k closed comes)
 
       apart : (r : ℕ) → is_group q (inner q m.events (come_home v t k closed)) r ≡ true → is_spent q (inner q m.events (come_home v t k closed)) r ≡ true → ⊥
       apart = group_unspent law (inner q m.events (come_home v t k closed)) (inner_sound law m.events (come_home v t k closed))

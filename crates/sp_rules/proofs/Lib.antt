@@ -23,3 +23,4 @@ pub mod Reached
 pub mod Returning
 pub mod ComingHome
 pub mod ByGroups
+pub mod Adding

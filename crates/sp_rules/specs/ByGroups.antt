@@ -1,11 +1,13 @@
 -- What a piece that comes home does to the versions, said by groups: which of its version's groups are open still, and what became of the
 -- others.
-use Rattle.std.specs.Prelude.{◌≡◌, ◌⊎◌, ℕ, Bool, true, not, List, filter, map, Option, Some, None, ◌==◌, if◌then◌else◌}
+use Rattle.std.specs.Prelude.{◌≡◌, ◌⊎◌, ℕ, Bool, true, not, ◌&&◌, List, ◌++◌, filter, map, Option, Some, None, ◌==◌, if◌then◌else◌}
+use Rattle.std.specs.List.{flat_map, list_any}
 use Rattle.std.specs.List.Sorted.{IsStrictlyIncreasing}
 use Rattle.sp_plan.specs.declared.event.Event.{Event}
 use Rattle.sp_plan.specs.declared.plan.Plan.{Plan}
 use Rattle.sp_plan.specs.Compiled.{IsCompiled}
-use Rattle.sp_plan.specs.Runs.{State, is_among, used}
+use Rattle.sp_plan.specs.Runs.{Started, State, is_among, used}
+use Rattle.sp_plan.specs.Groups.{used_by_all}
 use Rattle.sp_match.specs.public.Laws.{Sound}
 use Rattle.sp_group.specs.declared.outcome.Outcome.{Outcome}
 use Rattle.sp_group.specs.declared.outcome.Outcome.TheVariants.{Completed, Abandoned}
@@ -16,14 +18,19 @@ use Rattle.sp_group.specs.Machine.{Version, Ticket, Machine, kin, inner, is_grou
 use Rattle.sp_group.specs.Effects.{is_newly_spent, child_after, after_reading}
 use Rattle.sp_rules.specs.ComingHome.{IsComingHome, come_home}
 
+-- those of these runs that bind an event to a consumed name, by their numbers
+abbrev pub using_runs : Plan → List Started → List ℕ
+using_runs q runs = map (λ run. run.0) (filter (λ run. has_number (used q run.1)) runs)
+
 -- the open runs that have a group, by rising number
 abbrev pub grouped : Plan → State → List ℕ
-grouped q s = map (λ run. run.0) (filter (λ run. has_number (used q run.1)) s.open_runs)
+grouped q s = using_runs q s.open_runs
 
 -- They are a label, and those of which it is said that they have a group.
 pub record HasGroups (q : Plan) (s : State) : Type 0 where
   pub label : IsLabel (grouped q s)
   pub are : (run : ℕ) → is_among (grouped q s) run ≡ is_group q s run
+  pub any : (run : ℕ) → list_any (λ one. one.0 == run && has_number (used q one.1)) s.open_runs ≡ is_group q s run
 
 -- The runs of a version use each number once, and have their groups.
 pub record VersionHasGroups (q : Plan) (events : List Event) (v : Version) : Type 0 where
@@ -40,6 +47,19 @@ outcome_in q t run = if is_spent q t run then Completed else Abandoned
 -- those of these runs that have no group in the runs t
 abbrev pub ended : Plan → State → List ℕ → List ℕ
 ended q t groups = filter (λ run. not (is_group q t run)) groups
+
+-- Matches came behind the others on the way from the runs s to the runs t: those of them that used an event are the runs of which this is
+-- said, and what they used comes behind what was used before.
+pub record AddsMatches (q : Plan) (s t : State) : Type 0 where
+  pub later : List Started
+  pub matched : t.matched ≡ s.matched ++ later
+  pub spent : (run : ℕ) → is_newly_spent q s t run ≡ is_among (using_runs q later) run
+  pub used : used_by_all q t ≡ used_by_all q s ++ flat_map (used q) (map (λ run. run.1) later)
+
+-- A piece that comes home adds matches to those of its version.
+abbrev pub ComingHomeAddsMatches : Type 0
+ComingHomeAddsMatches = (q : Plan) (m : Machine) (n : ℕ) (t : Ticket) (v : Version) (k : ℕ) (closed : Bool) → IsCompiled q → IsComingHome q m n t v k closed
+    → AddsMatches q (inner q m.events v) (inner q m.events (come_home v t k closed))
 
 -- These are the runs that have a group in the runs s or in the runs t, or matched on the way from s to t and used an event.
 pub record AreToDecide (q : Plan) (s t : State) (groups : List ℕ) : Type 0 where

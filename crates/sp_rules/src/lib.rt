@@ -5,7 +5,7 @@
 
 ghost use Rattle.sp_plan.specs.declared.plan.Plan.{Plan};
 ghost use Rattle.sp_plan.specs.Compiled.{IsCompiled};
-ghost use Rattle.sp_rules.specs.ByGroups.{ReturnsByGroups, VersionsHaveGroups};
+ghost use Rattle.sp_rules.specs.ByGroups.{ComingHomeAddsMatches, ReturnsByGroups, VersionsHaveGroups};
 ghost use Rattle.sp_rules.specs.ComingHome.{PiecesComeHome};
 ghost use Rattle.sp_rules.specs.Lawful.{Lawful};
 ghost use Rattle.sp_rules.specs.Returning.{ReadingsAndReturn};
@@ -79,6 +79,14 @@ pub fn versions_have_groups()
 /// do: those that are no group any more are completed where they matched, and else abandoned.
 pub fn returns_by_groups()
     ensures { ReturnsByGroups }
+{
+    compiled_plans_are_lawful();
+}
+
+/// Law: a piece that comes home adds matches behind those of its version, and the runs that then have
+/// used an event, and had not before, are those of these matches that did.
+pub fn coming_home_adds_matches()
+    ensures { ComingHomeAddsMatches }
 {
     compiled_plans_are_lawful();
 }
