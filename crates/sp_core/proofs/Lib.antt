@@ -1,1 +1,2 @@
+pub mod HeldByIds
 pub mod Journal
