@@ -1,8 +1,10 @@
 // What a piece brings home, made before anything is changed.
-ghost use Rattle.std.specs.Prelude.{◌≡◌, ◌+◌, ◌<◌, ◌≤◌, ◌++◌, [], map, length, IfOk, IfErr, OnOk, OnErr};
+ghost use Rattle.std.specs.Prelude.{◌≡◌, ◌+◌, ◌<◌, ◌≤◌, ◌++◌, [], map, length, IfOk, IfErr, IfSome, OnOk, OnErr};
 ghost use Rattle.std.specs.List.{All, flat_map};
 ghost use Rattle.sp_group.specs.Rising.{with_numbers};
-ghost use Rattle.sp_core.specs.Homecoming.{AreLeft, AreNumbered, CanDecide, HasAll, HasOpenRuns, HasRoomFor, HasRuns, IsBrought, IsDecided, IsSameButRooms, IsTakenUp, IsWith, completions, completions_in, has_group, is_grouped, spent_run, unnumbered_told, used_told};
+ghost use Rattle.sp_group.specs.Family.{entry_at};
+ghost use Rattle.sp_tree.specs.Grown.{kin};
+ghost use Rattle.sp_core.specs.Homecoming.{AreLeft, AreNumbered, CanDecide, HasAll, HasOpenRuns, HasRoomFor, HasRuns, IsBrought, IsDecided, IsSameButRooms, IsTakenUp, IsWith, completions, completions_in, has_group, is_grouped, outcome_of, spent_run, unnumbered_told, used_told};
 
 use crate::Memory;
 use crate::rooms::count_of;
@@ -249,6 +251,28 @@ fn make_rooms(held: &mut Version, passed: &Numbers, brought: &Brought) -> Result
     held.copies.reserve(brought.copies.len())
 }
 
+// What became of a group that is open no more.
+fn outcome_of(completed: &[u32], run: u32) -> Outcome
+    ensures { result ≡ outcome_of completed.now run }
+{
+    if completed.contains(&run) {
+        Outcome::Completed
+    } else {
+        Outcome::Abandoned
+    }
+}
+
+// Whether the matcher of a live version has a group still.
+fn has_open(tree: &Tree<Version>, owner: u64, run: u32) -> bool
+    ensures { IfSome (entry_at kin tree.now.entries owner)
+        (λ e. result ≡ is_grouped e.value.matcher run) }
+{
+    match tree.get(owner) {
+        Some(held) => is_grouped(&held.matcher, run),
+        None => false,
+    }
+}
+
 // Decides each open group of a live version that its matcher has no more.
 pub(crate) fn decide_ended(tree: &mut Tree<Version>, owner: u64, completed: &[u32])
     requires { CanDecide tree.old owner }
@@ -258,15 +282,10 @@ pub(crate) fn decide_ended(tree: &mut Tree<Version>, owner: u64, completed: &[u3
     let mut i = 0;
     while i < tree.groups(owner).len() {
         let run = tree.groups(owner)[i];
-        let Some(held) = tree.get(owner) else {
-            unreachable!()
-        };
-        if is_grouped(&held.matcher, run) {
+        if has_open(tree, owner, run) {
             i += 1;
-        } else if completed.contains(&run) {
-            tree.decide(owner, run, Outcome::Completed);
         } else {
-            tree.decide(owner, run, Outcome::Abandoned);
+            tree.decide(owner, run, outcome_of(completed, run));
         }
     }
 }
