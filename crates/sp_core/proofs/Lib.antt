@@ -1,1 +1,7 @@
+pub mod Completions
+pub mod Cuts
+pub mod DecidedGroups
+pub mod GroupsHeld
+pub mod HeldByIds
 pub mod Journal
+pub mod RisingLists
