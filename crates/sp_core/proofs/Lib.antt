@@ -3,3 +3,7 @@ pub mod Entries
 pub mod Fed
 pub mod Owed
 pub mod Refused
+pub mod Counts
+pub mod Children
+pub mod SpawnRefusals
+pub mod Fresh
