@@ -1,7 +1,15 @@
+pub mod Children
 pub mod Completions
+pub mod Counts
 pub mod Cuts
 pub mod DecidedGroups
+pub mod Entries
+pub mod Fed
+pub mod Fresh
 pub mod GroupsHeld
 pub mod HeldByIds
 pub mod Journal
+pub mod Owed
+pub mod Refused
 pub mod RisingLists
+pub mod SpawnRefusals
