@@ -3,6 +3,7 @@ pub mod Faults
 pub mod Holding
 pub mod Homecoming
 pub mod Leasing
+pub mod Renewing
 pub mod Returning
 pub mod Rooms
 pub mod Running

@@ -6,9 +6,10 @@ ghost use Rattle.sp_group.specs.Machine.{version_at};
 ghost use Rattle.sp_core.specs.Withheld.{lesser};
 ghost use Rattle.sp_core.specs.Suppressing.{conflict_at, least_suppressed, ready_ids, suppressed_within};
 
+use crate::lent::lent_under;
 use crate::withheld::{least_withheld, withheld_within};
 use crate::{Core, Memory};
-use sp_base::Numbers;
+use sp_base::{Numbers, rising_same};
 use sp_rules::every_schedule;
 use sp_version::least_unskipped;
 use std::alloc::Global;
@@ -36,7 +37,6 @@ impl Core {
         requires live { IsSome (version_at self.now.machine.versions version) }
         ensures { result ≡ least_suppressed self.now.plan self.now.machine version first count skipped.now.list }
     {
-        every_schedule();
         let mut found = None;
         let mut below = version;
         while let Some(parent) = self.tree.parent(below) {
@@ -63,8 +63,8 @@ impl Core {
         requires live { IsSome (version_at self.now.machine.versions version) }
         ensures { IfOk result (λ numbers. numbers.list ≡ suppressed_within self.now.plan self.now.machine version first count) }
     {
-        every_schedule();
-        let mut numbers = self.consumed.cut_to(alloc, first, count)?;
+        rising_same();
+        let mut numbers = Numbers::new(alloc);
         let mut below = version;
         while let Some(parent) = self.tree.parent(below) {
             let (Some(label), Some(held)) = (self.tree.label(below), self.tree.get(parent)) else {
@@ -73,6 +73,7 @@ impl Core {
             withheld_within(alloc, held, label, first, count, &mut numbers)?;
             below = parent;
         }
+        numbers.union(alloc, &self.consumed.cut_to(alloc, first, count)?)?;
         Ok(numbers)
     }
 
@@ -87,7 +88,7 @@ impl Core {
             return read;
         }
         let ticket = held.out?;
-        let lent = self.tickets.iter().find(|lent| lent.ticket == ticket)?;
+        let lent = lent_under(&self.tickets, ticket)?;
         self.least_suppressed(version, lent.first, lent.count, &lent.snapshot)
     }
 
