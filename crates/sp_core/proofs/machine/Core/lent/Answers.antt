@@ -44,8 +44,8 @@ overflow_add-first c =
     let few = next_few h c.self.invariant (reached c.every_schedule.ensures h c.self.invariant) c.args.version v f (c.windows_hold.ensures h.plan c.self.invariant.compiled.windowed) in
     omega arith
 
-pub returns : goal.returns
-returns c =
+pub returns-clause-lent : goal.returns-clause-lent
+returns-clause-lent c =
     let h = holding c.self.inside in
     let id = c.args.version in
     let n = c.args.count in
