@@ -126,18 +126,12 @@ impl Matcher {
         fitting_events_are_small();
         let open = self.runs.len();
         let offer = Offer {
+            alloc,
             plan: &self.plan,
             number,
             event,
         };
-        match handle_all(
-            alloc,
-            &offer,
-            &mut self.runs,
-            &mut self.lefts,
-            self.count,
-            moves,
-        ) {
+        match handle_all(&offer, &mut self.runs, &mut self.lefts, self.count, moves) {
             Ok(started) => {
                 settle(&self.plan, &mut self.runs);
                 self.count = count_after(self.count, started);
