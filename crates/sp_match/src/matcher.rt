@@ -189,7 +189,7 @@ impl Matcher {
         Ok(moves)
     }
 
-    /// The same runs once more, with the same plan.
+    /// The same runs once more, with the same plan. The plan and the bound events are shared, not copied.
     pub fn copy(&self, alloc: Global) -> Result<Matcher, Memory>
         ensures { IfOk result (λ m. m ≡ self.now) }
     {

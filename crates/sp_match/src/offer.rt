@@ -12,6 +12,7 @@ use std::alloc::Global;
 /// An event that the open runs are offered, and that may start one.
 #[derive(Clone, Copy, Drop)]
 pub(crate) struct Offer<'a> {
+    /// Where memory comes from.
     pub(crate) alloc: Global,
     /// What is matched.
     pub(crate) plan: &'a Plan,
@@ -41,7 +42,7 @@ pub(crate) fn leaves(offer: &Offer) -> bool
 }
 
 /// A handle of the event for a run that binds it. The event is copied for the first of these runs alone;
-/// `shared` keeps a handle for the others.
+/// `shared`, which is None until then, keeps a handle for the others.
 pub(crate) fn share(offer: &Offer, shared: &mut Option<SharedEvent>) -> Result<SharedEvent, Memory>
     requires { IsShared offer.now shared.old }
     ensures event { IfOk result (λ event. event ≡ offer.now.event.now) }
