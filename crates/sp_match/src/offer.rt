@@ -1,5 +1,5 @@
 // An event that is offered to the runs of a window.
-ghost use Rattle.std.specs.Prelude.{◌≡◌, [], IfOk};
+ghost use Rattle.std.specs.Prelude.{◌≡◌, [], Some, IfOk, OnOk};
 ghost use Rattle.sp_plan.specs.Runs.{takes};
 ghost use Rattle.sp_match.specs.inside.Offer.{IsOffer, IsShared, lets_leave};
 
@@ -46,6 +46,7 @@ pub(crate) fn leaves(offer: &Offer) -> bool
 pub(crate) fn share(offer: &Offer, shared: &mut Option<SharedEvent>) -> Result<SharedEvent, Memory>
     requires { IsShared offer.now shared.old }
     ensures event { IfOk result (λ event. event ≡ offer.now.event.now) }
+    ensures kept { OnOk result (shared.new ≡ Some offer.now.event.now) }
     ensures shared { IsShared offer.now shared.new }
 {
     if let Some(event) = shared {
