@@ -1,1 +1,5 @@
 pub mod Journal
+pub mod Pruning
+pub mod Renewing
+pub mod Conflicting
+pub mod Rolled

@@ -10,3 +10,4 @@ pub mod Spawning
 pub mod Returning
 pub mod Homecoming
 pub mod Showing
+pub mod Renewing
