@@ -3,3 +3,8 @@ pub mod Pruning
 pub mod Renewing
 pub mod Conflicting
 pub mod Rolled
+pub mod Entries
+pub mod Owed
+pub mod Told
+pub mod Written
+pub mod Leased
