@@ -8,3 +8,5 @@ pub mod Owed
 pub mod Told
 pub mod Written
 pub mod Leased
+pub mod Tickets
+pub mod Owner
