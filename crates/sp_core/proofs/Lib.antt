@@ -1,3 +1,8 @@
+pub mod Completions
+pub mod Cuts
+pub mod DecidedGroups
+pub mod GroupsHeld
+pub mod HeldByIds
 pub mod Journal
 pub mod Pruning
 pub mod Renewing
@@ -10,3 +15,4 @@ pub mod Written
 pub mod Leased
 pub mod Tickets
 pub mod Owner
+pub mod RisingLists
