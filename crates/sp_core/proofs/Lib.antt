@@ -1,1 +1,5 @@
 pub mod Journal
+pub mod Entries
+pub mod Fed
+pub mod Owed
+pub mod Refused
