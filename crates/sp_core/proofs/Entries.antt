@@ -39,7 +39,7 @@ version_found (e ∷ es) id = one (version_found es id) (e.version.id == id)
     one rest false = rest
 
 -- what is found has the id, which is below where ids fall from
-id_below : (top : ℕ) (es : List (Entry Version)) (id : ℕ) (f : Entry Version) → FallFrom top es → entry_at kin es id ≡ Some f → id < top
+pub id_below : (top : ℕ) (es : List (Entry Version)) (id : ℕ) (f : Entry Version) → FallFrom top es → entry_at kin es id ≡ Some f → id < top
 id_below top [] id f fall at = absurd (cc)
 id_below top (e ∷ es) id f fall at = one (id_below e.version.id es id f fall.1) (e.version.id == id) refl at
   where

@@ -1,5 +1,15 @@
-pub mod Journal
+pub mod Alike
+pub mod Ancestors
 pub mod Entries
 pub mod Fed
+pub mod Journal
+pub mod KeptBack
+pub mod Leased
+pub mod Least
+pub mod Lending
 pub mod Owed
 pub mod Refused
+pub mod Suppressed
+pub mod Told
+pub mod Withholding
+pub mod Written

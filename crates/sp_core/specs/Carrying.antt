@@ -1,5 +1,5 @@
 -- What goes out with a lease, and comes back.
-use Rattle.std.specs.Prelude.{◌≡◌, ◌-◌, ℕ, false, List, take, drop}
+use Rattle.std.specs.Prelude.{◌≡◌, ◌-◌, false, List, take, drop}
 use Rattle.sp_plan.specs.declared.event.Event.{Event}
 use Rattle.sp_plan.specs.declared.plan.Plan.{Plan}
 use Rattle.sp_plan.specs.Same.{SamePlan}

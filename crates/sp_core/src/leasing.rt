@@ -1,8 +1,9 @@
 // A lease: the next unread events of a version go out under a ticket.
-ghost use Rattle.std.specs.Prelude.{◌≡◌, ◌≤◌, ℕ, None, Some, IfOk, IfErr, OnOk, OnErr, IsSome};
+ghost use Rattle.std.specs.Prelude.{◌≡◌, ◌≤◌, ℕ, None, Some, IfOk, IfErr, OnOk, OnErr};
+ghost use Rattle.sp_plan.specs.WindowNumbers.{size};
 ghost use Rattle.sp_group.specs.declared.step.Step.TheVariants as s;
 ghost use Rattle.sp_core.specs.Faults.{IsFault};
-ghost use Rattle.sp_core.specs.Leasing.{IsLent, IsLeased};
+ghost use Rattle.sp_core.specs.Leasing.{HasBegun, IsLent, IsLeased, is_closed, with_out};
 ghost use Rattle.sp_core.specs.Running.{IsDone, after, refused};
 
 use crate::rooms::{enter, make_room};
@@ -10,8 +11,10 @@ use crate::{Core, CoreFault, Lent, Memory};
 use sp_group::{Refusal, Step};
 use sp_piece::Job;
 use sp_plan::{Event, Listed};
-use sp_rules::every_schedule;
-use sp_window::{Window, windows_hold};
+use sp_rules::{compiled_plans_are_lawful, every_schedule};
+use sp_tree::Tree;
+use sp_version::Version;
+use sp_window::{closed_come_first, windows_hold};
 use std::alloc::Global;
 
 // The same events once more.
@@ -25,12 +28,30 @@ fn copies(alloc: Global, events: &[Event]) -> Result<Vec<Event>, Memory>
     Ok(list)
 }
 
+// A ticket is out for a version from now on.
+fn put_out_for(tree: &mut Tree<Version>, version: u64, ticket: u64)
+    ensures { tree.new ≡ with_out tree.old version ticket }
+{
+    if let Some(held) = tree.get_mut(version) {
+        held.out = Some(ticket);
+    }
+}
+
 impl Core {
     // How many events of a window were fed, and whether it is closed.
-    fn fed_of(&self, window: Window) -> u32 {
+    fn fed_of(&self, number: u32) -> (u32, bool)
+        requires begun { HasBegun self.now number }
+        ensures fed { result.0 ≡ size self.now.plan self.now.machine.events number }
+        ensures closed { result.1 ≡ is_closed self.now number }
+    {
+        windows_hold();
+        closed_come_first();
+        let Some(window) = self.windows.get(number) else {
+            unreachable!()
+        };
         match window.end {
-            Some(end) => end + 1 - window.first,
-            None => self.events.len() as u32 + 1 - window.first,
+            Some(end) => (end + 1 - window.first, true),
+            None => (self.events.len() as u32 + 1 - window.first, false),
         }
     }
 
@@ -39,7 +60,6 @@ impl Core {
         ensures { (count : ℕ) → result ≡ refused self.now (s.Lease version count) }
     {
         every_schedule();
-        windows_hold();
         let Some(held) = self.tree.get(version) else {
             return Some(Refusal::NotLive { version });
         };
@@ -49,11 +69,9 @@ impl Core {
         if let Some(event) = self.conflict_of(version) {
             return Some(Refusal::Conflict { event });
         }
-        let Some(window) = self.windows.get(held.window) else {
-            unreachable!()
-        };
         let position = held.position;
-        if position < self.fed_of(window) || window.end.is_some() && !held.done {
+        let (fed, closed) = self.fed_of(held.window);
+        if position < fed || closed && !held.done {
             None
         } else {
             Some(Refusal::NothingToRead { position })
@@ -66,14 +84,11 @@ impl Core {
         ensures { IfOk result (IsLent self.now version count) }
     {
         every_schedule();
-        windows_hold();
         let Some(held) = self.tree.get(version) else {
             unreachable!()
         };
-        let Some(window) = self.windows.get(held.window) else {
-            unreachable!()
-        };
-        let unread = self.fed_of(window) - held.position;
+        let (fed, closed) = self.fed_of(held.window);
+        let unread = fed - held.position;
         let first = held.first + held.position;
         let lent = unread.min(count);
         Ok(Lent {
@@ -82,7 +97,7 @@ impl Core {
             first,
             count: lent,
             snapshot: self.suppressed_within(alloc, version, first, lent)?,
-            closes: window.end.is_some() && unread <= count,
+            closes: closed && unread <= count,
         })
     }
 
@@ -93,7 +108,7 @@ impl Core {
         ensures { IfOk result (IsLeased self.now lent.now.version count) }
     {
         every_schedule();
-        windows_hold();
+        compiled_plans_are_lawful();
         let Some(held) = self.tree.get(lent.version) else {
             unreachable!()
         };
@@ -117,7 +132,6 @@ impl Core {
         ensures ok { OnOk result (self.new ≡ after self.old (s.Lease lent.version count)) }
         ensures err { OnErr result (self.new ≡ self.old) }
     {
-        every_schedule();
         let version = lent.version;
         let ticket = lent.ticket;
         make_room(&mut self.journal, self.tree.live())?;
@@ -125,9 +139,7 @@ impl Core {
         // There is room for it.
         let _ = self.tickets.insert(0, lent);
         self.next_ticket += 1;
-        if let Some(held) = self.tree.get_mut(version) {
-            held.out = Some(ticket);
-        }
+        put_out_for(&mut self.tree, version, ticket);
         enter(&mut self.journal, Step::Lease { version, count }, 1);
         Ok(())
     }
