@@ -1,5 +1,6 @@
 pub mod Alike
 pub mod Ancestors
+pub mod Conflicting
 pub mod Entries
 pub mod Fed
 pub mod Journal
@@ -8,7 +9,10 @@ pub mod Leased
 pub mod Least
 pub mod Lending
 pub mod Owed
+pub mod Pruning
 pub mod Refused
+pub mod Renewing
+pub mod Rolled
 pub mod Suppressed
 pub mod Told
 pub mod Withholding
