@@ -14,6 +14,7 @@ pub mod Refused
 pub mod Renewing
 pub mod Rolled
 pub mod Suppressed
+pub mod TicketPlaces
 pub mod Told
 pub mod Withholding
 pub mod Written
