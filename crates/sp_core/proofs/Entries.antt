@@ -1,12 +1,13 @@
 -- The entries of a tree as the versions of the machine: what is found under an id is the same, and what holds of what is found holds of all.
-use Rattle.std.proofs.Common.{◌≡◌, ℕ, ◌<◌, Bool, true, false, ◌==◌, cond, List, [], ◌∷◌, map, Option, Some, None, refl, ap, subst, ◌∙◌, arith}
+use Rattle.std.proofs.Common.{◌≡◌, ℕ, ◌+◌, ◌*◌, ◌<◌, ◌≤◌, Bool, true, false, ◌==◌, cond, List, [], ◌∷◌, map, length, Option, Some, None, refl, sym, ap, subst, ◌∙◌, arith}
 use Rattle.std.specs.Option.{option_map}
 use Rattle.std.specs.List.{All}
 use Rattle.std.proofs.lemmas.Bool.Decides.{nat_tests}
 use Rattle.std.proofs.lemmas.List.Elements.{All-nil, All-cons, All-head, All-tail}
 use Rattle.sp_version.specs.declared.version.Version.{Version}
 use Rattle.sp_group.specs.Family.{entry_at}
-use Rattle.sp_group.specs.Machine.{version_at, is_suppressed}
+use Rattle.sp_group.specs.Machine as machine
+use Rattle.sp_group.specs.Machine.{Ticket, version_at, is_suppressed}
 use Rattle.sp_tree.specs.Grown.{Entry, FallFrom, kin, value_of}
 use Rattle.sp_rules.specs.Kept.{Local}
 use Rattle.sp_rules.specs.Schedules.{Reached}
@@ -38,7 +39,7 @@ version_found (e ∷ es) id = one (version_found es id) (e.version.id == id)
     one rest false = rest
 
 -- what is found has the id, which is below where ids fall from
-id_below : (top : ℕ) (es : List (Entry Version)) (id : ℕ) (f : Entry Version) → FallFrom top es → entry_at kin es id ≡ Some f → id < top
+pub id_below : (top : ℕ) (es : List (Entry Version)) (id : ℕ) (f : Entry Version) → FallFrom top es → entry_at kin es id ≡ Some f → id < top
 id_below top [] id f fall at = absurd (cc)
 id_below top (e ∷ es) id f fall at = one (id_below e.version.id es id f fall.1) (e.version.id == id) refl at
   where

@@ -103,11 +103,12 @@ with_ticket h tree tickets journal room = record h {
 }
 
 module _ (h : Holding) (lent : Lent) (n : ℕ) (a : Leases h lent n) where
+  -- the machine's version is that of the entry
+  pub version_same : a.version ≡ version_of a.entry.entry
+  version_same = let same : Some a.version ≡ Some (version_of a.entry.entry) = sym a.at ∙ version_is h.tree.entries lent.version a.entry.entry a.entry.is in cc
+
   id_is : lent.version ≡ a.entry.entry.version.id
-  id_is =
-      let same : Some a.version ≡ Some (version_of a.entry.entry) = sym a.at ∙ version_is h.tree.entries lent.version a.entry.entry a.entry.is in
-      let is : a.version ≡ version_of a.entry.entry = cc in
-      ap (λ (t : Ticket). t.version) a.ticket ∙ ap (λ (v : machine.Version). v.id) is
+  id_is = ap (λ (t : Ticket). t.version) a.ticket ∙ ap (λ (v : machine.Version). v.id) version_same
 
   -- what the new value does not change
   same_of : {B : Type 0} (f : Entry Version → B) → f (record a.entry.entry { value = out_now a.entry.entry.value lent.ticket }) ≡ f a.entry.entry

@@ -11,7 +11,7 @@ use crate::{Core, CoreFault, Lent, Memory};
 use sp_group::{Refusal, Step};
 use sp_piece::Job;
 use sp_plan::{Event, Listed};
-use sp_rules::every_schedule;
+use sp_rules::{compiled_plans_are_lawful, every_schedule};
 use sp_tree::Tree;
 use sp_version::Version;
 use sp_window::{closed_come_first, windows_hold};
@@ -108,7 +108,7 @@ impl Core {
         ensures { IfOk result (IsLeased self.now lent.now.version count) }
     {
         every_schedule();
-        windows_hold();
+        compiled_plans_are_lawful();
         let Some(held) = self.tree.get(lent.version) else {
             unreachable!()
         };
