@@ -7,13 +7,8 @@ pub mod Renewing
 pub mod Returning
 pub mod Rooms
 pub mod Running
+pub mod Settling
 pub mod Showing
 pub mod Spawning
 pub mod Suppressing
 pub mod Withheld
-pub mod Leasing
-pub mod Spawning
-pub mod Returning
-pub mod Homecoming
-pub mod Showing
-pub mod Renewing
