@@ -13,6 +13,7 @@ pub mod Lending
 pub mod Owed
 pub mod Pruning
 pub mod Range
+pub mod ReadyIds
 pub mod Renewing
 pub mod Rolled
 pub mod Suppressed
