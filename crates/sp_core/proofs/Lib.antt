@@ -27,6 +27,7 @@ pub mod Owed
 pub mod Owner
 pub mod Pruning
 pub mod Range
+pub mod ReadyIds
 pub mod Refused
 pub mod Renewing
 pub mod RisingLists
