@@ -78,9 +78,11 @@ no_number None is = refl
 no_number (Some n) is = absurd (cc is)
 
 -- no version is found
+pub version_gone : (h : Holding) (id : ℕ) → None ≡ value_of (entry_at kin h.tree.entries id) → version_at (machine_of h).versions id ≡ None
+version_gone h id none = version_found h.tree.entries id ∙ ap (option_map version_of) (not_found (entry_at kin h.tree.entries id) none)
+
 pub conflict_gone : (h : Holding) (id : ℕ) → None ≡ value_of (entry_at kin h.tree.entries id) → None ≡ conflict_at h.plan (machine_of h) id
-conflict_gone h id none =
-    sym (ap (conflict_of h.plan (machine_of h)) (version_found h.tree.entries id ∙ ap (option_map version_of) (not_found (entry_at kin h.tree.entries id) none)))
+conflict_gone h id none = sym (ap (conflict_of h.plan (machine_of h)) (version_gone h id none))
 
 module _ (h : Holding) (core : IsCore h) (r : Reached h.plan h.tree.bound (machine_of h)) (id : ℕ) (held : Version) (live : Some held ≡ value_of (entry_at kin h.tree.entries id)) where
   own : Held h id held

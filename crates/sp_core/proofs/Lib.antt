@@ -7,6 +7,7 @@ pub mod InConflict
 pub mod Journal
 pub mod KeptBack
 pub mod Leased
+pub mod LeaseRefused
 pub mod Least
 pub mod Lending
 pub mod Owed
