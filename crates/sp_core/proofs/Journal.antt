@@ -56,3 +56,9 @@ replayed_on h k x r plan bound journal fit passes does ids tickets =
 pub reached : EverySchedule → (h : Holding) → IsCore h → Reached h.plan h.tree.bound (machine_of h)
 reached law h c =
     subst (λ (m : Machine). Reached h.plan h.tree.bound m) c.replayed.leads (law h.plan h.tree.bound (flat h.journal) c.compiled c.some c.most c.replayed.fits)
+
+-- a journal replayed entry by entry is its steps taken one after another
+pub replay_is : (q : Plan) (bound : ℕ) (m : Machine) (es : List Entry) → fold (after_entry q bound) m es ≡ steps q bound m (flat es)
+replay_is q bound m [] = refl
+replay_is q bound m (e ∷ es) =
+    replay_is q bound (after_entry q bound m e) es ∙ sym (fold-append (step q bound) m (replicate e.times e.step) (flat es))

@@ -9,8 +9,7 @@ use crate::rooms::{enter, make_room};
 use crate::{Core, CoreFault, Memory};
 use sp_group::{Refusal, Step};
 use sp_plan::Event;
-use sp_rules::every_schedule;
-use sp_window::windows_are_kept;
+use sp_rules::{compiled_plans_are_lawful, every_schedule};
 use std::alloc::Global;
 
 // The greatest number of events.
@@ -49,7 +48,7 @@ impl Core {
         ensures err { OnErr result (self.new ≡ self.old) }
     {
         every_schedule();
-        windows_are_kept();
+        compiled_plans_are_lawful();
         self.events.reserve(1)?;
         make_room(&mut self.journal, self.tree.live())?;
         let copy = event.copy(alloc)?;

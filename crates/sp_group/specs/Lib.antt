@@ -1,5 +1,6 @@
 pub mod Rising
 pub mod Family
+pub mod Deciding
 pub mod Machine
 pub mod Refusing
 pub mod Effects

@@ -2,3 +2,4 @@ pub mod Lending
 pub mod Reading
 pub mod Pieced
 pub mod Keeping
+pub mod Alike

@@ -4,10 +4,14 @@
 
 mod going;
 mod job;
+mod laws;
 mod piece;
 mod stepped;
+#[cfg(test)]
+mod tests;
 
 pub use job::Job;
+pub use laws::{readings_tell_matches, same_plans_read_alike};
 pub use piece::Piece;
 use std::alloc::AllocError;
 pub use stepped::Stepped;

@@ -47,13 +47,13 @@ pub record Facts (q : Plan) : Type 0 where
 
 module _ (q : Plan) (law : Lawful q) where
   -- a run whose match used an event has a match
-  spent_matched : (s : State) (r : ℕ) → is_spent q s r ≡ true → is_matched s r ≡ true
+  pub spent_matched : (s : State) (r : ℕ) → is_spent q s r ≡ true → is_matched s r ≡ true
   spent_matched s r spent =
       let one = filled_mem (group q (record { open_runs = s.matched; matched = []; started = 0 }) r) spent in
       law.runs.numbers.group_open (record { open_runs = s.matched; matched = []; started = 0 }) r one.0 one.1
 
   -- a run with a group is open
-  group_open : (s : State) (r : ℕ) → is_group q s r ≡ true → is_open s r ≡ true
+  pub group_open : (s : State) (r : ℕ) → is_group q s r ≡ true → is_open s r ≡ true
   group_open s r grouped =
       let one = filled_mem (group q s r) grouped in
       law.runs.numbers.group_open s r one.0 one.1

@@ -23,9 +23,12 @@ use Rattle.sp_rules.proofs.Locals.{local_grows, root_supp}
 abbrev passed_over : Ticket → List ℕ
 passed_over t = filter (λ i. nat_lt i (t.first + t.read)) t.snapshot
 
--- the runs of the version before and after its ticket came home
-pub home_leads : (q : Plan) → Facts q → (E : List Event) (b : Bool) (S : ℕ → Bool) (v : Version) (t : Ticket) → Lent q E b S v t → ReadsOn q (inner q E v) (inner q E (after_ticket v t))
-home_leads q k E b S v t l = subst (λ (z : Bool). ReadsOn q (cond z (after_closing before) before) (cond (z || t.closing_read) (after_closing after) after)) (sym l.undone) (reading_on t.closing_read)
+-- what reading on keeps, the window's closing included, holds between the runs of the version before and after its ticket came home
+pub home_goes : (q : Plan) → Facts q → (P : State → State → Type 0)
+    → ((events : List Event) (skipped : List ℕ) (first n k : ℕ) → P (reading q events skipped first n) (reading q events skipped first (n + k)))
+    → ((events : List Event) (skipped : List ℕ) (first n k : ℕ) → P (reading q events skipped first n) (after_closing (reading q events skipped first (n + k))))
+    → (E : List Event) (b : Bool) (S : ℕ → Bool) (v : Version) (t : Ticket) → Lent q E b S v t → P (inner q E v) (inner q E (after_ticket v t))
+home_goes q k P on closing E b S v t l = subst (λ (z : Bool). P (cond z (after_closing before) before) (cond (z || t.closing_read) (after_closing after) after)) (sym l.undone) (reading_on t.closing_read)
   where
     f : ℕ
     f = first q E v.window
@@ -50,9 +53,13 @@ home_leads q k E b S v t l = subst (λ (z : Bool). ReadsOn q (cond z (after_clos
     same : reading q E v.skipped (first q E v.window) v.position ≡ reading q E (with_numbers v.skipped (passed_over t)) (first q E v.window) v.position
     same = k.reading_agrees E v.skipped skipped f v.position agree
 
-    reading_on : (c : Bool) → ReadsOn q before (cond c (after_closing after) after)
-    reading_on false = subst (λ (z : State). ReadsOn q z after) (sym same) (k.reads_on E skipped f v.position t.read)
-    reading_on true = subst (λ (z : State). ReadsOn q z (after_closing after)) (sym same) (k.reads_closing E skipped f v.position t.read)
+    reading_on : (c : Bool) → P before (cond c (after_closing after) after)
+    reading_on false = subst (λ (z : State). P z after) (sym same) (on E skipped f v.position t.read)
+    reading_on true = subst (λ (z : State). P z (after_closing after)) (sym same) (closing E skipped f v.position t.read)
+
+-- the runs of the version before and after its ticket came home
+pub home_leads : (q : Plan) → Facts q → (E : List Event) (b : Bool) (S : ℕ → Bool) (v : Version) (t : Ticket) → Lent q E b S v t → ReadsOn q (inner q E v) (inner q E (after_ticket v t))
+home_leads q k = home_goes q k (ReadsOn q) k.reads_on k.reads_closing
 
 -- the version has read the number, and did not skip it
 abbrev pub HasRead : Plan → List Event → Version → ℕ → Type 0

@@ -20,3 +20,7 @@ pub mod Losses
 pub mod GoesOn
 pub mod Bound
 pub mod Reached
+pub mod Returning
+pub mod ComingHome
+pub mod ByGroups
+pub mod Adding

@@ -1,3 +1,6 @@
 pub mod Lawful
 pub mod Kept
 pub mod Schedules
+pub mod Returning
+pub mod ComingHome
+pub mod ByGroups

@@ -5,7 +5,10 @@
 
 ghost use Rattle.sp_plan.specs.declared.plan.Plan.{Plan};
 ghost use Rattle.sp_plan.specs.Compiled.{IsCompiled};
+ghost use Rattle.sp_rules.specs.ByGroups.{ComingHomeAddsMatches, ReturnsByGroups, VersionsHaveGroups};
+ghost use Rattle.sp_rules.specs.ComingHome.{PiecesComeHome};
 ghost use Rattle.sp_rules.specs.Lawful.{Lawful};
+ghost use Rattle.sp_rules.specs.Returning.{ReadingsAndReturn};
 ghost use Rattle.sp_rules.specs.Schedules.{EverySchedule};
 
 use sp_match::{
@@ -47,6 +50,43 @@ pub fn compiled_plans_are_lawful()
 /// steps lead to keeps what `Reached` says. It holds for every compiled plan, and bounds of 1 to 4096.
 pub fn every_schedule()
     ensures { EverySchedule }
+{
+    compiled_plans_are_lawful();
+}
+
+/// Law: a ticket of which nothing was read is read event by event, up to its closing where that is
+/// lent, and returns: none of these steps is refused, and what was read comes home.
+pub fn readings_and_return()
+    ensures { ReadingsAndReturn }
+{}
+
+/// Law: what a live version's ticket lends, read on from the version's runs, leads to the runs of the
+/// version once it has come home.
+pub fn pieces_come_home()
+    ensures { PiecesComeHome }
+{
+    compiled_plans_are_lawful();
+}
+
+/// Law: the runs of every version have their groups, which are a label.
+pub fn versions_have_groups()
+    ensures { VersionsHaveGroups }
+{
+    compiled_plans_are_lawful();
+}
+
+/// Law: what a piece that comes home does to the versions is what the decisions of its version's groups
+/// do: those that are no group any more are completed where they matched, and else abandoned.
+pub fn returns_by_groups()
+    ensures { ReturnsByGroups }
+{
+    compiled_plans_are_lawful();
+}
+
+/// Law: a piece that comes home adds matches behind those of its version, and the runs that then have
+/// used an event, and had not before, are those of these matches that did.
+pub fn coming_home_adds_matches()
+    ensures { ComingHomeAddsMatches }
 {
     compiled_plans_are_lawful();
 }

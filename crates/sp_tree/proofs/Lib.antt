@@ -3,3 +3,4 @@ pub mod Pruned
 pub mod Renewed
 pub mod Written
 pub mod Opened
+pub mod Decided

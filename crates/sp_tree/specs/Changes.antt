@@ -1,8 +1,7 @@
 -- What each call does to one version of a tree: it stays, perhaps changed, or it goes.
-use Rattle.std.specs.Prelude.{◌≡◌, ◌<◌, ℕ, length, slice_index_or, Bool, true, false, not, List, [], ◌∷◌, filter, Option, Some, None, is_some, ◌==◌, if◌then◌else◌}
-use Rattle.sp_plan.specs.Runs.{is_among}
+use Rattle.std.specs.Prelude.{◌≡◌, ◌<◌, ℕ, length, slice_index_or, Bool, true, false, List, [], ◌∷◌, Option, Some, None, is_some, ◌==◌, if◌then◌else◌}
 use Rattle.sp_group.specs.declared.outcome.Outcome.{Outcome}
-use Rattle.sp_group.specs.declared.outcome.Outcome.TheVariants.{Completed, Abandoned}
+pub use Rattle.sp_group.specs.Deciding.{others, foresaw}
 use Rattle.sp_group.specs.Rising.{with_number}
 use Rattle.sp_group.specs.Family.{Kin, is_parent}
 use Rattle.sp_tree.specs.declared.version.Version.{Version}
@@ -12,15 +11,6 @@ use Rattle.sp_tree.specs.declared.version.Change.TheVariants as c
 -- versions by their ids and parents
 abbrev pub branches : Kin Version
 branches = record { id = λ v. v.id; parent = λ v. v.parent }
-
--- runs but this one
-abbrev pub others : ℕ → List ℕ → List ℕ
-others run runs = filter (λ r. not (r == run)) runs
-
--- whether a label foresaw what became of a group
-abbrev pub foresaw : ℕ → Outcome → List ℕ → Bool
-foresaw run Completed label = is_among label run
-foresaw run Abandoned label = not (is_among label run)
 
 -- a child of the owner of a decided group: it stays where its label foresaw the outcome, and its label loses the group
 abbrev pub child_decided : ℕ → Outcome → Version → Option Version

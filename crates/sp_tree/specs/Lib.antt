@@ -3,3 +3,4 @@ pub mod Grown
 pub mod Faults
 pub mod Joined
 pub mod Lends
+pub mod Decided

@@ -1,12 +1,15 @@
 //! The tree of versions: which version stands under which, by which guess, and which of its groups are open. In
-//! `specs/` stands what a tree is to its callers (`Grown`) and what each call does to it (`Pruning`).
+//! `specs/` stands what a tree is to its callers (`Grown`), what each call does to it (`Changes`), and what
+//! several decisions come to (`Decided`).
 #![tactic(auto)]
 
+mod laws;
 #[cfg(test)]
 mod tests;
 mod tree;
 mod version;
 
+pub use laws::{decisions_add_up, openings_change_groups};
 use std::alloc::AllocError;
 pub use tree::Tree;
 

@@ -4,6 +4,8 @@
 
 mod laws;
 mod search;
+#[cfg(test)]
+mod tests;
 mod version;
 
 pub use laws::reads_alike;
