@@ -30,3 +30,4 @@ pub mod Tickets
 pub mod Told
 pub mod Withholding
 pub mod Written
+pub mod Roomier
