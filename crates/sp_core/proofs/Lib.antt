@@ -31,3 +31,4 @@ pub mod Told
 pub mod Withholding
 pub mod Written
 pub mod Roomier
+pub mod Settled

@@ -3,12 +3,14 @@ use Rattle.std.proofs.Common.{◌≡◌, ℕ, ◌+◌, ◌≤◌, Bool, cond, �
 use Rattle.std.specs.List.{All, sum}
 use Rattle.sp_base.specs.Numbers.{NumberList}
 use Rattle.sp_plan.specs.declared.event.Event.{Event}
+use Rattle.sp_plan.specs.declared.found.Match.{Match}
 use Rattle.sp_plan.specs.declared.plan.Plan.{Plan}
 use Rattle.sp_plan.specs.Groups.{used_by_all}
 use Rattle.sp_plan.specs.Same.{SamePlan}
 use Rattle.sp_plan.specs.WindowNumbers.{first}
 use Rattle.sp_match.specs.public.Matching.{Matching, Stands}
 use Rattle.sp_version.specs.declared.version.Version.{Version}
+use Rattle.sp_group.specs.declared.step.Entry as step
 use Rattle.sp_group.specs.Family.{entry_at}
 use Rattle.sp_group.specs.Machine as machine
 use Rattle.sp_group.specs.Machine.{Ticket, inner, is_group}
@@ -20,14 +22,13 @@ use Rattle.sp_core.specs.Homecoming.{IsSameButRooms}
 use Rattle.sp_core.specs.Rooms.{entries_for, matches_held, numbers_held}
 use Rattle.sp_core.specs.Running.{Running}
 use Rattle.sp_core.specs.Settling.{IsSameTree}
-use Rattle.sp_core.proofs.Journal.{replayed_by}
 use Rattle.sp_core.proofs.Written.{all_written, grown_written, map_written}
 
 -- to the machine it is the same version
 version_same : (e : Entry Version) (value : Version) → IsSameButRooms e.value value → version_of (record e { value = value }) ≡ version_of e
 version_same e value same =
     let v : ℕ → ℕ → List ℕ → Bool → machine.Version =
-        λ w position skipped done. record { id = e.version.id; parent = e.version.parent; window = w; label = e.version.label; position = position; skipped = skipped; done = done } in
+    λ w position skipped done. record { id = e.version.id; parent = e.version.parent; window = w; label = e.version.label; position = position; skipped = skipped; done = done } in
     ap (λ w. v w value.position value.skipped.list value.done) same.window
     ∙ ap (λ at. v e.value.window at value.skipped.list value.done) same.position
     ∙ ap (λ ns. v e.value.window e.value.position ns value.done) same.skipped
@@ -138,3 +139,25 @@ module _ (h : Holding) (c : IsCore h) (id : ℕ) (tree : Grown Version) (same : 
 
   pub running_same : running (with_tree tree) ≡ running h
   running_same = ap (λ (t : Grown Version). running (with_tree t)) same.tree ∙ ap (λ (m : machine.Machine). record (running h) { machine = m }) machine_same
+
+-- both, with the matches and the journal as they are given
+module _ (h : Holding) (c : IsCore h) (id : ℕ) (tree : Grown Version) (same : IsSameTree h.tree id tree) (emitted : List Match) (consumed : NumberList) (journal : List step.Entry)
+    (journal_room emitted_room : ℕ) (emitted_is : emitted ≡ h.emitted) (consumed_is : consumed.list ≡ h.consumed.list) (journal_is : journal ≡ h.journal)
+    (spares : h.consumed.spare ≤ consumed.spare) (enters : h.journal_room ≤ journal_room) (emits : h.emitted_room ≤ emitted_room) where
+  abbrev with_both : List Match → List step.Entry → Holding
+  with_both ms es = record h { tree = tree; emitted = ms; consumed = consumed; journal = es; journal_room = journal_room; emitted_room = emitted_room }
+
+  abbrev made : Holding
+  made = roomier h c consumed journal_room emitted_room consumed_is spares enters emits h.tree
+
+  made_core : IsCore made
+  made_core = core_roomier h c consumed journal_room emitted_room consumed_is spares enters emits
+
+  both_are : with_both emitted journal ≡ with_both h.emitted h.journal
+  both_are = ap (λ (ms : List Match). with_both ms journal) emitted_is ∙ ap (with_both h.emitted) journal_is
+
+  pub core_left : IsCore (with_both emitted journal)
+  core_left = subst IsCore (sym both_are) (core_same made made_core id tree same)
+
+  pub running_left : running (with_both emitted journal) ≡ running h
+  running_left = ap running both_are ∙ running_same made made_core id tree same ∙ running_roomier h c consumed journal_room emitted_room consumed_is spares enters emits
