@@ -18,6 +18,7 @@ pub mod HeirConflict
 pub mod Heirs
 pub mod HeldByIds
 pub mod HeldConflict
+pub mod HomeSettled
 pub mod InConflict
 pub mod Journal
 pub mod KeptBack
@@ -37,6 +38,7 @@ pub mod Refused
 pub mod Renewing
 pub mod RisingLists
 pub mod Rolled
+pub mod Roomier
 pub mod Roots
 pub mod Settled
 pub mod SpawnRefusals

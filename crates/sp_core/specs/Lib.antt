@@ -1,5 +1,6 @@
 pub mod Carrying
 pub mod Faults
+pub mod Finishing
 pub mod Holding
 pub mod Homecoming
 pub mod Leasing
@@ -12,4 +13,3 @@ pub mod Showing
 pub mod Spawning
 pub mod Suppressing
 pub mod Withheld
-pub mod Finishing
