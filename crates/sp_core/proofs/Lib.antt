@@ -13,6 +13,7 @@ pub mod Pruning
 pub mod Refused
 pub mod Renewing
 pub mod Rolled
+pub mod SamePlans
 pub mod Suppressed
 pub mod TicketPlaces
 pub mod Told

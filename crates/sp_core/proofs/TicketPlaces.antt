@@ -22,13 +22,12 @@ from ls n i d is few = ap (λ (xs : List Lent). ticket_at (map ticket_of xs) n) 
 
 pub place_found : (ls : List Lent) (n i : ℕ) (d : Lent) → d ≡ get_or ls i d → i < length ls → d.ticket ≡ n
     → ticket_at (map ticket_of ls) n ≡ ticket_at (map ticket_of (drop i ls)) n → IsPlaceOf (map ticket_of ls) n i
-place_found ls n i d is few same so_far =
-    (
-      ticket_of d,
-      slice_get-map ticket_of ls i ∙ ap (option_map ticket_of) (slice_get-get_or ls i d few ∙ ap Some (sym is)),
-      same,
-      so_far ∙ from ls n i d is few ∙ first_is d (drop (i + 1) ls) n same,
-    )
+place_found ls n i d is few same so_far = (
+  ticket_of d,
+  slice_get-map ticket_of ls i ∙ ap (option_map ticket_of) (slice_get-get_or ls i d few ∙ ap Some (sym is)),
+  same,
+  so_far ∙ from ls n i d is few ∙ first_is d (drop (i + 1) ls) n same,
+)
 
 pub place_further : (ls : List Lent) (n i : ℕ) (d : Lent) → d ≡ get_or ls i d → i < length ls → ¬ (d.ticket ≡ n)
     → ticket_at (map ticket_of ls) n ≡ ticket_at (map ticket_of (drop i ls)) n → ticket_at (map ticket_of ls) n ≡ ticket_at (map ticket_of (drop (i + 1) ls)) n

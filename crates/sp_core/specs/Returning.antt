@@ -8,6 +8,7 @@ use Rattle.sp_group.specs.Machine.{Ticket, Version, version_at, ticket_at}
 use Rattle.sp_group.specs.Steps.{steps}
 use Rattle.sp_rules.specs.Returning.{readings, reads_and_return}
 use Rattle.sp_core.specs.declared.given.Given.{Given}
+use Rattle.sp_core.specs.declared.lent.Lent.{Lent}
 use Rattle.sp_core.specs.declared.given.Given.TheVariants as g
 use Rattle.sp_core.specs.Running.{Running, after, once}
 use Rattle.sp_core.specs.Carrying.{Carries, ticket_of}
@@ -32,6 +33,13 @@ pub record IsOut (c : Running) (p : Pieced) (t : Ticket) (v : Version) : Type 0 
 -- the ticket of that number stands at this place
 abbrev pub IsPlaceOf : List Ticket → ℕ → ℕ → Type 0
 IsPlaceOf tickets n place = (t : Ticket) × (slice_get tickets place ≡ Some t) × (t.number ≡ n) × (ticket_at tickets n ≡ Some t)
+
+-- a job has the values of what went out, but for its ticket's number
+pub record HasValues (job : Job) (lent : Lent) : Type 0 where
+  pub version : job.version ≡ lent.version
+  pub first : job.first ≡ lent.first
+  pub closes : job.closes ≡ lent.closes
+  pub snapshot : job.snapshot.list ≡ lent.snapshot.list
 
 -- a job is what is out under its ticket, for a live version
 abbrev pub IsCarried : Running → Job → Type 0

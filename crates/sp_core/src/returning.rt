@@ -3,7 +3,7 @@ ghost use Rattle.std.specs.Prelude.{◌≡◌, ◌↔◌, None, Some, IfOk, IfEr
 ghost use Rattle.sp_group.specs.declared.step.Step.TheVariants as s;
 ghost use Rattle.sp_group.specs.Machine.{Ticket, ticket_at, version_at};
 ghost use Rattle.sp_core.specs.Carrying.{ticket_of};
-ghost use Rattle.sp_core.specs.Returning.{CanComeHome, IsCarried, IsGiven, IsPlaceOf};
+ghost use Rattle.sp_core.specs.Returning.{CanComeHome, HasValues, IsCarried, IsGiven, IsPlaceOf};
 ghost use Rattle.sp_core.specs.Running.{after};
 
 use crate::homecoming::{Brought, bring, decide_ended, take_up};
@@ -15,6 +15,7 @@ use sp_plan::Event;
 use sp_rules::{
     every_schedule, pieces_come_home, readings_and_return, returns_by_groups, versions_have_groups,
 };
+use sp_window::windows_hold;
 use std::alloc::{AllocError, Global};
 
 // Whether these are the same events.
@@ -30,6 +31,16 @@ fn same_events(events: &[Event], others: &[Event]) -> bool
         }
     }
     true
+}
+
+// Whether a job has the values of what went out.
+fn has_values(job: &Job, lent: &Lent) -> bool
+    ensures { IsTrue result ↔ HasValues job.now lent.now }
+{
+    job.version == lent.version
+        && job.first == lent.first
+        && job.closes == lent.closes
+        && job.snapshot.list() == lent.snapshot.list()
 }
 
 impl Core {
@@ -51,6 +62,7 @@ impl Core {
         ensures { IsTrue result ↔ IsCarried self.now job.now }
     {
         every_schedule();
+        windows_hold();
         let Some(place) = self.place_of(job.ticket) else {
             return false;
         };
@@ -60,10 +72,7 @@ impl Core {
         };
         let from = lent.first as usize - 1;
         let events = &self.events[from..from + lent.count as usize];
-        job.version == lent.version
-            && job.first == lent.first
-            && job.closes == lent.closes
-            && job.snapshot.list() == lent.snapshot.list()
+        has_values(job, lent)
             && same_events(job.events.as_slice(), events)
             && held.matcher.same(&job.before)
     }

@@ -13,7 +13,7 @@ loop-run-init c =
     let old = c.args.numbers.now.list in
     record {
       members = takes_first old c.union-2.new.self.list used c.args.label.now c.open_runs-run-items.result.now c.args.first c.args.count
-      (λ i. c.in_ok-union.ensures.members i ∙ ap (λ (ns : List ℕ). has old i || has ns i) c.in_ok-cut_to.ensures);
+          (λ i. c.in_ok-union.ensures.members i ∙ ap (λ (ns : List ℕ). has old i || has ns i) c.in_ok-cut_to.ensures);
       rising = c.in_ok-union.ensures.rising;
     }
 
