@@ -1,8 +1,13 @@
 pub mod Alike
 pub mod Ancestors
+pub mod Completions
 pub mod Conflicting
+pub mod Cuts
+pub mod DecidedGroups
 pub mod Entries
 pub mod Fed
+pub mod GroupsHeld
+pub mod HeldByIds
 pub mod Journal
 pub mod KeptBack
 pub mod Leased
@@ -12,6 +17,7 @@ pub mod Owed
 pub mod Pruning
 pub mod Refused
 pub mod Renewing
+pub mod RisingLists
 pub mod Rolled
 pub mod SamePlans
 pub mod Suppressed

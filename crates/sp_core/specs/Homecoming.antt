@@ -5,7 +5,9 @@ use Rattle.std.specs.List.Sorted.{IsStrictlyIncreasing}
 use Rattle.sp_plan.specs.declared.found.Match.{Match}
 use Rattle.sp_plan.specs.Runs.{is_among, used}
 use Rattle.sp_plan.specs.Moves.{Told, OpenedTold, GrownTold, CompletedTold, AbandonedTold}
+use Rattle.sp_match.specs.declared.moves.Move.{Move}
 use Rattle.sp_match.specs.declared.moves.Moves.{Moves}
+use Rattle.sp_match.specs.declared.run.Run.{Run}
 use Rattle.sp_match.specs.public.Laws.{is_completion}
 use Rattle.sp_match.specs.public.Matching.{Matching}
 use Rattle.sp_match.specs.public.Seen.{seen}
@@ -19,6 +21,10 @@ use Rattle.sp_tree.specs.Grown.{Grown, Entry, AreGrown, kin, pruned}
 use Rattle.sp_version.specs.declared.version.Version.{Version}
 use Rattle.sp_core.specs.declared.homecoming.Brought.{Brought}
 use Rattle.sp_core.specs.Rooms.{room}
+
+-- the completions that the moves of one event tell of
+abbrev pub completions_in : List Move → List Told
+completions_in ms = filter is_completion (map seen ms)
 
 -- the completions that moves tell of, in their order
 abbrev pub completions : List Moves → List Told
@@ -49,6 +55,10 @@ used_told (AbandonedTold run) = []
 abbrev pub is_grouped : Matching → ℕ → Bool
 is_grouped m r = list_any (λ run. run.0 == r && has_number (used m.plan run.1)) m.open_runs
 
+-- whether one of these runs has that number and holds an event for consumption
+abbrev pub has_group : List Run → ℕ → Bool
+has_group runs r = list_any (λ run. run.number == r && has_number run.used.list) runs
+
 -- each open run has a number from 1 on
 abbrev pub AreNumbered : Matching → Type 0
 AreNumbered m = All (λ run. 1 ≤ run.0) m.open_runs
@@ -56,6 +66,14 @@ AreNumbered m = All (λ run. 1 ≤ run.0) m.open_runs
 -- the groups are those before and this run
 abbrev pub IsWith : List ℕ → ℕ → List ℕ → Type 0
 IsWith old run new = (r : ℕ) → is_among new r ≡ (is_among old r || r == run)
+
+-- the groups are those before and these runs
+abbrev pub HasRuns : List ℕ → List ℕ → List ℕ → Type 0
+HasRuns old runs new = (r : ℕ) → is_among new r ≡ (is_among old r || is_among runs r)
+
+-- the groups are those before, and those of the runs that hold an event for consumption
+abbrev pub HasOpenRuns : List ℕ → List Run → List ℕ → Type 0
+HasOpenRuns old runs new = (r : ℕ) → is_among new r ≡ (is_among old r || has_group runs r)
 
 -- the groups are those before, those of a matcher, and these runs
 abbrev pub HasAll : List ℕ → Matching → List ℕ → List ℕ → Type 0

@@ -1,13 +1,16 @@
 // What a piece brings home, made before anything is changed.
-ghost use Rattle.std.specs.Prelude.{◌≡◌, ◌+◌, ◌<◌, ◌≤◌, [], map, length, IfOk, IfErr, OnOk, OnErr};
+ghost use Rattle.std.specs.Prelude.{◌≡◌, ◌+◌, ◌<◌, ◌≤◌, ◌++◌, [], map, length, IfOk, IfErr, IfSome, OnOk, OnErr};
 ghost use Rattle.std.specs.List.{All, flat_map};
 ghost use Rattle.sp_group.specs.Rising.{with_numbers};
-ghost use Rattle.sp_core.specs.Homecoming.{AreLeft, AreNumbered, CanDecide, HasAll, HasRoomFor, IsBrought, IsDecided, IsSameButRooms, IsTakenUp, IsWith, completions, is_grouped, spent_run, unnumbered_told, used_told};
+ghost use Rattle.sp_group.specs.Family.{entry_at};
+ghost use Rattle.sp_tree.specs.Grown.{kin};
+ghost use Rattle.sp_core.specs.Homecoming.{AreLeft, AreNumbered, CanDecide, HasAll, HasOpenRuns, HasRoomFor, HasRuns, IsBrought, IsDecided, IsSameButRooms, IsTakenUp, IsWith, completions, completions_in, has_group, is_grouped, outcome_of, spent_run, unnumbered_told, used_told};
 
 use crate::Memory;
-use sp_base::Numbers;
+use crate::rooms::count_of;
+use sp_base::{Numbers, rising_same};
 use sp_group::{Label, Outcome};
-use sp_match::{Matcher, Move, Moves, match_of};
+use sp_match::{Matcher, Move, Moves, Run, match_of};
 use sp_piece::Piece;
 use sp_plan::Match;
 use sp_tree::{Tree, decisions_add_up};
@@ -28,19 +31,48 @@ pub(crate) struct Brought {
     pub(crate) groups: Label,
 }
 
+// Adds the matches of the runs that complete by these moves, which are not numbered yet.
+fn add_matches(
+    alloc: Global,
+    window: u32,
+    moves: &[Move],
+    matches: &mut Vec<Match>,
+) -> Result<(), Memory>
+    ensures { OnOk result (matches.new.items
+        ≡ matches.old.items ++ map (unnumbered_told window) (completions_in moves.now)) }
+{
+    for one in moves {
+        if let Move::Completed { bound, used, .. } = one {
+            matches.push(match_of(alloc, window, 0, bound.as_slice(), used)?)?;
+        }
+    }
+    Ok(())
+}
+
 // The matches of the runs that completed, which are not numbered yet.
 fn matches_of(alloc: Global, window: u32, moves: &[Moves]) -> Result<Vec<Match>, Memory>
     ensures { IfOk result (λ matches. matches.items ≡ map (unnumbered_told window) (completions moves.now)) }
 {
     let mut matches = Vec::new(alloc);
     for told in moves {
-        for one in &told.list {
-            if let Move::Completed { bound, used, .. } = one {
-                matches.push(match_of(alloc, window, 0, bound.as_slice(), used)?)?;
+        add_matches(alloc, window, &told.list, &mut matches)?;
+    }
+    Ok(matches)
+}
+
+// Adds the runs that complete by these moves and used an event.
+fn add_completed(moves: &[Move], runs: &mut Vec<u32>) -> Result<(), Memory>
+    ensures { OnOk result (runs.new.items
+        ≡ runs.old.items ++ flat_map spent_run (completions_in moves.now)) }
+{
+    for one in moves {
+        if let Move::Completed { run, used, .. } = one {
+            if !used.list().is_empty() {
+                runs.push(*run)?;
             }
         }
     }
-    Ok(matches)
+    Ok(())
 }
 
 // The runs that completed and used an event.
@@ -49,15 +81,24 @@ fn completed_of(alloc: Global, moves: &[Moves]) -> Result<Vec<u32>, Memory>
 {
     let mut runs = Vec::new(alloc);
     for told in moves {
-        for one in &told.list {
-            if let Move::Completed { run, used, .. } = one {
-                if !used.list().is_empty() {
-                    runs.push(*run)?;
-                }
-            }
-        }
+        add_completed(&told.list, &mut runs)?;
     }
     Ok(runs)
+}
+
+// Takes in the numbers that the runs used which complete by these moves.
+fn add_used(alloc: Global, moves: &[Move], numbers: &mut Numbers) -> Result<(), Memory>
+    ensures { OnOk result (numbers.new.list
+        ≡ with_numbers numbers.old.list (flat_map used_told (completions_in moves.now))) }
+{
+    rising_same();
+    numbers.list();
+    for one in moves {
+        if let Move::Completed { used, .. } = one {
+            numbers.union(alloc, used)?;
+        }
+    }
+    Ok(())
 }
 
 // The numbers that the runs used which completed.
@@ -66,11 +107,7 @@ fn used_of(alloc: Global, moves: &[Moves]) -> Result<Numbers, Memory>
 {
     let mut numbers = Numbers::new(alloc);
     for told in moves {
-        for one in &told.list {
-            if let Move::Completed { used, .. } = one {
-                numbers.union(alloc, used)?;
-            }
-        }
+        add_used(alloc, &told.list, &mut numbers)?;
     }
     Ok(numbers)
 }
@@ -86,31 +123,54 @@ fn add_group(groups: &mut Label, run: u32) -> Result<(), Memory>
     groups.insert(run)
 }
 
+// Takes these runs in.
+fn add_groups(groups: &mut Label, runs: &[u32]) -> Result<(), Memory>
+    requires { All (λ run. 1 ≤ run) runs.now }
+    ensures { OnOk result (HasRuns groups.old runs.now groups.new) }
+{
+    for run in runs {
+        add_group(groups, *run)?;
+    }
+    Ok(())
+}
+
+// Takes those of the runs in that hold an event for consumption.
+fn add_open_groups(groups: &mut Label, runs: &[Run]) -> Result<(), Memory>
+    requires { All (λ run. 1 ≤ run.number) runs.now }
+    ensures { OnOk result (HasOpenRuns groups.old runs.now groups.new) }
+{
+    for run in runs {
+        if !run.used.list().is_empty() {
+            add_group(groups, run.number)?;
+        }
+    }
+    Ok(())
+}
+
 // The groups of a version with those that are open after a reading, and those that completed.
 fn groups_with(mut groups: Label, after: &Matcher, completed: &[u32]) -> Result<Label, Memory>
     requires numbered { AreNumbered after.now }
     requires given { All (λ run. 1 ≤ run) completed.now }
     ensures { IfOk result (HasAll groups after.now completed.now) }
 {
-    for run in after.open_runs() {
-        if !run.used.list().is_empty() {
-            add_group(&mut groups, run.number)?;
-        }
-    }
-    for run in completed {
-        add_group(&mut groups, *run)?;
-    }
+    add_open_groups(&mut groups, after.open_runs())?;
+    add_groups(&mut groups, completed)?;
     Ok(groups)
+}
+
+// Whether one of the runs has that number and holds an event for consumption.
+fn has_group(runs: &[Run], number: u32) -> bool
+    ensures { result ≡ has_group runs.now number }
+{
+    runs.iter()
+        .any(|run| run.number == number && !run.used.list().is_empty())
 }
 
 // Whether an open run of that number holds an event for consumption.
 pub(crate) fn is_grouped(matcher: &Matcher, number: u32) -> bool
     ensures { result ≡ is_grouped matcher.now number }
 {
-    matcher
-        .open_runs()
-        .iter()
-        .any(|run| run.number == number && !run.used.list().is_empty())
+    has_group(matcher.open_runs(), number)
 }
 
 // Makes what a reading brings home to a version of the window, which had these open groups.
@@ -141,6 +201,8 @@ fn put_all(numbers: &mut Numbers, more: &[u32])
     requires { length more.now ≤ numbers.old.spare }
     ensures { numbers.new.list ≡ with_numbers numbers.old.list more.now }
 {
+    rising_same();
+    numbers.list();
     for n in more {
         numbers.put(*n);
     }
@@ -183,10 +245,32 @@ fn make_rooms(held: &mut Version, passed: &Numbers, brought: &Brought) -> Result
     ensures same { IsSameButRooms held.old held.new }
     ensures ok { OnOk result (HasRoomFor held.new passed.now.list brought.now) }
 {
-    held.skipped.reserve(passed.list().len() as u32)?;
-    held.used.reserve(brought.used.list().len() as u32)?;
+    held.skipped.reserve(count_of(passed)?)?;
+    held.used.reserve(count_of(&brought.used)?)?;
     held.matches.reserve(brought.matches.len())?;
     held.copies.reserve(brought.copies.len())
+}
+
+// What became of a group that is open no more.
+fn outcome_of(completed: &[u32], run: u32) -> Outcome
+    ensures { result ≡ outcome_of completed.now run }
+{
+    if completed.contains(&run) {
+        Outcome::Completed
+    } else {
+        Outcome::Abandoned
+    }
+}
+
+// Whether the matcher of a live version has a group still.
+fn has_open(tree: &Tree<Version>, owner: u64, run: u32) -> bool
+    ensures { IfSome (entry_at kin tree.now.entries owner)
+        (λ e. result ≡ is_grouped e.value.matcher run) }
+{
+    match tree.get(owner) {
+        Some(held) => is_grouped(&held.matcher, run),
+        None => false,
+    }
 }
 
 // Decides each open group of a live version that its matcher has no more.
@@ -198,15 +282,10 @@ pub(crate) fn decide_ended(tree: &mut Tree<Version>, owner: u64, completed: &[u3
     let mut i = 0;
     while i < tree.groups(owner).len() {
         let run = tree.groups(owner)[i];
-        let Some(held) = tree.get(owner) else {
-            unreachable!()
-        };
-        if is_grouped(&held.matcher, run) {
+        if has_open(tree, owner, run) {
             i += 1;
-        } else if completed.contains(&run) {
-            tree.decide(owner, run, Outcome::Completed);
         } else {
-            tree.decide(owner, run, Outcome::Abandoned);
+            tree.decide(owner, run, outcome_of(completed, run));
         }
     }
 }

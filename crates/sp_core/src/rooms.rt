@@ -33,6 +33,13 @@ pub(crate) fn enter(journal: &mut Vec<Entry>, step: Step, times: u32)
     let _ = journal.push(Entry { step, times });
 }
 
+// How many numbers there are. Fails where they are more than a `u32` counts, as for want of memory.
+pub(crate) fn count_of(numbers: &Numbers) -> Result<u32, Memory>
+    ensures { IfOk result (λ count. count ≡ length numbers.now.list) }
+{
+    u32::try_from(numbers.list().len()).or(Err(AllocError))
+}
+
 // How many matches the versions hold, and how many numbers these used. Fails too where they are past all
 // memory.
 fn held_by(alloc: Global, tree: &Tree<Version>) -> Result<(usize, u32), Memory>
@@ -42,11 +49,13 @@ fn held_by(alloc: Global, tree: &Tree<Version>) -> Result<(usize, u32), Memory>
     tree.live();
     let mut matches = 0usize;
     let mut numbers = 0u32;
-    for id in tree.walk(alloc)? {
-        if let Some(held) = tree.get(id) {
+    let ids = tree.walk(alloc)?;
+    for id in &ids {
+        if let Some(held) = tree.get(*id) {
             matches = matches.checked_add(held.copies.len()).ok_or(AllocError)?;
-            let used = held.used.list().len() as u32;
-            numbers = numbers.checked_add(used).ok_or(AllocError)?;
+            numbers = numbers
+                .checked_add(count_of(&held.used)?)
+                .ok_or(AllocError)?;
         }
     }
     Ok((matches, numbers))
@@ -75,8 +84,9 @@ pub(crate) fn make_rooms_for(
     make_room(journal, tree.live())?;
     let (matches, numbers) = held_by(alloc, tree)?;
     let matches = matches.checked_add(brought.copies.len()).ok_or(AllocError)?;
-    let used = brought.used.list().len() as u32;
-    let numbers = numbers.checked_add(used).ok_or(AllocError)?;
+    let numbers = numbers
+        .checked_add(count_of(&brought.used)?)
+        .ok_or(AllocError)?;
     emitted.reserve(matches)?;
     consumed.reserve(numbers)
 }
