@@ -1,5 +1,6 @@
 pub mod Alike
 pub mod Ancestors
+pub mod Carried
 pub mod Completions
 pub mod Conflicting
 pub mod Cuts
