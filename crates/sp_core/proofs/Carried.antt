@@ -1,8 +1,7 @@
 -- A job that is given back, beside what went out under its ticket.
-use Rattle.std.proofs.Common.{◌≡◌, ℕ, zero, suc, ◌+◌, ◌-◌, ◌<◌, ◌≤◌, List, [], ◌∷◌, length, map, get_or, Option, Some, None, sym, ap, subst, ◌∙◌, refl, arith}
+use Rattle.std.proofs.Common.{◌≡◌, ℕ, zero, suc, ◌+◌, ◌-◌, ◌≤◌, List, [], ◌∷◌, length, map, get_or, Some, None, sym, ap, subst, ◌∙◌, arith}
 use Rattle.std.specs.List.{slice_get}
 use Rattle.std.specs.Option.{option_map}
-use Rattle.sp_plan.specs.declared.event.Event.{Event}
 use Rattle.sp_plan.specs.WindowNumbers.{first, size}
 use Rattle.sp_match.specs.public.Matching.{SameMatching}
 use Rattle.sp_piece.specs.declared.job.Job.{Job}

@@ -5,6 +5,7 @@ pub mod Completions
 pub mod Conflicting
 pub mod Cuts
 pub mod DecidedGroups
+pub mod Ended
 pub mod Entries
 pub mod Fed
 pub mod GroupsHeld
@@ -14,6 +15,7 @@ pub mod KeptBack
 pub mod Leased
 pub mod Least
 pub mod Lending
+pub mod NothingRead
 pub mod Owed
 pub mod Pruning
 pub mod Refused
@@ -23,6 +25,7 @@ pub mod Rolled
 pub mod SamePlans
 pub mod Suppressed
 pub mod TicketPlaces
+pub mod Tickets
 pub mod Told
 pub mod Withholding
 pub mod Written

@@ -1,6 +1,6 @@
 -- Plans that are one but for where their parts lie in memory: it does not matter which is named first, and what is the same as one of two is
 -- the same as the other.
-use Rattle.std.proofs.Common.{◌≡◌, List, [], ◌∷◌, sym, ◌∙◌}
+use Rattle.std.proofs.Common.{List, [], ◌∷◌, sym, ◌∙◌}
 use Rattle.std.specs.List.{AllZip}
 use Rattle.sp_plan.specs.declared.plan.Expr.{Expr, Literal, Word, Column, Earlier, Raise', Minus', Add', Sub', Mul'}
 use Rattle.sp_plan.specs.declared.plan.Pred.{Pred, Always, Test, And', Or', Not'}

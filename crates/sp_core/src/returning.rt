@@ -3,7 +3,7 @@ ghost use Rattle.std.specs.Prelude.{◌≡◌, ◌↔◌, None, Some, IfOk, IfEr
 ghost use Rattle.sp_group.specs.declared.step.Step.TheVariants as s;
 ghost use Rattle.sp_group.specs.Machine.{Ticket, ticket_at, version_at};
 ghost use Rattle.sp_core.specs.Carrying.{ticket_of};
-ghost use Rattle.sp_core.specs.Returning.{CanComeHome, HasValues, IsCarried, IsGiven, IsPlaceOf};
+ghost use Rattle.sp_core.specs.Returning.{CanComeHome, HasValues, IsCarried, IsGiven, IsPlaceOf, with_none_out};
 ghost use Rattle.sp_core.specs.Running.{after};
 
 use crate::homecoming::{Brought, bring, decide_ended, take_up};
@@ -15,6 +15,8 @@ use sp_plan::Event;
 use sp_rules::{
     every_schedule, pieces_come_home, readings_and_return, returns_by_groups, versions_have_groups,
 };
+use sp_tree::Tree;
+use sp_version::Version;
 use sp_window::windows_hold;
 use std::alloc::{AllocError, Global};
 
@@ -41,6 +43,15 @@ fn has_values(job: &Job, lent: &Lent) -> bool
         && job.first == lent.first
         && job.closes == lent.closes
         && job.snapshot.list() == lent.snapshot.list()
+}
+
+// Nothing is out for a version from now on.
+fn put_back_for(tree: &mut Tree<Version>, version: u64)
+    ensures { tree.new ≡ with_none_out tree.old version }
+{
+    if let Some(held) = tree.get_mut(version) {
+        held.out = None;
+    }
 }
 
 impl Core {
@@ -90,9 +101,7 @@ impl Core {
         };
         make_room(&mut self.journal, self.tree.live())?;
         let lent = self.tickets.remove(place);
-        if let Some(held) = self.tree.get_mut(lent.version) {
-            held.out = None;
-        }
+        put_back_for(&mut self.tree, lent.version);
         enter(&mut self.journal, Step::Return { ticket }, 1);
         Ok(lent)
     }

@@ -58,15 +58,15 @@ returns-then-same_events c =
     let f = found_out c.every_schedule.ensures h c.self.invariant n c.in-Some.place d held at c.index-lent.ensures (sym (ap option_copied c.in-Some-get.is) ∙ c.get.ensures) in
     let part = part_of c.deref.result.now h.events (d.first - 1) d.count c.deref.ensures.value in
     elim c.if-has_values.branch [
-      then-has_values w ↦
-        let values = c.has_values.ensures.0 w.if-has_values.true in
-        let events = sym w.as_slice.ensures ∙ w.same_events.ensures.0 (sym w.value-is ∙ c.if-same_events.true) ∙ part in
-        subst (λ (r : Running). IsTrue c.same.result ↔ IsCarried r job) c.self.view_is (
-          (λ t. carried h n d f.entry f.is job refl values events
-              (subst (λ (v : Version). SameMatching v.matcher job.before) (sym f.value) (c.same.ensures.same.0 t))),
-          (λ is. c.same.ensures.same.1 (subst (λ (v : Version). SameMatching v.matcher job.before) f.value (has_all h n d f.entry f.is job refl is).same)),
-        )
-    | else-has_values w ↦ let shut = w.value-is in let open_ = c.if-same_events.true in absurd (cc)
+      | then-has_values w ↦
+          let values = c.has_values.ensures.0 w.if-has_values.true in
+          let events = sym w.as_slice.ensures ∙ w.same_events.ensures.0 (sym w.value-is ∙ c.if-same_events.true) ∙ part in
+          subst (λ (r : Running). IsTrue c.same.result ↔ IsCarried r job) c.self.view_is (
+            (λ t. carried h n d f.entry f.is job refl values events
+                (subst (λ (v : Version). SameMatching v.matcher job.before) (sym f.value) (c.same.ensures.same.0 t))),
+            (λ is. c.same.ensures.same.1 (subst (λ (v : Version). SameMatching v.matcher job.before) f.value (has_all h n d f.entry f.is job refl is).same)),
+          )
+      | else-has_values w ↦ let shut = w.value-is in let open_ = c.if-same_events.true in absurd (cc)
     ]
 
 pub returns-else-same_events : goal.returns-else-same_events
@@ -80,16 +80,16 @@ returns-else-same_events c =
     let f = found_out c.every_schedule.ensures h c.self.invariant n c.in-Some.place d held at c.index-lent.ensures (sym (ap option_copied c.in-Some-get.is) ∙ c.get.ensures) in
     let part = part_of c.deref.result.now h.events (d.first - 1) d.count c.deref.ensures.value in
     elim c.if-has_values.branch [
-      then-has_values w ↦
-        let out = c.if-same_events.false in
-        subst (λ (r : Running). IsTrue c.if-has_values.value ↔ IsCarried r job) c.self.view_is (
-          (λ t. absurd (cc)),
-          (λ is. w.value-is ∙ w.same_events.ensures.1 (w.as_slice.ensures ∙ (has_all h n d f.entry f.is job refl is).events ∙ sym part)),
-        )
-    | else-has_values w ↦
-        let out = c.if-same_events.false in
-        subst (λ (r : Running). IsTrue c.if-has_values.value ↔ IsCarried r job) c.self.view_is (
-          (λ t. absurd (cc)),
-          (λ is. let own = c.has_values.ensures.1 (has_all h n d f.entry f.is job refl is).values in let none = w.if-has_values.false in absurd (cc)),
-        )
+      | then-has_values w ↦
+          let out = c.if-same_events.false in
+          subst (λ (r : Running). IsTrue c.if-has_values.value ↔ IsCarried r job) c.self.view_is (
+            (λ t. absurd (cc)),
+            (λ is. w.value-is ∙ w.same_events.ensures.1 (w.as_slice.ensures ∙ (has_all h n d f.entry f.is job refl is).events ∙ sym part)),
+          )
+      | else-has_values w ↦
+          let out = c.if-same_events.false in
+          subst (λ (r : Running). IsTrue c.if-has_values.value ↔ IsCarried r job) c.self.view_is (
+            (λ t. absurd (cc)),
+            (λ is. let own = c.has_values.ensures.1 (has_all h n d f.entry f.is job refl is).values in let none = w.if-has_values.false in absurd (cc)),
+          )
     ]
