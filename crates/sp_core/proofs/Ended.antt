@@ -24,7 +24,7 @@ use Rattle.sp_core.proofs.Journal.{reached, replayed_on}
 use Rattle.sp_core.proofs.NothingRead.{nothing_home, same_version}
 use Rattle.sp_core.proofs.Owed.{owed_most}
 use Rattle.sp_core.proofs.Renewing.{at_entry}
-use Rattle.sp_core.proofs.Tickets.{none_out, same_out, taken_out}
+use Rattle.sp_core.proofs.TicketsLeft.{none_out, same_out, taken_out}
 use Rattle.sp_core.proofs.Written.{all_written, grown_written, length_written, map_written}
 
 map_remove : (ls : List Lent) (place : ℕ) → map ticket_of (remove ls place) ≡ remove (map ticket_of ls) place

@@ -7,6 +7,7 @@ pub mod Renewing
 pub mod Returning
 pub mod Rooms
 pub mod Running
+pub mod Settling
 pub mod Showing
 pub mod Spawning
 pub mod Suppressing
