@@ -1,8 +1,8 @@
 // Events bound to names.
 use crate::given::number;
+use crate::text::Answer;
 use sp_plan::{Bound, Event, Values};
 use std::alloc::{AllocError, Global};
-use std::fmt::Write;
 
 // Binds an event of this time and no column to the name.
 fn bind(alloc: Global, bound: &mut Bound, name: &str, time: &str) -> Result<(), AllocError> {
@@ -13,14 +13,17 @@ fn bind(alloc: Global, bound: &mut Bound, name: &str, time: &str) -> Result<(), 
     bound.bind(alloc, name.parse().unwrap_or(0), &event)
 }
 
+// Puts other bound events in the place of these.
+fn replace(by: Result<Bound, AllocError>, bound: &mut Bound) -> Result<(), AllocError> {
+    *bound = by?;
+    Ok(())
+}
+
 // Does what a word says: `3=7` binds an event of time 7 to name 3, `copy` goes on with a copy.
 fn step(alloc: Global, bound: &mut Bound, word: &str) -> Result<(), AllocError> {
     match word.split_once('=') {
         Some((name, time)) => bind(alloc, bound, name, time),
-        None if word == "copy" => {
-            *bound = bound.copy(alloc)?;
-            Ok(())
-        }
+        None if word == "copy" => replace(bound.copy(alloc), bound),
         None => {
             bound.clear();
             Ok(())
@@ -29,12 +32,42 @@ fn step(alloc: Global, bound: &mut Bound, word: &str) -> Result<(), AllocError> 
 }
 
 // Appends the times of the last events of the names 0 to 3.
-fn push_times(bound: &Bound, out: &mut String) -> Result<(), AllocError> {
+fn push_times(bound: &Bound, out: &mut Answer) {
     for name in 0..4 {
         match bound.get(name) {
-            Some(event) => write!(out, " {}", event.time)?,
-            None => out.push_str(" -")?,
+            Some(event) => out.number(" ", event.time as i128),
+            None => out.text(" -"),
         }
+    }
+}
+
+// Does what a word says, and appends the events bound, and whether they are the same as before.
+fn push_step(
+    alloc: Global,
+    bound: &mut Bound,
+    word: &str,
+    out: &mut Answer,
+) -> Result<(), AllocError> {
+    let before = bound.copy(alloc)?;
+    let stepped = step(alloc, bound, word);
+    let is_same = bound.same(&before);
+    drop(before);
+    out.text(word);
+    out.text(":");
+    push_times(bound, out);
+    out.text(if is_same { " same\n" } else { "\n" });
+    stepped
+}
+
+// Does what the words say, one after the other.
+fn push_steps(
+    alloc: Global,
+    bound: &mut Bound,
+    words: &[String],
+    out: &mut Answer,
+) -> Result<(), AllocError> {
+    for word in words {
+        push_step(alloc, bound, word.as_str(), out)?;
     }
     Ok(())
 }
@@ -44,15 +77,10 @@ fn push_times(bound: &Bound, out: &mut String) -> Result<(), AllocError> {
 pub(crate) fn bindings(
     alloc: Global,
     words: &[String],
-    out: &mut String,
+    out: &mut Answer,
 ) -> Result<(), AllocError> {
     let mut bound = Bound::new(alloc);
-    for word in words {
-        let before = bound.copy(alloc)?;
-        step(alloc, &mut bound, word.as_str())?;
-        write!(out, "{word}:")?;
-        push_times(&bound, out)?;
-        out.push_str(if bound.same(&before) { " same\n" } else { "\n" })?;
-    }
-    Ok(())
+    let pushed = push_steps(alloc, &mut bound, words, out);
+    drop(bound);
+    pushed
 }

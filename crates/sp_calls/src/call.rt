@@ -1,5 +1,9 @@
+ghost use Rattle.std.specs.Arc.{arc_value};
+ghost use Rattle.sp_plan.specs.Compiled.{IsCompiled};
+
 use crate::bindings::bindings;
 use crate::cutting::cut_rows;
+use crate::given::{events_of, plan_of};
 use crate::lines::{read_line, written_line};
 use crate::loads::loads;
 use crate::matching::moves;
@@ -8,50 +12,94 @@ use crate::predicates::predicates;
 use crate::queries::{printed, same};
 use crate::rows::rows;
 use crate::sequence::matches;
+use crate::text::Answer;
 use crate::tokens::tokens;
 use crate::windows::windows;
-use sp_io::Files;
+use sp_io::MemFiles;
+use sp_plan::{Event, Plan};
 use std::alloc::{AllocError, Global};
+use std::sync::Arc;
 
-/// Appends what the call of this name answers, line by line, or that there is no such call. A call on a
-/// text of more than 100,000 bytes, or whose words are none of its own, answers nothing.
-pub fn answer<F: Files>(
+/// What the call of this name answers, line by line. A call on a text of more than 100,000 bytes, or whose
+/// words are none of its own, answers nothing. Any other name is taken for a call on a plan: the answer
+/// then says that there is no plan, or no such call.
+pub fn answer(
     alloc: Global,
     call: &str,
     words: &[String],
-    files: &mut F,
+    files: &mut MemFiles,
     input: &[u8],
-    out: &mut String,
+) -> Result<String, AllocError> {
+    let mut out = Answer::new(alloc);
+    match call {
+        "tokens" => tokens(alloc, input, &mut out)?,
+        "cut" => cut_rows(alloc, words, input, &mut out)?,
+        "loads" => loads(alloc, words, files, &mut out),
+        _ => answer_of_words(alloc, call, words, input, &mut out)?,
+    }
+    out.into_text()
+}
+
+// The same of the calls that are made on words alone.
+fn answer_of_words(
+    alloc: Global,
+    call: &str,
+    words: &[String],
+    input: &[u8],
+    out: &mut Answer,
 ) -> Result<(), AllocError> {
     match call {
-        "tokens" => tokens(alloc, input, out),
-        "cut" => cut_rows(alloc, words, input, out),
-        "loads" => loads(alloc, words, files, out),
         "numbers" => numbers(alloc, words, out),
-        "shares" => shares(words, out),
+        "shares" => Ok(shares(words, out)),
         "bindings" => bindings(alloc, words, out),
-        _ => answer_of_query(alloc, call, words, input, out),
+        "print" => Ok(printed(alloc, words, out)),
+        "same" => Ok(same(alloc, words, out)),
+        _ => match plan_of(alloc, words) {
+            Some(plan) => answer_of_plan(alloc, call, &plan, words, input, out),
+            None => Ok(out.text("no plan\n")),
+        },
     }
 }
 
-// The same of the calls that are made on queries.
-fn answer_of_query(
+// The same of the calls that are made on the plan of the query that the first word is.
+fn answer_of_plan(
     alloc: Global,
     call: &str,
+    plan: &Arc<Plan>,
     words: &[String],
     input: &[u8],
-    out: &mut String,
-) -> Result<(), AllocError> {
+    out: &mut Answer,
+) -> Result<(), AllocError>
+    requires { IsCompiled (arc_value plan.now) }
+{
     match call {
-        "print" => printed(alloc, words, out),
-        "same" => same(alloc, words, out),
-        "rows" => rows(alloc, words, input, out),
-        "windows" => windows(alloc, words, input, out),
-        "line" => read_line(alloc, words, input, out),
-        "match" => written_line(alloc, words, out),
-        "moves" => moves(alloc, words, input, out),
-        "plain" => matches(alloc, words, input, out),
-        "holds" => predicates(alloc, words, input, out),
-        _ => out.push_str("no such call\n"),
+        "rows" => rows(alloc, plan, input, out),
+        "line" => read_line(alloc, plan, input, out),
+        "match" => written_line(alloc, plan, words, out),
+        _ => {
+            let events = events_of(alloc, plan, input)?;
+            answer_of_events(alloc, call, plan, &events, words.len() > 1, out)
+        }
+    }
+}
+
+// The same of the calls that are made on a plan and events; the input has ended where there is a second
+// word.
+fn answer_of_events(
+    alloc: Global,
+    call: &str,
+    plan: &Arc<Plan>,
+    events: &[Event],
+    ended: bool,
+    out: &mut Answer,
+) -> Result<(), AllocError>
+    requires { IsCompiled (arc_value plan.now) }
+{
+    match call {
+        "windows" => windows(alloc, plan, events, out),
+        "moves" => moves(alloc, plan, events, out),
+        "plain" => matches(alloc, plan, events, ended, out),
+        "holds" => predicates(alloc, plan, events, out),
+        _ => Ok(out.text("no such call\n")),
     }
 }

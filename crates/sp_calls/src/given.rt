@@ -2,6 +2,7 @@
 ghost use Rattle.std.specs.Prelude.{IfSome, ◌≡◌, ◌<◌, length};
 ghost use Rattle.std.specs.Arc.{arc_value};
 ghost use Rattle.sp_plan.specs.Compiled.{IsCompiled};
+ghost use Rattle.sp_rows.specs.Progress.{read_of};
 
 use sp_compile::compile;
 use sp_parse::parse;
@@ -52,24 +53,37 @@ pub(crate) fn lines_of<'a>(alloc: Global, input: &'a [u8]) -> Result<Vec<&'a [u8
     Ok(lines)
 }
 
+// The events that the lines give as the first rows.
+fn events_of_lines(
+    alloc: Global,
+    rows: &mut Rows,
+    lines: &[&[u8]],
+) -> Result<Vec<Event>, AllocError>
+    requires { (read_of rows.old).read ≡ 0 }
+{
+    let mut events = Vec::new(alloc);
+    if lines.len() > 1000 {
+        return Ok(events);
+    }
+    for row in lines {
+        if let Some(Some(event)) = rows.row(alloc, row).ok() {
+            events.push(event)?;
+        }
+    }
+    Ok(events)
+}
+
 /// The events of lines of CSV; faulty rows give none, and more than 1,000 lines give none either.
 pub(crate) fn events_of(
     alloc: Global,
     plan: &Arc<Plan>,
     input: &[u8],
 ) -> Result<Vec<Event>, AllocError> {
-    let mut rows = Rows::new(alloc, plan.clone()?)?;
-    let mut events = Vec::new(alloc);
     let lines = lines_of(alloc, input)?;
-    if lines.len() > 1000 {
-        return Ok(events);
-    }
-    for row in &lines {
-        if let Ok(Some(event)) = rows.row(alloc, row) {
-            events.push(event)?;
-        }
-    }
-    Ok(events)
+    let mut rows = Rows::new(alloc, plan.clone()?)?;
+    let events = events_of_lines(alloc, &mut rows, &lines);
+    drop(rows);
+    events
 }
 
 /// The number that a text is, and 0 of another text.

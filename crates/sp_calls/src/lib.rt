@@ -2,6 +2,10 @@
 //! is made on and what is to come of it, as `docs/rows.md` says. No contract says that memory is there,
 //! so a call that always answered want of memory would be proved; and what texts come to is printed here
 //! and held against values worked out by hand.
+//!
+//! What is dear to prove is left out. A value of many parts is made in one function, which hands it on by
+//! reference and drops it by `drop`: the end of its scope, and each `?` before, would write out the drops
+//! of all its parts. Texts are appended with no look at want of memory, which the whole tells at the end.
 #![tactic(auto)]
 
 mod bindings;
@@ -16,6 +20,7 @@ mod predicates;
 mod queries;
 mod rows;
 mod sequence;
+mod text;
 mod tokens;
 mod windows;
 

@@ -4,26 +4,23 @@ ghost use Rattle.std.specs.Arc.{arc_value};
 ghost use Rattle.sp_plan.specs.Compiled.{IsCompiled};
 ghost use Rattle.sp_plan.specs.Events.{AllFit, NeverGoesBack};
 
-use crate::given::{events_of, plan_of};
+use crate::text::Answer;
 use sp_plan::{Event, Match, Plan};
 use sp_seq::plain;
 use std::alloc::{AllocError, Global};
-use std::fmt::Write;
 use std::sync::Arc;
 
 // Appends a match: its window, its own number, the events of each name, and those that it consumes.
-fn push_match(one: Match, out: &mut String) -> Result<(), AllocError> {
-    let Match {
-        window,
-        number,
-        bound,
-        used,
-    } = one;
-    write!(out, "{window} {number}:")?;
-    for (name, places) in &bound.into_vec() {
-        write!(out, " {name} {:?}", places.list())?;
+fn push_match(one: &Match, out: &mut Answer) {
+    out.number("", one.window as i128);
+    out.number(" ", one.number as i128);
+    out.text(":");
+    for (name, places) in one.bound.as_slice() {
+        out.number(" ", *name as i128);
+        out.list(" ", places.list());
     }
-    writeln!(out, " uses {:?}", used.list())
+    out.list(" uses ", one.used.list());
+    out.text("\n");
 }
 
 // Whether all events fit the plan.
@@ -50,36 +47,22 @@ fn in_order(events: &[Event]) -> bool
     true
 }
 
-// Appends the matches of the events.
-fn push_matches(
-    alloc: Global,
-    plan: Arc<Plan>,
-    events: &[Event],
-    ended: bool,
-    out: &mut String,
-) -> Result<(), AllocError>
-    requires { IsCompiled (arc_value plan) }
-{
-    if events.len() > 1000 || !all_fit(&plan, events) || !in_order(events) {
-        return out.push_str("events that don't fit\n");
-    }
-    for one in plain(alloc, plan, events, ended)? {
-        push_match(one, out)?;
-    }
-    Ok(())
-}
-
-/// Appends the matches of the query that the first word is; the input has ended where there is a second
-/// word.
+/// Appends the matches of the events.
 pub(crate) fn matches(
     alloc: Global,
-    words: &[String],
-    input: &[u8],
-    out: &mut String,
-) -> Result<(), AllocError> {
-    let Some(plan) = plan_of(alloc, words) else {
-        return out.push_str("no plan\n");
-    };
-    let events = events_of(alloc, &plan, input)?;
-    push_matches(alloc, plan, &events, words.len() > 1, out)
+    plan: &Arc<Plan>,
+    events: &[Event],
+    ended: bool,
+    out: &mut Answer,
+) -> Result<(), AllocError>
+    requires { IsCompiled (arc_value plan.now) }
+{
+    if events.len() > 1000 || !all_fit(plan, events) || !in_order(events) {
+        out.text("events that don't fit\n");
+        return Ok(());
+    }
+    for one in &plain(alloc, plan.clone()?, events, ended)? {
+        push_match(one, out);
+    }
+    Ok(())
 }

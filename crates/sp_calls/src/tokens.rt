@@ -1,8 +1,8 @@
 // The tokens of a text, each with its span.
 use crate::given::LONGEST;
+use crate::text::Answer;
 use sp_lex::{Kernel, LexFault, Token, lex};
 use std::alloc::{AllocError, Global};
-use std::fmt::Write;
 use std::str;
 
 // What a mark or an operator is called.
@@ -28,39 +28,45 @@ fn mark_name(kernel: &Kernel) -> &'static str {
 }
 
 // Appends what a token is.
-fn push_kernel(kernel: &Kernel, out: &mut String) -> Result<(), AllocError> {
-    match kernel {
-        Kernel::Word(word) => write!(out, "word {}", word.spelling()),
-        Kernel::Name(name) => write!(out, "name {}", name.as_str()),
-        Kernel::Whole(number) => write!(out, "whole {number}"),
-        Kernel::Decimal { units, scale } => write!(out, "decimal {units} {scale}"),
-        Kernel::Literal(text) => write!(out, "literal {}", text.as_str()),
-        _ => out.push_str(mark_name(kernel)),
-    }
+fn push_kernel(kernel: &Kernel, out: &mut Answer) {
+    let (kind, text) = match kernel {
+        Kernel::Word(word) => ("word ", word.spelling()),
+        Kernel::Name(name) => ("name ", name.as_str()),
+        Kernel::Literal(text) => ("literal ", text.as_str()),
+        Kernel::Whole(number) => return out.number("whole ", *number as i128),
+        Kernel::Decimal { units, scale } => {
+            out.number("decimal ", *units as i128);
+            return out.number(" ", *scale as i128);
+        }
+        _ => ("", mark_name(kernel)),
+    };
+    out.text(kind);
+    out.text(text);
 }
 
 // Appends a token.
-fn push_token(token: &Token, out: &mut String) -> Result<(), AllocError> {
-    push_kernel(&token.kernel, out)?;
-    writeln!(out, " {}..{}", token.span.from, token.span.to)
+fn push_token(token: &Token, out: &mut Answer) {
+    push_kernel(&token.kernel, out);
+    out.number(" ", token.span.from as i128);
+    out.number("..", token.span.to as i128);
+    out.text("\n");
 }
 
 // Appends why a text has no tokens.
-fn push_fault(fault: LexFault, out: &mut String) -> Result<(), AllocError> {
-    match fault {
-        LexFault::BadCharacter { at } => {
-            writeln!(out, "a character that begins no token, at byte {at}")
-        }
-        LexFault::OpenText { at } => {
-            writeln!(out, "a text without its closing quote, from byte {at}")
-        }
-        LexFault::LongNumber { at } => { writeln!(out, "a number that is too long, at byte {at}") }
-        LexFault::Memory => Err(AllocError),
-    }
+fn push_fault(fault: LexFault, out: &mut Answer) -> Result<(), AllocError> {
+    let (why, at) = match fault {
+        LexFault::BadCharacter { at } => ("a character that begins no token, at byte ", at),
+        LexFault::OpenText { at } => ("a text without its closing quote, from byte ", at),
+        LexFault::LongNumber { at } => ("a number that is too long, at byte ", at),
+        LexFault::Memory => return Err(AllocError),
+    };
+    out.number(why, at as i128);
+    out.text("\n");
+    Ok(())
 }
 
 /// Appends a line for each token of the input, or the fault.
-pub(crate) fn tokens(alloc: Global, input: &[u8], out: &mut String) -> Result<(), AllocError> {
+pub(crate) fn tokens(alloc: Global, input: &[u8], out: &mut Answer) -> Result<(), AllocError> {
     let text = str::from_utf8(input).unwrap_or("");
     if text.len() > LONGEST {
         return Ok(());
@@ -68,7 +74,7 @@ pub(crate) fn tokens(alloc: Global, input: &[u8], out: &mut String) -> Result<()
     match lex(alloc, text) {
         Ok(tokens) => {
             for token in &tokens {
-                push_token(token, out)?;
+                push_token(token, out);
             }
             Ok(())
         }

@@ -3,32 +3,34 @@ ghost use Rattle.std.specs.Prelude.{◌≡◌, ◌≤◌, false, length};
 ghost use Rattle.std.specs.Arc.{arc_value};
 ghost use Rattle.sp_plan.specs.Compiled.{IsCompiled};
 
-use crate::given::{events_of, plan_of};
+use crate::text::Answer;
 use sp_plan::{Event, Plan};
 use sp_window::{Window, Windows};
 use std::alloc::{AllocError, Global};
-use std::fmt::Write;
 use std::sync::Arc;
 
 // Appends a window: its first event, and its last where it is closed.
-fn push_window(window: Window, out: &mut String) -> Result<(), AllocError> {
+fn push_window(window: Window, out: &mut Answer) {
+    out.number(" ", window.first as i128);
     match window.end {
-        Some(end) => write!(out, " {}-{end}", window.first),
-        None => write!(out, " {}-", window.first),
+        Some(end) => out.number("-", end as i128),
+        None => out.text("-"),
     }
 }
 
 // Appends how many windows are closed of how many, and where there are few, each of them.
-fn push_windows(windows: &Windows, out: &mut String) -> Result<(), AllocError> {
+fn push_windows(windows: &Windows, out: &mut Answer) {
     let count = windows.count();
-    write!(out, "{} of {count}:", windows.closed())?;
+    out.number("", windows.closed() as i128);
+    out.number(" of ", count as i128);
+    out.text(":");
     for number in 0..10 {
         match windows.get(number) {
-            Some(window) if count <= 8 => push_window(window, out)?,
+            Some(window) if count <= 8 => push_window(window, out),
             _ => {}
         }
     }
-    out.push_str("\n")
+    out.text("\n");
 }
 
 // Feeds the events that fit the plan and go on in time, where there are at most 1,000 of them.
@@ -56,33 +58,20 @@ fn feed(
     Ok(())
 }
 
-// Appends the windows of a plan, before and after the end of input.
-fn push_fed(
-    alloc: Global,
-    plan: Arc<Plan>,
-    events: &[Event],
-    out: &mut String,
-) -> Result<(), AllocError>
-    requires { IsCompiled (arc_value plan) }
-{
-    let mut windows = Windows::new(alloc, plan.clone()?)?;
-    feed(alloc, &plan, &mut windows, events)?;
-    push_windows(&windows, out)?;
-    windows.end();
-    push_windows(&windows, out)
-}
-
-/// Appends a line for the windows before the end of input and one for those after it, for the query that
-/// the first word is.
+/// Appends a line for the windows before the end of input and one for those after it.
 pub(crate) fn windows(
     alloc: Global,
-    words: &[String],
-    input: &[u8],
-    out: &mut String,
-) -> Result<(), AllocError> {
-    let Some(plan) = plan_of(alloc, words) else {
-        return out.push_str("no plan\n");
-    };
-    let events = events_of(alloc, &plan, input)?;
-    push_fed(alloc, plan, &events, out)
+    plan: &Arc<Plan>,
+    events: &[Event],
+    out: &mut Answer,
+) -> Result<(), AllocError>
+    requires { IsCompiled (arc_value plan.now) }
+{
+    let mut windows = Windows::new(alloc, plan.clone()?)?;
+    let fed = feed(alloc, plan, &mut windows, events);
+    push_windows(&windows, out);
+    windows.end();
+    push_windows(&windows, out);
+    drop(windows);
+    fed
 }

@@ -3,7 +3,7 @@ use Rattle.std.proofs.Common.{◌≡◌, ◌⊎◌, inl, inr, ℕ, zero, suc, �
 use Rattle.std.specs.List.{All, flat_map, remove, sum}
 use Rattle.std.specs.List.Sorted.{IsStrictlyIncreasing}
 use Rattle.std.proofs.lemmas.Bool.Decides.{nat_tests}
-use Rattle.std.proofs.lemmas.List.{append_assoc, drop-map, length-append, length-map, map-append, take-map}
+use Rattle.std.proofs.lemmas.List.{append_assoc, length-append, length-map}
 use Rattle.std.proofs.lemmas.List.Elements.{All-map}
 use Rattle.std.proofs.lemmas.Option.{slice_get_within}
 use Rattle.sp_base.specs.Numbers.{NumberList}
@@ -54,7 +54,7 @@ use Rattle.sp_core.proofs.Later.{length_numbers, numbers_more, spent_are, unnumb
 use Rattle.sp_core.proofs.Owed.{owed_most}
 use Rattle.sp_core.proofs.Owner.{only_one, settled, settled_are, settled_if, sum_settled}
 use Rattle.sp_core.proofs.Pruning.{all_pruned, length_pruned, sum_pruned}
-use Rattle.sp_core.proofs.Tickets.{none_out, same_out, taken_out}
+use Rattle.sp_core.proofs.TicketsLeft.{left_without, none_out, same_out}
 
 or_first : (a b c d : Bool) → d ≡ ((a || b) || c) → a ≡ true → d ≡ true
 or_first true b c d is h = is
@@ -439,17 +439,6 @@ module _ (laws : HomeLaws) (h : Holding) (p : Pieced) (a : Coming h p) (b : Brou
 
     pub given_home : IsGiven (running h) (running after) p g.Home
     given_home = (a.ticket, version_of e, record { out = a.out; live = (comes laws h p a).live }, a.carries, running_home)
-
--- a ticket that is taken out of its place
-map_remove : (ls : List Lent) (place : ℕ) → map ticket_of (remove ls place) ≡ remove (map ticket_of ls) place
-map_remove ls place =
-    map-append ticket_of (take place ls) (drop (suc place) ls)
-    ∙ ap (λ (ts : List Ticket). ts ++ map ticket_of (drop (suc place) ls)) (sym (take-map ticket_of place ls))
-    ∙ ap (λ (ts : List Ticket). take place (map ticket_of ls) ++ ts) (sym (drop-map ticket_of (suc place) ls))
-
-pub left_without : (ls : List Lent) (n place : ℕ) → NewestFirst (map ticket_of ls) → IsPlaceOf (map ticket_of ls) n place → map ticket_of (remove ls place) ≡ without n (map ticket_of ls)
-left_without ls n place newest at =
-    map_remove ls place ∙ taken_out (map ticket_of ls) place at.0 newest at.1 ∙ ap (λ (k : ℕ). without k (map ticket_of ls)) at.2
 
 -- it is a place among the tickets
 pub place_within : (ls : List Lent) (n place : ℕ) → IsPlaceOf (map ticket_of ls) n place → place < length ls

@@ -1,6 +1,8 @@
 -- The least number that passes one of two tests is the lesser of those that pass each.
-use Rattle.std.proofs.Common.{◌≡◌, ℕ, zero, suc, ◌+◌, ◌<◌, ◌≤◌, Bool, true, false, cond, not, ◌&&◌, ◌||◌, List, Option, Some, None, min, refl, sym, ap, ◌∙◌, arith}
+use Rattle.std.proofs.Common.{◌≡◌, ℕ, zero, suc, ◌+◌, ◌<◌, ◌≤◌, ◌≢◌, ◌⊎◌, inl, inr, subst, Bool, true, false, cond, not, ◌&&◌, ◌||◌, List, Option, Some, None, min, refl, sym, ap, ◌∙◌, arith}
 use Rattle.std.specs.Prelude.{nat_le, nat_lt}
+use Rattle.std.proofs.lemmas.Bool.{cases_eq, cases_lt}
+use Rattle.std.proofs.lemmas.Option.{same_Some}
 use Rattle.sp_plan.specs.Runs.{is_among}
 use Rattle.sp_group.specs.Rising.{least}
 use Rattle.sp_core.specs.Withheld.{lesser}
@@ -96,3 +98,41 @@ pub unskipped_alike : (p t : ℕ → Bool) (first count : ℕ) (skipped : List �
 unskipped_alike p t first count skipped same =
     least_alike (unskipped p first count skipped) (unskipped t first count skipped) first count
     (λ i low high. ap (λ (b : Bool). b && (nat_le first i && nat_lt i (first + count) && not (is_among skipped i))) (same i))
+
+-- the least number is within the range, and passes
+pub least_below : (p : ℕ → Bool) (first n m : ℕ) → least p first n ≡ Some m → m < first + n
+least_below p first zero m is = absurd (cc is)
+least_below p first (suc n) m is = one (p first) is (least_below p (first + 1) n m)
+  where
+    one : (b : Bool) → cond b (Some first) (least p (first + 1) n) ≡ Some m → (least p (first + 1) n ≡ Some m → m < first + 1 + n) → m < first + suc n
+    one true is rest = let e : first ≡ m = same_Some first m is in omega arith
+    one false is rest = let low = rest is in omega arith
+
+pub least_passes : (p : ℕ → Bool) (first n m : ℕ) → least p first n ≡ Some m → p m ≡ true
+least_passes p first zero m is = absurd (cc is)
+least_passes p first (suc n) m is = one (p first) refl is (least_passes p (first + 1) n m)
+  where
+    one : (b : Bool) → p first ≡ b → cond b (Some first) (least p (first + 1) n) ≡ Some m → (least p (first + 1) n ≡ Some m → p m ≡ true) → p m ≡ true
+    one true pass is rest = ap p (sym (same_Some first m is)) ∙ pass
+    one false fail is rest = rest is
+
+-- numbers of a range that do not pass can be left out at both ends
+pub least_within : (p : ℕ → Bool) (first n from count : ℕ) → first ≤ from → from + count ≤ first + n → ((i : ℕ) → first ≤ i → i < from → p i ≡ false)
+    → ((i : ℕ) → from + count ≤ i → p i ≡ false) → least p first n ≡ least p from count
+least_within p first zero from zero low high front back = refl
+least_within p first zero from (suc count) low high front back = absurd (omega arith)
+least_within p first (suc n) from zero low high front back = least_nothing p first (suc n) (λ i more less. fails i more (cases_lt i from))
+  where
+    fails : (i : ℕ) → first ≤ i → (i < from) ⊎ (from ≤ i) → p i ≡ false
+    fails i more (inl less) = front i more less
+    fails i more (inr past) = back i (omega arith)
+least_within p first (suc n) from (suc count) low high front back =
+    one (cases_eq first from)
+    (λ same. least_within p (first + 1) n (first + 1) count (omega arith) (omega arith) (λ i more less. absurd (omega arith)) (λ i past. back i (omega arith)))
+    (λ other. least_within p (first + 1) n from (suc count) (omega arith) (omega arith) (λ i more less. front i (omega arith) less) back)
+  where
+    one : (first ≡ from) ⊎ (first ≢ from) → (first ≡ from → least p (first + 1) n ≡ least p (first + 1) count)
+        → (first ≢ from → least p (first + 1) n ≡ least p from (suc count)) → least p first (suc n) ≡ least p from (suc count)
+    one (inl same) here rest =
+        subst (λ (k : ℕ). least p first (suc n) ≡ least p k (suc count)) same (ap (λ (o : Option ℕ). cond (p first) (Some first) o) (here same))
+    one (inr other) here rest = ap (λ (b : Bool). cond b (Some first) (least p (first + 1) n)) (front first (omega arith) (omega arith)) ∙ rest other

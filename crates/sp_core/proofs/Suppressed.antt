@@ -1,20 +1,22 @@
 -- What is suppressed for the versions of a core, from one of them up to the root.
-use Rattle.std.proofs.Common.{◌≡◌, ℕ, ◌<◌, Bool, true, ◌||◌, List, map, Option, Some, None, is_some, refl, sym, ap, ◌∙◌}
+use Rattle.std.proofs.Common.{◌≡◌, ℕ, ◌<◌, Bool, true, false, ◌&&◌, ◌||◌, List, [], filter, map, Option, Some, None, is_some, refl, sym, ap, ◌∙◌}
 use Rattle.std.specs.Prelude.{IsSome}
 use Rattle.std.specs.Option.{option_map}
 use Rattle.std.proofs.lemmas.Option.{same_Some}
-use Rattle.sp_plan.specs.declared.event.Event.{Event}
+use Rattle.sp_base.specs.Numbers.{has, is_within}
 use Rattle.sp_plan.specs.Runs.{is_among}
 use Rattle.sp_group.specs.Family.{entry_at}
-use Rattle.sp_group.specs.Machine.{inner, is_suppressed, is_withheld, version_at}
+use Rattle.sp_group.specs.Machine.{inner, is_suppressed, version_at}
 use Rattle.sp_version.specs.declared.version.Version.{Version}
-use Rattle.sp_tree.specs.Grown.{AreGrown, Entry, kin, label_of, parent_of, value_of}
+use Rattle.sp_tree.specs.Grown.{Entry, kin, label_of, parent_of, value_of}
 use Rattle.sp_core.specs.Carrying.{ticket_of}
-use Rattle.sp_core.specs.Holding.{Holding, Holds, IsCore, machine_of, version_of}
+use Rattle.sp_core.specs.Holding.{Holding, Holds, IsCore, machine_of, running, version_of}
+use Rattle.sp_core.specs.Running.{Running}
 use Rattle.sp_core.specs.Suppressing.{least_suppressed}
-use Rattle.sp_core.specs.Withheld.{is_kept_back, least_kept_back, lesser}
+use Rattle.sp_core.specs.Withheld.{is_kept_back, is_kept_within, least_kept_back, lesser}
 use Rattle.sp_core.proofs.Ancestors as up
 use Rattle.sp_core.proofs.Entries.{found_of_all, version_found}
+use Rattle.sp_core.proofs.KeptBack.{has_filtered}
 use Rattle.sp_core.proofs.Least.{lesser_joins, lesser_swaps, least_unskipped, unskipped_alike, unskipped_either}
 use Rattle.sp_core.proofs.Withholding.{kept_back_alike}
 
@@ -102,3 +104,54 @@ live_entry h id live = one (entry_at kin h.tree.entries id) (ap is_some (sym (ve
     one : (o : Option (Entry Version)) → is_some (option_map version_of o) ≡ true → is_some o ≡ true
     one None is = is
     one (Some e) is = refl
+
+-- Numbers within a range that were taken in on the way from a version up to another, which is live: with what is suppressed for that one
+-- they are what is suppressed for the version.
+pub record Taken (r : Running) (version below first count : ℕ) (numbers : List ℕ) : Type 0 where
+  pub live : IsSome (version_at r.machine.versions below)
+  pub members : (i : ℕ) → (has numbers i || (is_within first count i && is_suppressed r.plan r.machine below i)) ≡ (is_within first count i && is_suppressed r.plan r.machine version i)
+
+-- an entry of the tree is a version of the machine
+pub entry_live : (h : Holding) (id : ℕ) → is_some (entry_at kin h.tree.entries id) ≡ true → IsSome (version_at (machine_of h).versions id)
+entry_live h id live = ap is_some (version_found h.tree.entries id) ∙ one (entry_at kin h.tree.entries id) live
+  where
+    one : (o : Option (Entry Version)) → is_some o ≡ true → is_some (option_map version_of o) ≡ true
+    one None is = is
+    one (Some e) is = refl
+
+-- nothing yet
+pub taken_none : (r : Running) (version first count : ℕ) (numbers : List ℕ) → numbers ≡ [] → IsSome (version_at r.machine.versions version)
+    → Taken r version version first count numbers
+taken_none r version first count numbers none live = record {
+  live = live;
+  members = λ i. ap (λ (ns : List ℕ). has ns i || (is_within first count i && is_suppressed r.plan r.machine version i)) none;
+}
+
+-- what a parent keeps is taken in
+pub taken_more : (h : Holding) (version id p first count : ℕ) (label old new : List ℕ) (held : Version) → Below h id p
+    → label_of (entry_at kin h.tree.entries id) ≡ Some label → value_of (entry_at kin h.tree.entries p) ≡ Some held
+    → ((i : ℕ) → has new i ≡ (has old i || is_kept_within held label first count i)) → Taken (running h) version id first count old
+    → Taken (running h) version p first count new
+taken_more h version id p first count label old new held b labelled holds takes before = record {
+  live = entry_live h p b.live;
+  members = λ i.
+      let w = is_within first count i in
+      ap (λ (c : Bool). c || (w && suppressed h p i)) (takes i) ∙ one (has old i) w (is_kept_back held label i) (suppressed h p i)
+      ∙ ap (λ (c : Bool). has old i || (w && c)) (sym (below_more h id p label held b labelled holds i)) ∙ before.members i;
+}
+  where
+    one : (a w k s : Bool) → ((a || (w && k)) || (w && s)) ≡ (a || (w && (s || k)))
+    one true w k s = refl
+    one false true true true = refl
+    one false true true false = refl
+    one false true false true = refl
+    one false true false false = refl
+    one false false k s = refl
+
+-- and at last what is consumed
+pub taken_all : (h : Holding) (version id first count : ℕ) (old new : List ℕ) → parent_of (entry_at kin h.tree.entries id) ≡ None
+    → ((i : ℕ) → has new i ≡ (has old i || has (filter (is_within first count) h.consumed.list) i)) → Taken (running h) version id first count old
+    → (i : ℕ) → has new i ≡ (is_within first count i && suppressed h version i)
+taken_all h version id first count old new none takes before i =
+    takes i ∙ ap (λ (b : Bool). has old i || b) (has_filtered (is_within first count) h.consumed.list i)
+    ∙ ap (λ (b : Bool). has old i || (is_within first count i && b)) (sym (below_none h id (live_entry h id before.live) none i)) ∙ before.members i

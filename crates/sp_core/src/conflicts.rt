@@ -1,14 +1,17 @@
 // What is suppressed for a version: what is consumed, what the matches of its ancestors used, and the groups
 // that its label and theirs name. All of it is looked for within a range of numbers, from the version up to
 // the root.
-ghost use Rattle.std.specs.Prelude.{◌≡◌, ℕ, IfOk, IsSome};
+ghost use Rattle.std.specs.Prelude.{◌≡◌, IfOk, IsSome, is_none};
+ghost use Rattle.sp_group.specs.declared.step.Step.TheVariants as s;
 ghost use Rattle.sp_group.specs.Machine.{version_at};
+ghost use Rattle.sp_core.specs.Running.{refused};
 ghost use Rattle.sp_core.specs.Withheld.{lesser};
 ghost use Rattle.sp_core.specs.Suppressing.{conflict_at, least_suppressed, ready_ids, suppressed_within};
 
+use crate::lent::lent_under;
 use crate::withheld::{least_withheld, withheld_within};
 use crate::{Core, Memory};
-use sp_base::Numbers;
+use sp_base::{Numbers, rising_same};
 use sp_rules::every_schedule;
 use sp_version::least_unskipped;
 use std::alloc::Global;
@@ -36,7 +39,6 @@ impl Core {
         requires live { IsSome (version_at self.now.machine.versions version) }
         ensures { result ≡ least_suppressed self.now.plan self.now.machine version first count skipped.now.list }
     {
-        every_schedule();
         let mut found = None;
         let mut below = version;
         while let Some(parent) = self.tree.parent(below) {
@@ -63,8 +65,8 @@ impl Core {
         requires live { IsSome (version_at self.now.machine.versions version) }
         ensures { IfOk result (λ numbers. numbers.list ≡ suppressed_within self.now.plan self.now.machine version first count) }
     {
-        every_schedule();
-        let mut numbers = self.consumed.cut_to(alloc, first, count)?;
+        rising_same();
+        let mut numbers = Numbers::new(alloc);
         let mut below = version;
         while let Some(parent) = self.tree.parent(below) {
             let (Some(label), Some(held)) = (self.tree.label(below), self.tree.get(parent)) else {
@@ -73,6 +75,7 @@ impl Core {
             withheld_within(alloc, held, label, first, count, &mut numbers)?;
             below = parent;
         }
+        numbers.union(alloc, &self.consumed.cut_to(alloc, first, count)?)?;
         Ok(numbers)
     }
 
@@ -87,7 +90,7 @@ impl Core {
             return read;
         }
         let ticket = held.out?;
-        let lent = self.tickets.iter().find(|lent| lent.ticket == ticket)?;
+        let lent = lent_under(&self.tickets, ticket)?;
         self.least_suppressed(version, lent.first, lent.count, &lent.snapshot)
     }
 
@@ -100,12 +103,19 @@ impl Core {
         Ok(self.conflict_of(version))
     }
 
+    // Whether a lease of a version would not be refused.
+    fn is_ready(&self, version: u64) -> bool
+        ensures { result ≡ is_none (refused self.now (s.Lease version 1)) }
+    {
+        self.lease_refusal(version).is_none()
+    }
+
     /// The versions that `lease` would not refuse, by rising id.
     pub fn ready(&self, alloc: Global) -> Result<Vec<u64>, Memory>
         ensures { IfOk result (λ ids. ids.items ≡ ready_ids self.now.plan self.now.bound self.now.machine) }
     {
         let mut ids = self.tree.walk(alloc)?;
-        ids.retain(|id| self.lease_refusal(*id).is_none());
+        ids.retain(|id| self.is_ready(*id));
         Ok(ids)
     }
 }

@@ -14,17 +14,17 @@ pub enum CoreFault {
 }
 
 impl From<Memory> for CoreFault {
-    fn from(_: Memory) -> CoreFault
-        ensures { result ≡ f.Memory }
-    {
+    ghost from_gives = { λ _ fault. fault ≡ f.Memory };
+
+    fn from(_: Memory) -> CoreFault {
         CoreFault::Memory
     }
 }
 
 impl From<Refusal> for CoreFault {
-    fn from(refusal: Refusal) -> CoreFault
-        ensures { result ≡ f.Refused refusal }
-    {
+    ghost from_gives = { λ refusal fault. fault ≡ f.Refused refusal };
+
+    fn from(refusal: Refusal) -> CoreFault {
         CoreFault::Refused(refusal)
     }
 }

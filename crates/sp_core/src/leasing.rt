@@ -81,9 +81,11 @@ impl Core {
     // What goes out under the next ticket, where at most `count` events are asked for.
     fn lent(&self, alloc: Global, version: u64, count: u32) -> Result<Lent, Memory>
         requires passes { refused self.now (s.Lease version count) ≡ None }
-        ensures { IfOk result (IsLent self.now version count) }
+        ensures lent { IfOk result (IsLent self.now version count) }
+        ensures version { IfOk result (λ lent. lent.version ≡ version) }
     {
         every_schedule();
+        windows_hold();
         let Some(held) = self.tree.get(version) else {
             unreachable!()
         };

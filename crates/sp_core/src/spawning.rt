@@ -1,5 +1,6 @@
 // Fresh versions: a root, or a child under a guess.
-ghost use Rattle.std.specs.Prelude.{◌≡◌, ◌+◌, None, Some, IfOk, IfErr, OnOk, OnErr};
+ghost use Rattle.std.specs.Prelude.{◌≡◌, ◌+◌, None, Some, not, find, IfOk, IfErr, OnOk, OnErr};
+ghost use Rattle.sp_plan.specs.Runs.{is_among};
 ghost use Rattle.sp_group.specs.declared.step.Step.TheVariants as s;
 ghost use Rattle.sp_core.specs.Faults.{IsFault};
 ghost use Rattle.sp_core.specs.Running.{IsDone, after, refused};
@@ -8,10 +9,25 @@ ghost use Rattle.sp_core.specs.Spawning.{spawned_window};
 use crate::rooms::{enter, make_room};
 use crate::{Core, CoreFault, Memory};
 use sp_group::{Label, Refusal, Step};
+use sp_plan::plans_are_themselves;
 use sp_rules::every_schedule;
 use sp_version::Version;
-use sp_window::windows_hold;
+use sp_window::{closed_come_first, windows_are_few, windows_hold};
 use std::alloc::{AllocError, Global};
+
+// Whether a run has one of the open groups.
+fn is_open(groups: &[u32], run: u32) -> bool
+    ensures { result ≡ is_among groups.now run }
+{
+    groups.iter().any(|group| *group == run)
+}
+
+// The first run of a label that has none of the open groups.
+fn first_not_open(groups: &[u32], label: &[u32]) -> Option<u32>
+    ensures { result ≡ find (λ run. not (is_among groups.now run)) label.now }
+{
+    label.iter().find(|run| !is_open(groups, **run)).copied()
+}
 
 impl Core {
     // Why a root is refused.
@@ -19,6 +35,8 @@ impl Core {
         ensures { result ≡ refused self.now (s.Spawn None label.now) }
     {
         every_schedule();
+        closed_come_first();
+        windows_are_few();
         if let Some(child) = self.tree.root() {
             return Some(Refusal::LabelTaken { child });
         }
@@ -38,6 +56,7 @@ impl Core {
         ensures { result ≡ refused self.now (s.Spawn (Some parent) label.now) }
     {
         every_schedule();
+        windows_are_few();
         let Some(held) = self.tree.get(parent) else {
             return Some(Refusal::NotLive { version: parent });
         };
@@ -46,9 +65,8 @@ impl Core {
                 number: held.window + 1,
             });
         }
-        let groups = self.tree.groups(parent);
-        if let Some(group) = label.runs().iter().find(|run| !groups.contains(run)) {
-            return Some(Refusal::NotOpen { group: *group });
+        if let Some(group) = first_not_open(self.tree.groups(parent), label.runs()) {
+            return Some(Refusal::NotOpen { group });
         }
         if let Some(child) = self.tree.child(parent, label) {
             return Some(Refusal::LabelTaken { child });
@@ -77,6 +95,7 @@ impl Core {
     {
         every_schedule();
         windows_hold();
+        plans_are_themselves();
         let Some(place) = self.windows.get(window) else {
             unreachable!()
         };
@@ -125,6 +144,8 @@ impl Core {
         ensures { result ≡ spawned_window self.now.machine parent }
     {
         every_schedule();
+        closed_come_first();
+        windows_are_few();
         match parent {
             None => self.finished + 1,
             Some(parent) => match self.tree.get(parent) {

@@ -1,6 +1,5 @@
 // What a parent keeps from a child: what its matches used, and the groups that the child's label names.
-ghost use Rattle.std.specs.Prelude.{◌≡◌, ℕ, ◌||◌, OnOk, IsTrue, option_copied};
-ghost use Rattle.std.specs.List.Sorted.{IsStrictlyIncreasing};
+ghost use Rattle.std.specs.Prelude.{◌≡◌, ℕ, ◌||◌, OnOk};
 ghost use Rattle.sp_base.specs.Numbers.{has};
 ghost use Rattle.sp_core.specs.Withheld.{is_kept_back, is_kept_within, least_kept_back};
 
@@ -41,8 +40,7 @@ pub(crate) fn withheld_within(
     count: u32,
     numbers: &mut Numbers,
 ) -> Result<(), Memory>
-    ensures members { OnOk result ((i : ℕ) → has numbers.new.list i ≡ (has numbers.old.list i || is_kept_within parent.now label.now first count i)) }
-    ensures rising { OnOk result (IsStrictlyIncreasing numbers.old.list → IsStrictlyIncreasing numbers.new.list) }
+    ensures { OnOk result ((i : ℕ) → has numbers.new.list i ≡ (has numbers.old.list i || is_kept_within parent.now label.now first count i)) }
 {
     numbers.union(alloc, &parent.used.cut_to(alloc, first, count)?)?;
     for run in parent.matcher.open_runs() {

@@ -2,6 +2,7 @@ mod Alike
 mod Answered
 mod Answering
 mod Commands
+mod Completing
 mod FewEvents
 mod Leading
 mod LinesOf

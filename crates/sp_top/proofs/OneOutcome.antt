@@ -32,8 +32,16 @@ one_place_by _ _ _ _ (with_text first text by) (with_file other name so) is = le
 one_place_by _ _ _ _ (with_file first name by) (with_text other text so) is = let clash : 102 ≡ 113 = ap option_mark is in absurd (omega (arith, clash))
 one_place_by _ _ _ _ (with_file first name by) (with_file other same_name so) is = let same : name ≡ same_name = cc is in ap file same
 
-one_place : (words : List (List ℕ)) (p r : Place) → IsCommand words p → IsCommand words r → p ≡ r
+pub one_place : (words : List (List ℕ)) (p r : Place) → IsCommand words p → IsCommand words r → p ≡ r
 one_place words p r first second = one_place_by words words p r first second refl
+
+-- ---- files
+
+-- a file within the limit is none that is longer
+pub not_longer : (files : List (List ℕ × List ℕ)) (name content : List ℕ) → first_file files name ≡ Some content → length content ≤ longest_query → IsSomeAnd (first_file files name) (λ held. longest_query < length held) → ⊥
+not_longer files name content holds short longer =
+    let over = subst (λ (o : Option (List ℕ)). IsSomeAnd o (λ held. longest_query < length held)) holds longer in
+    absurd (omega (arith, short, over))
 
 -- ---- texts
 
@@ -61,7 +69,7 @@ module _ (laws : TextLaws) (bytes : List ℕ) (ended : Bool) where
   one_verdict : (text : List ℕ) (query other : QueryTree) (found given : Option CompileFault) → IsQuery text query → IsQuery text other → Checks query found → Checks other given → found ≡ given
   one_verdict text query other found given is so finds gives = laws.verdict other found given (subst (λ (q : QueryTree). Checks q found) (laws.query text query other is so) finds) gives
 
-  one_text : (text : List ℕ) (a b : Outcome) → TextOutcome text bytes ended a → TextOutcome text bytes ended b → a ≡ b
+  pub one_text : (text : List ℕ) (a b : Outcome) → TextOutcome text bytes ended a → TextOutcome text bytes ended b → a ≡ b
   one_text text _ _ (no_text none) (no_text other) = refl
   one_text text _ _ (no_text none) (no_query fault utf8 refuses no_memory) = absurd (none utf8)
   one_text text _ _ (no_text none) (no_plan query fault utf8 is refuses no_memory) = absurd (none utf8)
@@ -86,22 +94,17 @@ module _ (laws : TextLaws) (bytes : List ℕ) (ended : Bool) where
   one_text text _ _ (run query q utf8 is plan) (run query' p utf8' is' plan') =
       plans_run_alike laws.truth query' q p (subst (IsPlanOf q) (laws.query text query query' is is') plan) plan' bytes ended
 
-  -- ---- files
+  -- ---- places in words and in files
 
   module _ (files : List (List ℕ × List ℕ)) where
-    not_longer : (name content : List ℕ) → first_file files name ≡ Some content → length content ≤ longest_query → IsSomeAnd (first_file files name) (λ held. longest_query < length held) → ⊥
-    not_longer name content holds short longer =
-        let over = subst (λ (o : Option (List ℕ)). IsSomeAnd o (λ held. longest_query < length held)) holds longer in
-        absurd (omega (arith, short, over))
-
     one_at : (place : Place) (a b : Outcome) → QueryOutcome (Some files) bytes ended place a → QueryOutcome (Some files) bytes ended place b → a ≡ b
     one_at _ _ _ (long_text text long) (long_text _ other) = refl
     one_at _ _ _ (long_text text long) (of_text _ o short is) = absurd (omega (arith, long, short))
     one_at _ _ _ (of_text text o short is) (long_text _ long) = absurd (omega (arith, long, short))
     one_at _ _ _ (of_text text o short is) (of_text _ u short' is') = one_text text o u is is'
     one_at _ _ _ (long_file name long) (long_file _ other) = refl
-    one_at _ _ _ (long_file name long) (of_file _ content o holds short is) = absurd (not_longer name content holds short long)
-    one_at _ _ _ (of_file name content o holds short is) (long_file _ long) = absurd (not_longer name content holds short long)
+    one_at _ _ _ (long_file name long) (of_file _ content o holds short is) = absurd (not_longer files name content holds short long)
+    one_at _ _ _ (of_file name content o holds short is) (long_file _ long) = absurd (not_longer files name content holds short long)
     one_at _ _ _ (of_file name content o holds short is) (of_file _ other u holds' short' is') =
         let both : Some content ≡ Some other = sym holds ∙ holds' in
         let same : content ≡ other = cc both in

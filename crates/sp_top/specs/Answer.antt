@@ -1,7 +1,7 @@
 -- The promise of the program: what a call took, what that comes to, and what it wrote and answered.
 use Rattle.std.specs.Prelude.{◌≡◌, ◌≢◌, ◌⊎◌, ◌<◌, ◌≤◌, ℕ, Bool, true, false, List, [], ◌++◌, length, Result, IfOk}
 use Rattle.std.specs.declared.alloc.AllocError.{AllocError}
-use Rattle.sp_io.specs.Outside.{SourceState, SinkState, ToldFiles, Gave, Grew, GrewWithin, Rose}
+use Rattle.sp_io.specs.Outside.{SourceState, SinkState, ToldFiles, Gave, Grew, GrewWithin, IsUsedUp, Rose}
 use Rattle.sp_plan.specs.Events.{AllFit, NeverGoesBack}
 use Rattle.sp_plan.specs.declared.plan.Plan.{Plan}
 use Rattle.sp_top.specs.Commands.{file, IsCommand}
@@ -100,6 +100,8 @@ pub record Promise (words : List (List ℕ)) (before after : Filed) (old new : O
   pub file_told : FileTold words before after old new status
   pub files : after.held ≡ before.held
   pub counts : OwnFile words before after
+  -- once the input has ended, nothing of it is left where it tells what is
+  pub used_up : new.input.ended ≡ true → IsUsedUp new.input.left
   pub line : (Rose err_old.faults err_new.faults → ⊥) → Grew err_old.held (line_of status) err_new.held
   pub line_front : GrewWithin err_old.held (line_of status) err_new.held
   -- where all went well the error output is not called

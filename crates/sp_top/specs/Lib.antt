@@ -7,3 +7,4 @@ pub mod Answer
 pub mod Queries
 pub mod Alike
 pub mod OneOutcome
+pub mod Completes

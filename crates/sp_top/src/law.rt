@@ -1,8 +1,10 @@
 // Laws of what the program promises.
 ghost use Rattle.sp_top.specs.Alike.{PlansRunAlike};
 ghost use Rattle.sp_top.specs.OneOutcome.{OneOutcome};
+ghost use Rattle.sp_top.specs.Completes.{Completes};
 
 use sp_compile::{one_truth, one_verdict};
+use sp_cut::rows_stay;
 use sp_parse::{one_fault, one_query};
 
 /// Law: plans that stand for one query have one outcome over all bytes, status and text.
@@ -22,4 +24,18 @@ pub fn one_outcome()
     one_fault();
     one_verdict();
     one_truth();
+}
+
+/// Law: words that give a command, a text or file within its limit, a query that compiles, input whose
+/// reading stops at its end, and no count of faults that rose give status 0 and the whole text, or
+/// status 1 for want of memory.
+pub fn completes()
+    ensures { Completes }
+{
+    // laws: what a query's text comes to is one thing, and a row stays a row whatever comes behind
+    one_query();
+    one_fault();
+    one_verdict();
+    one_truth();
+    rows_stay();
 }

@@ -14,5 +14,5 @@ mod run;
 mod status;
 mod top;
 
-pub use law::{one_outcome, plans_run_alike};
+pub use law::{completes, one_outcome, plans_run_alike};
 pub use top::spectre;

@@ -16,8 +16,8 @@ pub(crate) struct Outcome {
 /// Words and the objects in memory that they are run over. A call's number counts from 1.
 #[derive(Drop)]
 pub(crate) struct Call {
-    /// The name of a single call in place of the whole program.
-    pub(crate) single: Option<String>,
+    /// The name of a single call in place of the whole program, and empty for that.
+    pub(crate) single: String,
     pub(crate) words: Vec<String>,
     pub(crate) input: Vec<u8>,
     /// The most bytes that a call of the input gives; 0 counts as 1.
@@ -35,43 +35,64 @@ pub(crate) struct Call {
 // What the sinks have room for.
 const ROOM: u32 = 1_000_000;
 
+// What the sinks hold, with the status.
+fn outcome_of(
+    alloc: Global,
+    status: u8,
+    out: &MemSink,
+    err: &MemSink,
+) -> Result<Outcome, AllocError> {
+    let output = out.bytes().to_vec(alloc)?;
+    let error = err.bytes().to_vec(alloc)?;
+    Ok(Outcome {
+        status,
+        output,
+        error,
+    })
+}
+
 impl Call {
     /// What the program leaves, or what a single call answers as the output.
     pub(crate) fn outcome(self, alloc: Global) -> Result<Outcome, AllocError> {
-        match &self.single {
-            Some(name) => {
-                let name = String::from_str(alloc, name.as_str())?;
-                self.answer_of(alloc, name.as_str())
-            }
-            None => self.run(alloc),
+        if self.single.is_empty() {
+            self.run(alloc)
+        } else {
+            self.answered(alloc)
         }
     }
 
-    // What the single call of this name answers.
-    fn answer_of(self, alloc: Global, name: &str) -> Result<Outcome, AllocError> {
+    // What the single call answers.
+    fn answered(self, alloc: Global) -> Result<Outcome, AllocError> {
         let mut files = MemFiles::new(self.files, self.load_fails);
-        let mut output = String::new(alloc);
-        let words = self.words.as_slice();
-        answer(alloc, name, words, &mut files, &self.input, &mut output)?;
+        let single = self.single.as_str();
+        let answered = answer(
+            alloc,
+            single,
+            self.words.as_slice(),
+            &mut files,
+            &self.input,
+        );
+        drop(files);
         Ok(Outcome {
             status: 0,
-            output: output.into_bytes(),
+            output: answered?.into_bytes(),
             error: Vec::new(alloc),
         })
     }
 
     // What the program leaves.
     fn run(self, alloc: Global) -> Result<Outcome, AllocError> {
-        let mut input = MemSource::new(self.input, self.piece.max(1), self.read_fails);
-        let mut files = MemFiles::new(self.files, self.load_fails);
         let mut out = MemSink::new(alloc, self.write_fails, ROOM)?;
         let mut err = MemSink::new(alloc, self.tell_fails, ROOM)?;
+        let mut input = MemSource::new(self.input, self.piece.max(1), self.read_fails);
+        let mut files = MemFiles::new(self.files, self.load_fails);
         let words = self.words.as_slice();
         let status = spectre(alloc, words, &mut input, &mut files, &mut out, &mut err);
-        Ok(Outcome {
-            status,
-            output: out.bytes().to_vec(alloc)?,
-            error: err.bytes().to_vec(alloc)?,
-        })
+        drop(input);
+        drop(files);
+        let outcome = outcome_of(alloc, status, &out, &err);
+        drop(out);
+        drop(err);
+        outcome
     }
 }

@@ -1,23 +1,24 @@
 // One line of a row: a key, how often it stands there, and a text.
 use crate::escapes::Text;
 use crate::fault::Fault;
+use crate::key::Key;
 use crate::row::Row;
-use std::alloc::Global;
+use std::alloc::{AllocError, Global};
 use std::str;
 
 /// A line: `KEY TEXT`, or `KEY*N TEXT` for N such lines.
 #[derive(Drop)]
-pub(crate) struct Line<'a> {
-    pub(crate) key: &'a str,
+pub(crate) struct Line {
+    pub(crate) key: Key,
     pub(crate) times: u32,
     pub(crate) text: Text,
 }
 
-/// A key, and how often its line stands there.
-pub(crate) fn repeated(key: &str) -> Result<(&str, u32), Fault> {
-    match key.split_once('*') {
-        Some((key, times)) => Ok((key, number(times)?)),
-        None => Ok((key, 1)),
+/// The word of a key, and how often its line stands there.
+pub(crate) fn repeated(word: &str) -> Result<(&str, u32), Fault> {
+    match word.split_once('*') {
+        Some((word, times)) => Ok((word, number(times)?)),
+        None => Ok((word, 1)),
     }
 }
 
@@ -45,18 +46,60 @@ pub(crate) fn push<T: Drop>(to: &mut Vec<T>, value: T) -> Result<(), Fault> {
     }
 }
 
-impl Line<'_> {
+// The status that a number is.
+fn status(number: u32) -> Result<u8, Fault> {
+    match u8::try_from(number) {
+        Ok(status) => Ok(status),
+        Err(_) => Err(Fault::Bad("no status")),
+    }
+}
+
+// Appends an event with this time.
+fn put_event(alloc: Global, time: u32, letter: u8, to: &mut Vec<u8>) -> Result<(), Fault> {
+    let time = format!(in alloc; "{time},")?;
+    to.extend_from_slice(time.as_bytes())?;
+    push(to, letter)?;
+    push(to, b'\n')
+}
+
+// Appends the words of a text, parted by blanks.
+fn put_words(alloc: Global, text: &str, words: &mut Vec<String>) -> Result<(), Fault> {
+    for word in text.split_whitespace() {
+        put_word(String::from_str(alloc, word), words)?;
+    }
+    Ok(())
+}
+
+// Appends a word, or tells that there is no memory.
+fn put_word(word: Result<String, AllocError>, words: &mut Vec<String>) -> Result<(), Fault> {
+    push(words, word?)
+}
+
+// Puts the name of a single call.
+fn put_single(name: &str, single: &mut String) -> Result<(), Fault> {
+    single.clear();
+    single.push_str(name)?;
+    Ok(())
+}
+
+// Appends a file of this name without content.
+fn put_file(alloc: Global, name: &str, files: &mut Vec<(String, Vec<u8>)>) -> Result<(), Fault> {
+    let name = String::from_str(alloc, name)?;
+    push(files, (name, Vec::new(alloc)))
+}
+
+impl Line {
     /// Puts the line into the row.
     pub(crate) fn put(&self, alloc: Global, row: &mut Row) -> Result<(), Fault> {
         match self.key {
-            "input" => self.append(&mut row.call.input),
-            "output" => self.append(&mut row.expected.output),
-            "error" => self.append(&mut row.expected.error),
-            "content" => match row.call.files.last_mut() {
+            Key::Input => self.append(&mut row.call.input),
+            Key::Output => self.append(&mut row.expected.output),
+            Key::Error => self.append(&mut row.expected.error),
+            Key::Content => match row.call.files.last_mut() {
                 Some((_, bytes)) => self.append(bytes),
                 None => Err(Fault::Bad("a content without its file")),
             },
-            "events" => self.put_events(alloc, &mut row.call.input),
+            Key::Events => self.put_events(alloc, &mut row.call.input),
             _ => self.put_text(alloc, row),
         }
     }
@@ -78,9 +121,7 @@ impl Line<'_> {
         let mut time = 0u32;
         for letter in self.text.bytes.as_slice() {
             time = time.saturating_add(1);
-            to.extend_from_slice(format!(in alloc; "{time},")?.as_bytes())?;
-            push(to, *letter)?;
-            push(to, b'\n')?;
+            put_event(alloc, time, *letter, to)?;
         }
         Ok(())
     }
@@ -91,50 +132,32 @@ impl Line<'_> {
             return Err(Fault::Bad("bytes that are no text"));
         };
         match self.key {
-            "call" => {
-                row.call.single = Some(String::from_str(alloc, text)?);
-                Ok(())
-            }
-            "words" => {
-                for word in text.split_whitespace() {
-                    push(&mut row.call.words, String::from_str(alloc, word)?)?;
-                }
-                Ok(())
-            }
-            "word" => {
-                let word = text.repeat(alloc, self.times as usize)?;
-                push(&mut row.call.words, word)
-            }
-            "file" => {
-                let name = String::from_str(alloc, text)?;
-                push(&mut row.call.files, (name, Vec::new(alloc)))
-            }
-            _ => self.put_number(text, row),
+            Key::Call => put_single(text, &mut row.call.single),
+            Key::Words => put_words(alloc, text, &mut row.call.words),
+            Key::Word => put_word(text.repeat(alloc, self.times as usize), &mut row.call.words),
+            Key::File => put_file(alloc, text, &mut row.call.files),
+            _ => self.put_numbers(text, row),
         }
     }
 
     // Puts a line whose text is one number or two.
-    fn put_number(&self, text: &str, row: &mut Row) -> Result<(), Fault> {
+    fn put_numbers(&self, text: &str, row: &mut Row) -> Result<(), Fault> {
         match self.key {
-            "status" => match text.parse::<u8>() {
-                Ok(status) => {
-                    row.expected.status = status;
-                    Ok(())
-                }
-                Err(_) => Err(Fault::Bad("no status")),
-            },
-            "piece" => {
-                row.call.piece = number(text)?;
-                Ok(())
-            }
-            "read-fails" => {
-                row.call.read_fails = Some(u64::from(number(text)?));
-                Ok(())
-            }
-            "load-fails" => push(&mut row.call.load_fails, number(text)?),
-            "write-fails" => push(&mut row.call.write_fails, two_numbers(text)?),
-            "tell-fails" => push(&mut row.call.tell_fails, two_numbers(text)?),
-            _ => Err(Fault::Bad("no such key")),
+            Key::WriteFails => push(&mut row.call.write_fails, two_numbers(text)?),
+            Key::TellFails => push(&mut row.call.tell_fails, two_numbers(text)?),
+            _ => self.put_number(number(text)?, row),
         }
+    }
+
+    // Puts a line whose text is this number.
+    fn put_number(&self, number: u32, row: &mut Row) -> Result<(), Fault> {
+        match self.key {
+            Key::Status => row.expected.status = status(number)?,
+            Key::Piece => row.call.piece = number,
+            Key::ReadFails => row.call.read_fails = Some(u64::from(number)),
+            Key::LoadFails => return push(&mut row.call.load_fails, number),
+            _ => {}
+        }
+        Ok(())
     }
 }

@@ -1,5 +1,6 @@
 use crate::escapes::{Named, unescaped};
 use crate::fault::Fault;
+use crate::key::key_of;
 use crate::line::{Line, push, repeated};
 use crate::row::Row;
 use std::alloc::Global;
@@ -33,14 +34,22 @@ impl Reader {
         if line.is_empty() || line.starts_with('#') {
             return Ok(());
         }
-        let (key, text) = line.split_once(' ').unwrap_or((line, ""));
-        let (key, times) = repeated(key)?;
-        match key {
+        match line.split_once(' ') {
+            Some((key, text)) => self.take_part(alloc, key, text),
+            None => self.take_part(alloc, line, ""),
+        }
+    }
+
+    // Takes a line of this word and text.
+    fn take_part(&mut self, alloc: Global, word: &str, text: &str) -> Result<(), Fault> {
+        let (word, times) = repeated(word)?;
+        match word {
             "row" => self.begin(alloc, text),
             "let" => self.name(alloc, text, times),
             _ => {
+                let key = key_of(word)?;
                 let text = unescaped(alloc, self.named.as_slice(), text)?;
-                self.put(alloc, &Line { key, times, text })
+                self.put(alloc, Line { key, times, text })
             }
         }
     }
@@ -63,7 +72,7 @@ impl Reader {
     }
 
     // Puts a part into the last row.
-    fn put(&mut self, alloc: Global, line: &Line<'_>) -> Result<(), Fault> {
+    fn put(&mut self, alloc: Global, line: Line) -> Result<(), Fault> {
         match self.rows.last_mut() {
             Some(row) => line.put(alloc, row),
             None => Err(Fault::Bad("a part before the first row")),

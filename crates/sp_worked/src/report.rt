@@ -55,16 +55,23 @@ fn shown(bytes: &[u8], from: usize) -> &[u8] {
     front
 }
 
+// How many bytes at the front are the same.
+fn same_front(one: &[u8], two: &[u8]) -> usize {
+    let end = one.len().min(two.len());
+    for i in 0..end {
+        if one[i] != two[i] {
+            return i;
+        }
+    }
+    end
+}
+
 // Tells bytes that differ, from the first one that does.
 fn tell_bytes(rt: &impl Eprint, of: &str, expected: &[u8], came: &[u8]) -> io::Result<()> {
     if expected == came {
         return Ok(());
     }
-    let same = expected
-        .iter()
-        .zip(came)
-        .take_while(|(a, b)| a == b)
-        .count();
+    let same = same_front(expected, came);
     let expected = shown(expected, same).escape_ascii();
     let came = shown(came, same).escape_ascii();
     eprintln!(rt; "  {of}, from byte {same} on: expected \"{expected}\", came \"{came}\"")

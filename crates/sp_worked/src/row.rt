@@ -15,7 +15,7 @@ impl Row {
         Row {
             name,
             call: Call {
-                single: None,
+                single: String::new(alloc),
                 words: Vec::new(alloc),
                 input: Vec::new(alloc),
                 piece: 4096,
