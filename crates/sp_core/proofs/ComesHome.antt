@@ -1,5 +1,5 @@
 -- A core after a piece came home is what the machine makes of it.
-use Rattle.std.proofs.Common.{◌≡◌, ◌⊎◌, inl, inr, ℕ, zero, suc, ◌+◌, ◌*◌, ◌<◌, ◌≤◌, Bool, true, false, cond, not, ◌||◌, ◌==◌, nat_lt, List, [], ◌∷◌, ◌++◌, filter, length, map, replicate, take, drop, Option, Some, None, refl, sym, ap, subst, ◌∙◌, arith, get_or}
+use Rattle.std.proofs.Common.{◌≡◌, ◌⊎◌, inl, inr, ℕ, zero, suc, ◌+◌, ◌*◌, ◌<◌, ◌≤◌, Bool, true, false, cond, ◌||◌, ◌==◌, nat_lt, List, [], ◌∷◌, ◌++◌, filter, length, map, Option, Some, None, refl, sym, ap, subst, ◌∙◌, arith, get_or}
 use Rattle.std.specs.List.{All, flat_map, remove, sum}
 use Rattle.std.specs.List.Sorted.{IsStrictlyIncreasing}
 use Rattle.std.proofs.lemmas.Bool.Decides.{nat_tests}
@@ -11,27 +11,23 @@ use Rattle.sp_plan.specs.declared.event.Event.{Event}
 use Rattle.sp_plan.specs.declared.found.Match.{Match}
 use Rattle.sp_plan.specs.declared.plan.Plan.{Plan}
 use Rattle.sp_plan.specs.Groups.{used_by_all}
-use Rattle.sp_plan.specs.Runs.{Run, Started, State, is_among, used}
-use Rattle.sp_plan.specs.Sequential.{match_of}
+use Rattle.sp_plan.specs.Runs.{Started, State, is_among, used}
 use Rattle.sp_plan.specs.WindowNumbers.{first}
 use Rattle.sp_match.specs.public.Laws.{completion}
 use Rattle.sp_match.specs.public.Matching.{Stands}
-use Rattle.sp_piece.specs.Pieced.{Pieced, LedTo}
+use Rattle.sp_piece.specs.Pieced.{Pieced}
 use Rattle.sp_version.specs.declared.version.Version.{Version}
-use Rattle.sp_group.specs.declared.outcome.Outcome.{Outcome}
 use Rattle.sp_group.specs.declared.step.Entry as step
-use Rattle.sp_group.specs.declared.step.Step.{Step}
 use Rattle.sp_group.specs.declared.step.Step.TheVariants as s
 use Rattle.sp_group.specs.Deciding.{foresaw_all, others_than}
 use Rattle.sp_group.specs.Effects.{after_reading, home, is_newly_spent, without}
 use Rattle.sp_group.specs.Family.{entry_at, is_parent, prune}
 use Rattle.sp_group.specs.Machine as machine
 use Rattle.sp_group.specs.Machine.{Machine, Ticket, inner, is_group, out_for, ticket_at, version_at}
-use Rattle.sp_group.specs.Rising.{has_number, with_numbers}
+use Rattle.sp_group.specs.Rising.{with_numbers}
 use Rattle.sp_group.specs.Steps.{step, steps}
 use Rattle.sp_rules.specs.ByGroups.{AreToDecide, IsByGroups, ended, grouped, outcome_in, using_runs}
-use Rattle.sp_rules.specs.Kept.{NewestFirst}
-use Rattle.sp_rules.specs.Returning.{IsReadAndReturned, read_to, readings, reads, reads_and_return}
+use Rattle.sp_rules.specs.Returning.{IsReadAndReturned, read_to, readings, reads_and_return}
 use Rattle.sp_rules.specs.Schedules.{Fits}
 use Rattle.sp_tree.specs.declared.version.Version as branch
 use Rattle.sp_tree.specs.Decided.{rule_of}
@@ -39,16 +35,15 @@ use Rattle.sp_tree.specs.Grown.{AreGrown, Entry, Grown, kin, lifted, pruned, wit
 use Rattle.sp_core.specs.declared.homecoming.Brought.{Brought}
 use Rattle.sp_core.specs.declared.given.Given.TheVariants as g
 use Rattle.sp_core.specs.declared.lent.Lent.{Lent}
-use Rattle.sp_core.specs.Carrying.{Carries, ticket_of}
+use Rattle.sp_core.specs.Carrying.{ticket_of}
 use Rattle.sp_core.specs.Holding.{Holding, Holds, IsCore, machine_of, running, unnumbered, version_of}
 use Rattle.sp_core.specs.Homecoming.{IsBrought, IsTakenUp, completions, ended_in, is_grouped, outcome_of, spent_run, unnumbered_told, used_told}
 use Rattle.sp_core.specs.Returning.{IsGiven, IsPlaceOf, after_return, reading_entries}
-use Rattle.sp_core.specs.Rooms.{entries_owed, matches_held, numbers_held}
+use Rattle.sp_core.specs.Rooms.{matches_held, numbers_held}
 use Rattle.sp_core.specs.Running.{Running, flat, once}
 use Rattle.sp_core.specs.Settling.{HomeLaws, IsFrom, IsSettled, with_settled}
 use Rattle.sp_core.proofs.Coming.{Coming, adds, before, comes, completed_now, grouped_now, has_before, has_now, held, id_is, live_here, local_is, now, plan_now, reached_is, stands_now, version_home}
 use Rattle.sp_core.proofs.Deciding.{ended_alike, foresaw_alike, versions_decided}
-use Rattle.sp_core.proofs.Entries.{found_of_all, version_is}
 use Rattle.sp_core.proofs.Journal.{replayed_by}
 use Rattle.sp_core.proofs.Later.{length_numbers, numbers_more, spent_are, unnumbered_are, unnumbered_more, used_are}
 use Rattle.sp_core.proofs.Owed.{owed_most}

@@ -1,5 +1,5 @@
 -- The tickets without the one of a number: where it stood, and what is out for versions then.
-use Rattle.std.proofs.Common.{◌≡◌, ℕ, zero, suc, ◌<◌, Bool, true, false, cond, not, ◌==◌, List, [], ◌∷◌, ◌++◌, map, take, drop, Option, Some, None, refl, sym, ap, ◌∙◌, arith}
+use Rattle.std.proofs.Common.{◌≡◌, ℕ, zero, suc, Bool, true, false, cond, not, ◌==◌, List, [], ◌∷◌, map, Some, None, refl, sym, ap, ◌∙◌, arith}
 use Rattle.std.specs.Prelude.{slice_get}
 use Rattle.std.specs.List.{remove}
 use Rattle.std.proofs.lemmas.Bool.Decides.{nat_tests}
@@ -40,8 +40,8 @@ taken_out (x ∷ ts) zero t newest at =
     let number = ap (λ (u : Ticket). u.number) same in
     let is : (x.number == t.number) ≡ true = grind (arith, nat_tests) in
     sym (
-        ap (λ b. cond (not b) (x ∷ without t.number ts) (without t.number ts)) is
-        ∙ none_taken t.number ts (λ u there. let low = newest.0 t.number u there in absurd (omega arith))
+    ap (λ b. cond (not b) (x ∷ without t.number ts) (without t.number ts)) is
+    ∙ none_taken t.number ts (λ u there. let low = newest.0 t.number u there in absurd (omega arith))
     )
 taken_out (x ∷ ts) (suc place) t newest at =
     let there = found_somewhere ts place t at in
