@@ -1,10 +1,11 @@
 -- A core after a piece came home is what the machine makes of it.
-use Rattle.std.proofs.Common.{◌≡◌, ◌⊎◌, inl, inr, ℕ, zero, suc, ◌+◌, ◌*◌, ◌<◌, ◌≤◌, Bool, true, false, cond, not, ◌||◌, ◌==◌, nat_lt, List, [], ◌∷◌, ◌++◌, filter, length, map, replicate, Option, Some, None, refl, sym, ap, subst, ◌∙◌, arith, get_or}
-use Rattle.std.specs.List.{All, flat_map, sum}
+use Rattle.std.proofs.Common.{◌≡◌, ◌⊎◌, inl, inr, ℕ, zero, suc, ◌+◌, ◌*◌, ◌<◌, ◌≤◌, Bool, true, false, cond, not, ◌||◌, ◌==◌, nat_lt, List, [], ◌∷◌, ◌++◌, filter, length, map, replicate, take, drop, Option, Some, None, refl, sym, ap, subst, ◌∙◌, arith, get_or}
+use Rattle.std.specs.List.{All, flat_map, remove, sum}
 use Rattle.std.specs.List.Sorted.{IsStrictlyIncreasing}
 use Rattle.std.proofs.lemmas.Bool.Decides.{nat_tests}
-use Rattle.std.proofs.lemmas.List.{append_assoc, length-append, length-map}
+use Rattle.std.proofs.lemmas.List.{append_assoc, drop-map, length-append, length-map, map-append, take-map}
 use Rattle.std.proofs.lemmas.List.Elements.{All-map}
+use Rattle.std.proofs.lemmas.Option.{slice_get_within}
 use Rattle.sp_base.specs.Numbers.{NumberList}
 use Rattle.sp_plan.specs.declared.event.Event.{Event}
 use Rattle.sp_plan.specs.declared.found.Match.{Match}
@@ -29,6 +30,7 @@ use Rattle.sp_group.specs.Machine.{Machine, Ticket, inner, is_group, out_for, ti
 use Rattle.sp_group.specs.Rising.{has_number, with_numbers}
 use Rattle.sp_group.specs.Steps.{step, steps}
 use Rattle.sp_rules.specs.ByGroups.{AreToDecide, IsByGroups, ended, grouped, outcome_in, using_runs}
+use Rattle.sp_rules.specs.Kept.{NewestFirst}
 use Rattle.sp_rules.specs.Returning.{IsReadAndReturned, read_to, readings, reads, reads_and_return}
 use Rattle.sp_rules.specs.Schedules.{Fits}
 use Rattle.sp_tree.specs.declared.version.Version as branch
@@ -40,11 +42,11 @@ use Rattle.sp_core.specs.declared.lent.Lent.{Lent}
 use Rattle.sp_core.specs.Carrying.{Carries, ticket_of}
 use Rattle.sp_core.specs.Holding.{Holding, Holds, IsCore, machine_of, running, unnumbered, version_of}
 use Rattle.sp_core.specs.Homecoming.{IsBrought, IsTakenUp, completions, ended_in, is_grouped, outcome_of, spent_run, unnumbered_told, used_told}
-use Rattle.sp_core.specs.Returning.{IsGiven, after_return, reading_entries}
+use Rattle.sp_core.specs.Returning.{IsGiven, IsPlaceOf, after_return, reading_entries}
 use Rattle.sp_core.specs.Rooms.{entries_owed, matches_held, numbers_held}
 use Rattle.sp_core.specs.Running.{Running, flat, once}
-use Rattle.sp_core.specs.Settling.{IsFrom, IsSettled, with_settled}
-use Rattle.sp_core.proofs.Coming.{Coming, Laws, adds, before, comes, completed_now, grouped_now, has_before, has_now, held, id_is, live_here, local_is, now, plan_now, reached_is, stands_now, version_home}
+use Rattle.sp_core.specs.Settling.{HomeLaws, IsFrom, IsSettled, with_settled}
+use Rattle.sp_core.proofs.Coming.{Coming, adds, before, comes, completed_now, grouped_now, has_before, has_now, held, id_is, live_here, local_is, now, plan_now, reached_is, stands_now, version_home}
 use Rattle.sp_core.proofs.Deciding.{ended_alike, foresaw_alike, versions_decided}
 use Rattle.sp_core.proofs.Entries.{found_of_all, version_is}
 use Rattle.sp_core.proofs.Journal.{replayed_by}
@@ -52,7 +54,7 @@ use Rattle.sp_core.proofs.Later.{length_numbers, numbers_more, spent_are, unnumb
 use Rattle.sp_core.proofs.Owed.{owed_most}
 use Rattle.sp_core.proofs.Owner.{only_one, settled, settled_are, settled_if, sum_settled}
 use Rattle.sp_core.proofs.Pruning.{all_pruned, length_pruned, sum_pruned}
-use Rattle.sp_core.proofs.TicketsLeft.{none_out, same_out}
+use Rattle.sp_core.proofs.TicketsLeft.{none_out, same_out, taken_out}
 
 or_first : (a b c d : Bool) → d ≡ ((a || b) || c) → a ≡ true → d ≡ true
 or_first true b c d is h = is
@@ -109,7 +111,7 @@ relabelled q events ts x label holds = record {
 }
 
 -- The version of a piece has taken it up, and its ended groups are decided.
-module _ (laws : Laws) (h : Holding) (p : Pieced) (a : Coming h p) (b : Brought) (from : IsFrom h.tree p b) (tree : Grown Version) (set : IsSettled h.tree p b tree) where
+module _ (laws : HomeLaws) (h : Holding) (p : Pieced) (a : Coming h p) (b : Brought) (from : IsFrom h.tree p b) (tree : Grown Version) (set : IsSettled h.tree p b tree) where
   abbrev value : Version
   value = set.value
 
@@ -184,7 +186,7 @@ module _ (laws : Laws) (h : Holding) (p : Pieced) (a : Coming h p) (b : Brought)
       let x = version_of e in
       let cut = λ (first : ℕ) (snapshot : List ℕ). with_numbers x.skipped (filter (λ i. nat_lt i (first + p.read)) snapshot) in
       let v : ℕ → ℕ → List ℕ → Bool → machine.Version =
-          λ w position skipped done. record { id = x.id; parent = x.parent; window = w; label = x.label; position = position; skipped = skipped; done = done } in
+      λ w position skipped done. record { id = x.id; parent = x.parent; window = w; label = x.label; position = position; skipped = skipped; done = done } in
       ap (λ w. v w value.position value.skipped.list value.done) taken.window
       ∙ ap (λ at. v x.window at value.skipped.list value.done) taken.position
       ∙ ap (λ ns. v x.window (x.position + p.read) ns value.done) (taken.skipped ∙ ap (λ first. cut first p.job.snapshot.list) a.carries.first ∙ ap (cut a.ticket.first) a.carries.snapshot)
@@ -437,3 +439,50 @@ module _ (laws : Laws) (h : Holding) (p : Pieced) (a : Coming h p) (b : Brought)
 
     pub given_home : IsGiven (running h) (running after) p g.Home
     given_home = (a.ticket, version_of e, record { out = a.out; live = (comes laws h p a).live }, a.carries, running_home)
+
+-- a ticket that is taken out of its place
+map_remove : (ls : List Lent) (place : ℕ) → map ticket_of (remove ls place) ≡ remove (map ticket_of ls) place
+map_remove ls place =
+    map-append ticket_of (take place ls) (drop (suc place) ls)
+    ∙ ap (λ (ts : List Ticket). ts ++ map ticket_of (drop (suc place) ls)) (sym (take-map ticket_of place ls))
+    ∙ ap (λ (ts : List Ticket). take place (map ticket_of ls) ++ ts) (sym (drop-map ticket_of (suc place) ls))
+
+pub left_without : (ls : List Lent) (n place : ℕ) → NewestFirst (map ticket_of ls) → IsPlaceOf (map ticket_of ls) n place → map ticket_of (remove ls place) ≡ without n (map ticket_of ls)
+left_without ls n place newest at =
+    map_remove ls place ∙ taken_out (map ticket_of ls) place at.0 newest at.1 ∙ ap (λ (k : ℕ). without k (map ticket_of ls)) at.2
+
+-- it is a place among the tickets
+pub place_within : (ls : List Lent) (n place : ℕ) → IsPlaceOf (map ticket_of ls) n place → place < length ls
+place_within ls n place at = let many = length-map ls ticket_of in let within = slice_get_within (map ticket_of ls) place at.0 at.1 in omega arith
+
+-- What a core promises where a piece comes home, with the matches as they are given.
+module _ (laws : HomeLaws) (h : Holding) (p : Pieced) (a : Coming h p) (b : Brought) (from : IsFrom h.tree p b) (tree : Grown Version) (set : IsSettled h.tree p b tree)
+    (grown : AreGrown tree) (tickets : List Lent) (emitted : List Match) (consumed : NumberList) (journal : List step.Entry) (journal_room emitted_room : ℕ)
+    (place : ℕ) (at : IsPlaceOf (map ticket_of h.tickets) p.job.ticket place) (tickets_are : tickets ≡ remove h.tickets place)
+    (emitted_is : emitted ≡ h.emitted) (consumed_is : consumed.list ≡ h.consumed.list)
+    (journal_is : journal ≡ h.journal ++ reading_entries p.job.ticket (readings p.read p.closed) ++ once (s.Return p.job.ticket) ∷ []) where
+  abbrev with_matches : List Match → Holding
+  with_matches ms = record h {
+    tree = tree;
+    tickets = tickets;
+    emitted = ms;
+    consumed = consumed;
+    journal = journal;
+    journal_room = journal_room;
+    emitted_room = emitted_room;
+  }
+
+  left_are : map ticket_of tickets ≡ without p.job.ticket (map ticket_of h.tickets)
+  left_are = ap (map ticket_of) tickets_are ∙ left_without h.tickets p.job.ticket place (reached_is laws h p a).kept.sane.newest_first at
+
+  pub core_comes : 2 * length h.tree.entries + 3 ≤ journal_room → matches_held h.tree.entries + length b.copies.items ≤ emitted_room
+      → numbers_held h.tree.entries + length b.used.list ≤ consumed.spare → IsCore (with_matches emitted)
+  core_comes fits emits consumes =
+      subst (λ (ms : List Match). IsCore (with_matches ms)) (sym emitted_is)
+      (core_home laws h p a b from tree set grown tickets consumed journal journal_room emitted_room left_are consumed_is journal_is fits emits consumes)
+
+  pub given_comes : (earlier : Running) → running h ≡ earlier → IsGiven earlier (running (with_matches emitted)) p g.Home
+  given_comes earlier is =
+      subst (λ (x : Running). IsGiven x (running (with_matches emitted)) p g.Home) is
+      (subst (λ (ms : List Match). IsGiven (running h) (running (with_matches ms)) p g.Home) (sym emitted_is)
+      (given_home laws h p a b from tree set grown tickets consumed journal journal_room emitted_room left_are consumed_is journal_is))

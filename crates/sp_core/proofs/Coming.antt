@@ -36,25 +36,12 @@ use Rattle.sp_core.specs.Carrying.{Carries, lent_events, ticket_of}
 use Rattle.sp_core.specs.Holding.{Holding, Holds, IsCore, machine_of, running, version_of}
 use Rattle.sp_core.specs.Homecoming.{AreNumbered, completions, is_grouped, spent_run}
 use Rattle.sp_core.specs.Returning.{IsCarried}
-use Rattle.sp_core.specs.Settling.{CanBring, CanSettle, IsFrom, IsWithin}
+use Rattle.sp_core.specs.Settling.{CanBring, CanSettle, HomeLaws, IsFrom, IsWithin}
 use Rattle.sp_core.proofs.Entries.{found_of_all, local, version_is}
 use Rattle.sp_core.proofs.Journal.{reached}
 use Rattle.sp_core.proofs.Later.{completions_are, spent_are, using_given}
 use Rattle.sp_core.proofs.Leased.{live}
 use Rattle.sp_core.proofs.Owner.{has_id}
-
--- what the layers below say
-pub record Laws : Type 0 where
-  pub schedules : EverySchedule
-  pub lawful : (q : Plan) → IsCompiled q → Lawful q
-  pub home : PiecesComeHome
-  pub returns : ReadingsAndReturn
-  pub groups : ReturnsByGroups
-  pub have : VersionsHaveGroups
-  pub adds : ComingHomeAddsMatches
-  pub alike : SamePlansReadAlike
-  pub tell : ReadingsTellMatches
-  pub rising : RisingSame
 
 -- tests that agree find alike
 any_alike : {A : Type 0} (f g : A → Bool) → ((x : A) → f x ≡ g x) → (xs : List A) → list_any f xs ≡ list_any g xs
@@ -103,7 +90,7 @@ coming h p core within is =
       carries = subst (λ (v : machine.Version). Carries h.plan (machine_of h) is.0 v p.job) same is.4;
     }
 
-module _ (laws : Laws) (h : Holding) (p : Pieced) (a : Coming h p) where
+module _ (laws : HomeLaws) (h : Holding) (p : Pieced) (a : Coming h p) where
   -- the runs of the version before
   abbrev pub before : State
   before = inner h.plan h.events (version_of a.entry)

@@ -36,7 +36,9 @@ pub mod Refused
 pub mod Renewing
 pub mod RisingLists
 pub mod Rolled
+pub mod Roomier
 pub mod SamePlans
+pub mod Settled
 pub mod SpawnRefusals
 pub mod Suppressed
 pub mod TicketPlaces

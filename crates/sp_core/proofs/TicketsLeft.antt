@@ -37,8 +37,8 @@ taken_out (x ∷ ts) zero t newest at =
     let number = ap (λ (u : Ticket). u.number) same in
     let is : (x.number == t.number) ≡ true = grind (arith, nat_tests) in
     sym (
-        ap (λ b. cond (not b) (x ∷ without t.number ts) (without t.number ts)) is
-        ∙ none_taken t.number ts (λ u there. let low = newest.0 t.number u there in absurd (omega arith))
+    ap (λ b. cond (not b) (x ∷ without t.number ts) (without t.number ts)) is
+    ∙ none_taken t.number ts (λ u there. let low = newest.0 t.number u there in absurd (omega arith))
     )
 taken_out (x ∷ ts) (suc place) t newest at =
     let there = found_somewhere ts place t at in

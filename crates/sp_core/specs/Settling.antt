@@ -2,16 +2,38 @@
 use Rattle.std.specs.Prelude.{◌≡◌, ℕ, ◌+◌, ◌<◌, ◌≤◌, true, List, length, Some}
 use Rattle.std.specs.List.{All, flat_map}
 use Rattle.std.specs.List.Sorted.{IsStrictlyIncreasing}
+use Rattle.sp_base.specs.Numbers.{RisingSame}
+use Rattle.sp_plan.specs.declared.plan.Plan.{Plan}
+use Rattle.sp_plan.specs.Compiled.{IsCompiled}
 use Rattle.sp_match.specs.declared.moves.Moves.{Moves}
 use Rattle.sp_match.specs.public.Matching.{Matching}
+use Rattle.sp_piece.specs.Alike.{ReadingsTellMatches, SamePlansReadAlike}
 use Rattle.sp_piece.specs.Pieced.{Pieced, LedTo, Tells}
 use Rattle.sp_group.specs.Family.{entry_at}
 use Rattle.sp_group.specs.Rising.{IsLabel}
+use Rattle.sp_rules.specs.ByGroups.{ComingHomeAddsMatches, ReturnsByGroups, VersionsHaveGroups}
+use Rattle.sp_rules.specs.ComingHome.{PiecesComeHome}
+use Rattle.sp_rules.specs.Lawful.{Lawful}
+use Rattle.sp_rules.specs.Returning.{ReadingsAndReturn}
+use Rattle.sp_rules.specs.Schedules.{EverySchedule}
 use Rattle.sp_tree.specs.Decided.{rule_of}
 use Rattle.sp_tree.specs.Grown.{Grown, Entry, kin, pruned, with_all_groups, with_value}
 use Rattle.sp_version.specs.declared.version.Version.{Version}
 use Rattle.sp_core.specs.declared.homecoming.Brought.{Brought}
 use Rattle.sp_core.specs.Homecoming.{AreNumbered, IsBrought, IsSameButRooms, IsTakenUp, completions, ended_in, outcome_of, spent_run}
+
+-- what the layers below say of pieces that come home
+pub record HomeLaws : Type 0 where
+  pub schedules : EverySchedule
+  pub lawful : (q : Plan) → IsCompiled q → Lawful q
+  pub home : PiecesComeHome
+  pub returns : ReadingsAndReturn
+  pub groups : ReturnsByGroups
+  pub have : VersionsHaveGroups
+  pub adds : ComingHomeAddsMatches
+  pub alike : SamePlansReadAlike
+  pub tell : ReadingsTellMatches
+  pub rising : RisingSame
 
 -- A piece has read no more than was lent to it, and the closing only where that was lent, behind all events.
 pub record IsWithin (p : Pieced) : Type 0 where
