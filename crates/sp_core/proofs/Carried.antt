@@ -1,5 +1,5 @@
 -- A job that is given back, beside what went out under its ticket.
-use Rattle.std.proofs.Common.{◌≡◌, ℕ, zero, suc, ◌+◌, ◌-◌, ◌≤◌, List, [], ◌∷◌, length, map, get_or, Some, None, sym, ap, subst, ◌∙◌, arith}
+use Rattle.std.proofs.Common.{◌≡◌, ℕ, zero, suc, ◌+◌, ◌-◌, ◌<◌, ◌≤◌, List, [], ◌∷◌, length, map, get_or, Some, None, sym, ap, subst, ◌∙◌, arith}
 use Rattle.std.specs.List.{slice_get}
 use Rattle.std.specs.Option.{option_map}
 use Rattle.sp_plan.specs.WindowNumbers.{first, size}
@@ -143,3 +143,9 @@ not_carried h n d job out none number is =
   where
     gone : machine.version_at (machine_of h).versions d.version ≡ None
     gone = version_found h.tree.entries d.version ∙ ap (option_map version_of) none
+
+-- a place at which a ticket stands is one of theirs
+pub place_within : (ls : List Lent) (place : ℕ) (t : Ticket) → slice_get (map ticket_of ls) place ≡ Some t → place < length ls
+place_within [] place t at = absurd (cc)
+place_within (l ∷ ls) zero t at = omega arith
+place_within (l ∷ ls) (suc place) t at = let rest = place_within ls place t at in omega arith

@@ -14,6 +14,7 @@ pub mod Ended
 pub mod Entries
 pub mod Fed
 pub mod Fresh
+pub mod GivenBack
 pub mod GroupsHeld
 pub mod HeldByIds
 pub mod HeldConflict

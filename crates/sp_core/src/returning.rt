@@ -41,6 +41,25 @@ fn same_events(events: &[Event], others: &[Event]) -> bool
     true
 }
 
+// Whether a job has the values of what went out.
+fn has_values(job: &Job, lent: &Lent) -> bool
+    ensures { IsTrue result ↔ HasValues job.now lent.now }
+{
+    job.version == lent.version
+        && job.first == lent.first
+        && job.closes == lent.closes
+        && job.snapshot.list() == lent.snapshot.list()
+}
+
+// Nothing is out for a version from now on.
+fn put_back_for(tree: &mut Tree<Version>, version: u64)
+    ensures { tree.new ≡ with_none_out tree.old version }
+{
+    if let Some(held) = tree.get_mut(version) {
+        held.out = None;
+    }
+}
+
 // Law: all that the layers below say of pieces that come home.
 fn home_laws()
     ensures { HomeLaws }
@@ -128,25 +147,6 @@ fn settle(
     decide_ended(tree, version, &brought.completed);
     tree.live();
     Ok(())
-}
-
-// Whether a job has the values of what went out.
-fn has_values(job: &Job, lent: &Lent) -> bool
-    ensures { IsTrue result ↔ HasValues job.now lent.now }
-{
-    job.version == lent.version
-        && job.first == lent.first
-        && job.closes == lent.closes
-        && job.snapshot.list() == lent.snapshot.list()
-}
-
-// Nothing is out for a version from now on.
-fn put_back_for(tree: &mut Tree<Version>, version: u64)
-    ensures { tree.new ≡ with_none_out tree.old version }
-{
-    if let Some(held) = tree.get_mut(version) {
-        held.out = None;
-    }
 }
 
 impl Core {

@@ -1,10 +1,8 @@
-use Rattle.std.proofs.Common.{◌≡◌, ◌+◌, ◌-◌, ◌≤◌, Some, None, length, sym, ap, subst, ◌∙◌, refl, arith}
+use Rattle.std.proofs.Common.{◌-◌, length, sym, ap, subst, ◌∙◌, refl, arith}
 use Rattle.std.specs.Option.{option_copied}
 use Rattle.std.specs.Prelude.{IsTrue, ◌↔◌}
 use Rattle.sp_match.specs.public.Matching.{SameMatching}
-use Rattle.sp_piece.specs.declared.job.Job.{Job}
 use Rattle.sp_version.specs.declared.version.Version.{Version}
-use Rattle.sp_core.specs.Carrying.{lent_events, ticket_of}
 use Rattle.sp_core.specs.Returning.{IsPlaceOf, IsCarried}
 use Rattle.sp_core.specs.Running.{Running}
 use Rattle.sp_core.specs.Holding.{holding}
