@@ -1,4 +1,4 @@
-use Rattle.std.proofs.Common.{sym, ap, ◌∙◌}
+use Rattle.std.proofs.Common.{ap, ◌∙◌}
 use Rattle.sp_group.specs.Machine.{opening}
 use Rattle.sp_group.specs.Steps.{replay}
 use Rattle.sp_core.specs.Holding.{holding}
