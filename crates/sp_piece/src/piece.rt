@@ -143,6 +143,16 @@ impl Piece {
         &self.moves
     }
 
+    /// The matcher to which the reading has led so far, the one of the job where nothing was read.
+    pub fn after(&self) -> &Matcher
+        ensures led { LedTo self.now result.now }
+    {
+        match &self.matcher {
+            Some(matcher) => matcher,
+            None => &self.job.before,
+        }
+    }
+
     /// Marks that memory was refused. It can be read on.
     pub fn give_up(&mut self)
         ensures { self.new ≡ refused self.old }

@@ -9,7 +9,7 @@ use Rattle.sp_plan.specs.Runs.{is_among}
 use Rattle.sp_group.specs.Family.{entry_at, parent_there}
 use Rattle.sp_tree.specs.declared.version.Version.{Version}
 use Rattle.sp_tree.specs.Changes.{branches, with_run, IsIndex, IsUnder, IsChildAt, AreNoChild}
-use Rattle.sp_tree.specs.Grown.{Grown, Entry, kin, groups_of, is_open, with_group, opened_for, AreRooted, IsChild, LacksChild}
+use Rattle.sp_tree.specs.Grown.{Grown, Entry, kin, groups_of, is_open, with_group, with_all_groups, opened_for, regrouped, AreRooted, IsChild, LacksChild}
 use Rattle.sp_tree.specs.Joined.{joined, HaveIds, IsTree}
 use Rattle.sp_tree.proofs.Zipped.{id_below, set_joined, there_joined}
 use Rattle.sp_tree.proofs.Renewed.{anew, no_entry, tree}
@@ -88,6 +88,26 @@ module _ {V : Type 0} where
       let e = ap (λ (z : Version). joined (set vs i z) values.entries) (is ∙ ap (with_run run) read)
       ∙ opened_joined i values.next vs values.entries v run h.both.ids h.both.fall at.0
       ∙ ap (λ n. opened_for n run (joined vs values.entries)) (at.1 v) in
+      ap (λ (l : List (Entry V)). let t : Grown V = record { entries = l; next = values.next; bound = values.bound } in t) e
+
+  regrouped_joined : (j top : ℕ) (vs : List Version) (es : List (ℕ × V)) (d : Version) (groups : List ℕ) → HaveIds vs es → FallFrom top es → j < length vs
+      → joined (set vs j (record (get_or vs j d) { groups = groups })) es ≡ regrouped (get_or vs j d).id groups (joined vs es)
+  regrouped_joined j top [] es d groups h f within = absurd (omega arith)
+  regrouped_joined j top (v ∷ vs) [] d groups h f within = absurd h
+  regrouped_joined zero top (v ∷ vs) (e ∷ es) d groups h f within = let m = eq-eqb v.id v.id refl in rw m refl
+  regrouped_joined (suc j) top (v ∷ vs) (e ∷ es) d groups h f within =
+      let below : (get_or vs j d).id < e.0 = id_below j e.0 vs es d h.1 f.1 (omega arith) in
+      let first = h.0 in
+      let m = differs v.id (get_or vs j d).id (λ z. omega arith) in
+      rw m (ap (λ l. record { version = v; value = e.1 } ∷ l) (regrouped_joined j e.0 vs es d groups h.1 f.1 (omega arith)))
+
+  -- the groups of the version at an index are others
+  pub groups_set : (vs : List Version) (values : Stored V) (id i : ℕ) (groups : List ℕ) (v : Version) → IsTree vs values → IsIndex vs id i → v ≡ get_or vs i v
+      → tree (set vs i (record v { groups = groups })) values ≡ with_all_groups (tree vs values) id groups
+  groups_set vs values id i groups v h at read =
+      let e = ap (λ (z : Version). joined (set vs i (record z { groups = groups })) values.entries) read
+      ∙ regrouped_joined i values.next vs values.entries v groups h.both.ids h.both.fall at.0
+      ∙ ap (λ n. regrouped n groups (joined vs values.entries)) (at.1 v) in
       ap (λ (l : List (Entry V)). let t : Grown V = record { entries = l; next = values.next; bound = values.bound } in t) e
 
   -- the entry of an id whose version stands at an index

@@ -129,6 +129,17 @@ module _ {V : Type 0} where
   abbrev pub with_group : Grown V → ℕ → ℕ → Grown V
   with_group t owner run = record t { entries = opened_for owner run t.entries }
 
+  -- the entries where these are the open groups of the owner
+  abbrev pub regrouped : ℕ → List ℕ → List (Entry V) → List (Entry V)
+  regrouped owner groups [] = []
+  regrouped owner groups (e ∷ es) =
+      if e.version.id == owner then record { version = record e.version { groups = groups }; value = e.value } ∷ es
+      else e ∷ regrouped owner groups es
+
+  -- the tree where these are the open groups of the owner
+  abbrev pub with_all_groups : Grown V → ℕ → List ℕ → Grown V
+  with_all_groups t owner groups = record t { entries = regrouped owner groups t.entries }
+
   -- where a version may be added: a root to an empty tree; a child under a live parent, over open groups of it, where no other child has that label
   abbrev pub CanStand : Grown V → Option ℕ → List ℕ → Type 0
   CanStand t None label = (t.entries ≡ []) × (label ≡ [])

@@ -3,7 +3,7 @@ ghost use Rattle.std.specs.Option.{option_copied_mut};
 ghost use Rattle.std.specs.Borrow.{sem};
 ghost use Rattle.sp_group.specs.Family.{entry_at, prune};
 ghost use Rattle.sp_tree.specs.Changes.{changed_by, decided, promoted};
-ghost use Rattle.sp_tree.specs.Grown.{Grown, opened, kin, lifted, pruned, with_child, value_of, is_open, groups_of, root_in, without_root, renewed, answered, parent_of, label_of, with_group, AreGrown, CanStand, IsChild, LacksChild};
+ghost use Rattle.sp_tree.specs.Grown.{Grown, opened, kin, lifted, pruned, with_child, value_of, is_open, groups_of, root_in, without_root, renewed, answered, parent_of, label_of, with_all_groups, with_group, AreGrown, CanStand, IsChild, LacksChild};
 ghost use Rattle.sp_tree.specs.Joined.{joined, AreJoined, IsPrunedFrom, IsKept};
 ghost use Rattle.sp_tree.specs.Faults.{IsAddFault};
 
@@ -184,6 +184,21 @@ impl<V> Tree<V> {
             }
             // The owner is live.
             None => Ok(()),
+        }
+    }
+
+    /// The open groups of a live version are these from now on. Takes no memory.
+    pub fn set_groups(&mut self, owner: u64, groups: Label)
+        requires { IsSome (entry_at kin self.old.entries owner) }
+        ensures { self.new ≡ with_all_groups self.old owner groups }
+    {
+        match index_of(&self.versions, owner) {
+            Some(index) => {
+                let branch = &mut self.versions[index];
+                branch.groups = groups;
+            }
+            // The owner is live.
+            None => (),
         }
     }
 

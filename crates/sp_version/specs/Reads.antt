@@ -13,6 +13,11 @@ use Rattle.sp_version.specs.declared.version.Version.{Version}
 abbrev pub reads : Version → ℕ → Bool
 reads v i = nat_le v.first i && nat_lt i (v.first + v.position) && not (is_among v.skipped.list i)
 
+-- the least of some numbers that is one of so many from first on, and is not skipped
+abbrev pub least_unskipped : List ℕ → ℕ → ℕ → List ℕ → Option ℕ
+least_unskipped numbers first count skipped =
+    least (λ i. is_among numbers i && (nat_le first i && nat_lt i (first + count) && not (is_among skipped i))) first count
+
 -- the least event that it has read, did not skip, and that is suppressed
 abbrev pub conflict : Version → List ℕ → Option ℕ
 conflict v suppressed = least (λ i. is_among suppressed i && reads v i) v.first v.position

@@ -9,6 +9,7 @@ mod tests;
 mod version;
 
 pub use laws::reads_alike;
+pub use search::least_unskipped;
 use std::alloc::AllocError;
 pub use version::Version;
 

@@ -4,6 +4,7 @@ ghost use Rattle.std.specs.List.Sorted.{IsStrictlyIncreasing};
 ghost use Rattle.sp_base.specs.Place.{IsPlace};
 ghost use Rattle.sp_plan.specs.Runs.{is_among};
 ghost use Rattle.sp_group.specs.Rising.{least};
+ghost use Rattle.sp_version.specs.Reads.{least_unskipped};
 
 use sp_base::Numbers;
 
@@ -31,4 +32,12 @@ pub(crate) fn least_among(list: &[u32], first: u32, count: u32, skipped: &Number
         at += 1;
     }
     None
+}
+
+/// The least of these numbers that is one of so many from `first` on, and is not skipped; None exactly where
+/// there is none. Takes no memory.
+pub fn least_unskipped(numbers: &Numbers, first: u32, count: u32, skipped: &Numbers) -> Option<u32>
+    ensures { result ≡ least_unskipped numbers.now.list first count skipped.now.list }
+{
+    least_among(numbers.list(), first, count, skipped)
 }

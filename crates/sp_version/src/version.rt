@@ -27,6 +27,8 @@ pub struct Version {
     pub matches: Vec<Match>,
     /// The same matches once more, so that one list can be handed out and the other kept.
     pub copies: Vec<Match>,
+    /// The numbers of the events that its matches used.
+    pub used: Numbers,
     /// Whether it has read its window's closing.
     pub done: bool,
     /// The ticket that is out for it.
@@ -48,6 +50,7 @@ impl Version {
         ensures count { IfOk result (λ v. v.matcher.started ≡ 0) }
         ensures matches { IfOk result (λ v. v.matches.items ≡ []) }
         ensures copies { IfOk result (λ v. v.copies.items ≡ []) }
+        ensures used { IfOk result (λ v. v.used.list ≡ []) }
         ensures done { IfOk result (λ v. v.done ≡ false) }
         ensures out { IfOk result (λ v. v.out ≡ None) }
     {
@@ -59,6 +62,7 @@ impl Version {
             matcher: Matcher::new(alloc, plan)?,
             matches: Vec::new(alloc),
             copies: Vec::new(alloc),
+            used: Numbers::new(alloc),
             done: false,
             out: None,
         })
@@ -75,6 +79,7 @@ impl Version {
         ensures count { self.new.matcher.started ≡ 0 }
         ensures matches { self.new.matches.items ≡ [] }
         ensures copies { self.new.copies.items ≡ [] }
+        ensures used { self.new.used.list ≡ [] }
         ensures done { self.new.done ≡ false }
         ensures out { self.new.out ≡ None }
     {
@@ -83,6 +88,7 @@ impl Version {
         self.matcher.clear();
         self.matches.clear();
         self.copies.clear();
+        self.used.clear();
         self.done = false;
         self.out = None;
     }

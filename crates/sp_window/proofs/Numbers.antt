@@ -16,7 +16,7 @@ use Rattle.sp_window.specs.declared.record.Record.{Record}
 use Rattle.sp_window.specs.Times.{stamp, last_stamp}
 use Rattle.sp_window.specs.Openings.{opened}
 use Rattle.sp_window.specs.Holding.{last_of, is_shut}
-use Rattle.sp_window.specs.Laws.{GoodEvents, IsNumber, Holds, KeptByFeeding, ClosedFirst}
+use Rattle.sp_window.specs.Laws.{GoodEvents, IsNumber, Holds, AreFew, KeptByFeeding, ClosedFirst}
 use Rattle.sp_window.proofs.Lists.{all_at, get_front, get_there, length_push, filter_all, filter_none, filter_fewer}
 use Rattle.sp_window.proofs.Feeding.{good_none, good_less, last_stamp_push}
 use Rattle.sp_window.proofs.Lasts.{first_le_last, last_within, last_rises, last_stays, last_open, reached, stays_reached}
@@ -81,6 +81,13 @@ number_test q events ended w low = let test : (w == 0) ≡ false = grind (arith,
 -- as many windows are there as were opened
 pub count_is : (q : Plan) → IsWindowed q → (events : List Event) → Good q events → count q events ≡ length (opened q events)
 count_is q limits events good = ap length (windows_are q limits events false good) ∙ length-map (opened q events) (window_of events false)
+
+-- the law of few windows
+pub windows_are_few : (q : Plan) → IsWindowed q → AreFew q
+windows_are_few q limits events good =
+    let count = count_is q limits events good in
+    let few = (all_opened q limits events good).few in
+    omega arith
 
 -- the window of a number, by the place where it was opened
 at_place : (q : Plan) → IsWindowed q → (events : List Event) (ended : Bool) (w : ℕ) (r : Record) → Good q events → 1 ≤ w → slice_get (opened q events) (w - 1) ≡ Some r → numbered_window q events ended w ≡ Some (window_of events ended r)

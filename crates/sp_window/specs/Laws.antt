@@ -1,5 +1,5 @@
 -- Laws of windows: what one event more, and the end of input, do to them.
-use Rattle.std.specs.Prelude.{◌≡◌, ◌↔◌, ℕ, suc, ◌+◌, ◌-◌, ◌<◌, ◌≤◌, Bool, true, false, List, [], ◌∷◌, ◌++◌, length, Some, take, drop}
+use Rattle.std.specs.Prelude.{◌≡◌, ◌↔◌, ℕ, suc, ◌+◌, ◌-◌, ◌*◌, ◌<◌, ◌≤◌, Bool, true, false, List, [], ◌∷◌, ◌++◌, length, Some, take, drop}
 use Rattle.sp_plan.specs.declared.event.Event.{Event}
 use Rattle.sp_plan.specs.declared.plan.Plan.{Plan}
 use Rattle.sp_plan.specs.Windows.{Window, numbered, events_of, closed}
@@ -31,6 +31,10 @@ pub record Holds (q : Plan) : Type 0 where
   pub in_order : (events : List Event) (v w : ℕ) → 1 ≤ v → v ≤ w → IsNumber q events w → first q events v ≤ first q events w
   pub open_reaches : (events : List Event) (w : ℕ) (ended : Bool) (x : Window) → IsNumber q events w → numbered_window q events ended w ≡ Some x
       → x.closed ≡ false → first q events w + size q events w ≡ length events + 1
+
+-- at most 64 windows open with an event
+abbrev pub AreFew : Plan → Type 0
+AreFew q = (events : List Event) → Good q events → count q events ≤ 64 * length events
 
 -- one event more keeps the windows and where they begin, and takes no event from them
 pub record KeptByFeeding (q : Plan) : Type 0 where

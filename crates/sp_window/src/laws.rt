@@ -1,7 +1,7 @@
 ghost use Rattle.sp_plan.specs.declared.plan.Plan.{Plan};
 ghost use Rattle.sp_plan.specs.Sequential.{Grows};
 ghost use Rattle.sp_plan.specs.Windows.{IsWindowed};
-ghost use Rattle.sp_window.specs.Laws.{GoodEvents, Holds, KeptByFeeding, ClosedFirst, FinishedStay, WindowsAreRead};
+ghost use Rattle.sp_window.specs.Laws.{GoodEvents, Holds, AreFew, KeptByFeeding, ClosedFirst, FinishedStay, WindowsAreRead};
 
 /// Law: no events are good, and good events are so without the last one.
 pub fn good_events()
@@ -12,6 +12,11 @@ pub fn good_events()
 /// is open, and later windows begin no earlier.
 pub fn windows_hold()
     ensures { (q : Plan) → IsWindowed q → Holds q }
+{}
+
+/// Law: at most 64 windows open with an event.
+pub fn windows_are_few()
+    ensures { (q : Plan) → IsWindowed q → AreFew q }
 {}
 
 /// Law: one event more keeps the windows and where they begin, and takes no event from them.

@@ -9,7 +9,7 @@ mod record;
 mod windows;
 
 pub use laws::{
-    closed_come_first, finished_windows_stay, good_events, growth, windows_are_kept,
-    windows_are_read, windows_hold,
+    closed_come_first, finished_windows_stay, good_events, growth, windows_are_few,
+    windows_are_kept, windows_are_read, windows_hold,
 };
 pub use windows::{Window, Windows};

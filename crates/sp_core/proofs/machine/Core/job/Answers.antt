@@ -1,0 +1,68 @@
+use Rattle.std.proofs.Common.{◌≡◌, ◌-◌, Some, None, length, sym, ap, subst, ◌∙◌, refl, arith}
+use Rattle.std.specs.Option.{option_copied}
+use Rattle.sp_tree.specs.Grown.{value_of}
+use Rattle.sp_core.specs.Carrying.{lent_events, ticket_of}
+use Rattle.sp_group.specs.declared.step.Step.TheVariants as s
+use Rattle.sp_version.specs.declared.version.Version.{Version}
+use Rattle.sp_core.specs.Leasing.{IsLent}
+use Rattle.sp_core.specs.Running.{Running, refused}
+use Rattle.sp_core.specs.Holding.{holding}
+use Rattle.sp_core.proofs.Journal.{reached}
+use Rattle.sp_core.proofs.Leased.{leases}
+use Rattle.sp_core.proofs.Lending.{is_fed, lendable, is_leased, part_of}
+use Rattle.sp_core.proofs.machine.Core.job.Goals as goal
+
+pub slice_bounds-copies-end : goal.slice_bounds-copies-end
+slice_bounds-copies-end c =
+    let h = holding c.self.inside in
+    let lent = c.args.lent.now in
+    let n = c.args.count in
+    let is = subst (λ (r : Running). IsLent r lent.version n lent) (sym c.self.view_is) c.requires.lent in
+    let passes = subst (λ (r : Running). refused r (s.Lease lent.version n) ≡ None) (sym c.self.view_is) c.requires.passes in
+    let a = leases h lent n c.self.invariant is passes in
+    let fed = is_fed h lent n a (reached c.every_schedule.ensures h c.self.invariant) (c.compiled_plans_are_lawful.ensures h.plan c.self.invariant.compiled) in
+    omega (arith, fed.low, fed.high, ap length c.deref.ensures.value)
+
+pub unreachable-requires : goal.unreachable-requires
+unreachable-requires c =
+    let h = holding c.self.inside in
+    let lent = c.args.lent.now in
+    let n = c.args.count in
+    let is = subst (λ (r : Running). IsLent r lent.version n lent) (sym c.self.view_is) c.requires.lent in
+    let passes = subst (λ (r : Running). refused r (s.Lease lent.version n) ≡ None) (sym c.self.view_is) c.requires.passes in
+    let a = leases h lent n c.self.invariant is passes in
+    let at : None ≡ Some a.entry.entry.value = sym (ap option_copied c.in_default.is) ∙ c.get.ensures ∙ ap value_of a.entry.is in
+    cc
+
+pub invariant_of-result : goal.invariant_of-result
+invariant_of-result c =
+    let h = holding c.self.inside in
+    let lent = c.args.lent.now in
+    let n = c.args.count in
+    let is = subst (λ (r : Running). IsLent r lent.version n lent) (sym c.self.view_is) c.requires.lent in
+    let passes = subst (λ (r : Running). refused r (s.Lease lent.version n) ≡ None) (sym c.self.view_is) c.requires.passes in
+    let a = leases h lent n c.self.invariant is passes in
+    let at : Some c.in-Some.held.now ≡ Some a.entry.entry.value = sym (ap option_copied c.in-Some.is) ∙ c.get.ensures ∙ ap value_of a.entry.is in
+    let value : c.in-Some.held.now ≡ a.entry.entry.value = cc in
+    let events : c.in_ok-events.events.items ≡ lent_events h.events (ticket_of lent) =
+    c.in_ok-events.ensures ∙ part_of c.deref.result.now h.events (lent.first - 1) lent.count c.deref.ensures.value in
+    record {
+      lendable = lendable h lent n a (reached c.every_schedule.ensures h c.self.invariant) (c.compiled_plans_are_lawful.ensures h.plan c.self.invariant.compiled)
+          c.in_ok-copy.field-0 c.of.result (c.in_ok-copy.ensures ∙ ap (λ (v : Version). v.matcher) value) (c.of.ensures ∙ events);
+    }
+
+pub returns : goal.returns
+returns c =
+    let h = holding c.self.inside in
+    let lent = c.args.lent.now in
+    let n = c.args.count in
+    let is = subst (λ (r : Running). IsLent r lent.version n lent) (sym c.self.view_is) c.requires.lent in
+    let passes = subst (λ (r : Running). refused r (s.Lease lent.version n) ≡ None) (sym c.self.view_is) c.requires.passes in
+    let a = leases h lent n c.self.invariant is passes in
+    let at : Some c.in-Some.held.now ≡ Some a.entry.entry.value = sym (ap option_copied c.in-Some.is) ∙ c.get.ensures ∙ ap value_of a.entry.is in
+    let value : c.in-Some.held.now ≡ a.entry.entry.value = cc in
+    let events : c.in_ok-events.events.items ≡ lent_events h.events (ticket_of lent) =
+    c.in_ok-events.ensures ∙ part_of c.deref.result.now h.events (lent.first - 1) lent.count c.deref.ensures.value in
+    rw (← c.self.view_is)
+    (is_leased h lent n a (reached c.every_schedule.ensures h c.self.invariant) (c.compiled_plans_are_lawful.ensures h.plan c.self.invariant.compiled)
+    _ refl refl refl (c.in_ok-copy.ensures ∙ ap (λ (v : Version). v.matcher) value) (c.of.ensures ∙ events) c.in_ok-copy-2.ensures refl)

@@ -1,0 +1,37 @@
+use Rattle.std.proofs.Common.{◌≡◌, ◌++◌, ◌∷◌, [], List, None, sym, ap, subst, ◌∙◌, arith, true, if◌then◌else◌}
+use Rattle.std.specs.Result.{is_ok}
+use Rattle.sp_group.specs.declared.step.Step.TheVariants as s
+use Rattle.sp_group.specs.declared.step.Entry.{Entry}
+use Rattle.sp_core.specs.Leasing.{IsLent}
+use Rattle.sp_core.specs.Rooms.{room}
+use Rattle.sp_core.specs.Running.{Running, after, once, refused}
+use Rattle.sp_core.specs.Holding.{holding}
+use Rattle.sp_core.proofs.Leased.{leases, core_leased, running_leased}
+use Rattle.sp_core.proofs.machine.Core.put_out.Goals as goal
+
+pub invariant_of-self-2 : goal.invariant_of-self-2
+invariant_of-self-2 c =
+    let h = holding c.self.inside in
+    let lent = c.args.lent in
+    let n = c.args.count in
+    let is = subst (λ (r : Running). IsLent r lent.version n lent) (sym c.self.view_is) c.requires.lent in
+    let passes = subst (λ (r : Running). refused r (s.Lease lent.version n) ≡ None) (sym c.self.view_is) c.requires.passes in
+    let inserted : is_ok c.insert.result ≡ true = c.insert.ensures.succeeds (omega (arith, c.in_ok-reserve.ensures.ok)) in
+    let tickets = c.insert.ensures.items ∙ ap (λ b. if b then lent ∷ c.reserve.new.self.items else c.reserve.new.self.items) inserted ∙ ap (λ ts. lent ∷ ts) c.reserve.ensures.items in
+    let journal = c.enter.ensures.items ∙ ap (λ (es : List Entry). es ++ once (s.Lease lent.version n) ∷ []) c.make_room.ensures.items in
+    core_leased h lent n (leases h lent n c.self.invariant is passes) c.put_out_for.new.tree c.insert.new.self.items c.enter.new.journal.items (room c.enter.new.journal)
+    c.put_out_for.ensures tickets journal (omega (arith, c.in_ok-make_room.ensures.ok, c.enter.ensures.kept, c.live.ensures.live))
+
+pub returns-clause-ok : goal.returns-clause-ok
+returns-clause-ok c =
+    let h = holding c.self.inside in
+    let lent = c.args.lent in
+    let n = c.args.count in
+    let is = subst (λ (r : Running). IsLent r lent.version n lent) (sym c.self.view_is) c.requires.lent in
+    let passes = subst (λ (r : Running). refused r (s.Lease lent.version n) ≡ None) (sym c.self.view_is) c.requires.passes in
+    let inserted : is_ok c.insert.result ≡ true = c.insert.ensures.succeeds (omega (arith, c.in_ok-reserve.ensures.ok)) in
+    let tickets = c.insert.ensures.items ∙ ap (λ b. if b then lent ∷ c.reserve.new.self.items else c.reserve.new.self.items) inserted ∙ ap (λ ts. lent ∷ ts) c.reserve.ensures.items in
+    let journal = c.enter.ensures.items ∙ ap (λ (es : List Entry). es ++ once (s.Lease lent.version n) ∷ []) c.make_room.ensures.items in
+    running_leased h lent n (leases h lent n c.self.invariant is passes) c.put_out_for.new.tree c.insert.new.self.items c.enter.new.journal.items (room c.enter.new.journal)
+    c.put_out_for.ensures tickets journal
+    ∙ ap (λ (r : Running). after r (s.Lease lent.version n)) c.self.view_is

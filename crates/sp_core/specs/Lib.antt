@@ -1,0 +1,13 @@
+pub mod Carrying
+pub mod Faults
+pub mod Holding
+pub mod Homecoming
+pub mod Leasing
+pub mod Renewing
+pub mod Returning
+pub mod Rooms
+pub mod Running
+pub mod Showing
+pub mod Spawning
+pub mod Suppressing
+pub mod Withheld

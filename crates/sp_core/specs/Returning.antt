@@ -1,0 +1,59 @@
+-- What giving a piece back does, and what it answers.
+use Rattle.std.specs.Prelude.{◌≡◌, ℕ, zero, suc, List, [], ◌∷◌, ◌++◌, Some, None, slice_get}
+use Rattle.sp_piece.specs.declared.job.Job.{Job}
+use Rattle.sp_piece.specs.Pieced.{Pieced}
+use Rattle.sp_group.specs.declared.step.Entry.{Entry}
+use Rattle.sp_group.specs.declared.step.Step.TheVariants as s
+use Rattle.sp_group.specs.Machine.{Ticket, Version, version_at, ticket_at}
+use Rattle.sp_group.specs.Steps.{steps}
+use Rattle.sp_rules.specs.Returning.{readings, reads_and_return}
+use Rattle.sp_core.specs.declared.given.Given.{Given}
+use Rattle.sp_core.specs.declared.given.Given.TheVariants as g
+use Rattle.sp_core.specs.Running.{Running, after, once}
+use Rattle.sp_core.specs.Carrying.{Carries, ticket_of}
+
+-- so many readings of a ticket as an entry, none where nothing was read
+abbrev pub reading_entries : ℕ → ℕ → List Entry
+reading_entries n zero = []
+reading_entries n (suc k) = record { step = s.Event n; times = suc k } ∷ []
+
+-- the core after so many readings of a ticket and its return
+abbrev pub after_return : Running → ℕ → ℕ → Running
+after_return c n times = record c {
+  machine = steps c.plan c.bound c.machine (reads_and_return n times);
+  journal = c.journal ++ reading_entries n times ++ once (s.Return n) ∷ [];
+}
+
+-- the ticket of a piece is out, for a live version
+pub record IsOut (c : Running) (p : Pieced) (t : Ticket) (v : Version) : Type 0 where
+  pub out : ticket_at c.machine.tickets p.job.ticket ≡ Some t
+  pub live : version_at c.machine.versions t.version ≡ Some v
+
+-- the ticket of that number stands at this place
+abbrev pub IsPlaceOf : List Ticket → ℕ → ℕ → Type 0
+IsPlaceOf tickets n place = (t : Ticket) × (slice_get tickets place ≡ Some t) × (t.number ≡ n) × (ticket_at tickets n ≡ Some t)
+
+-- a job is what is out under its ticket, for a live version
+abbrev pub IsCarried : Running → Job → Type 0
+IsCarried c job =
+    (t : Ticket) × (v : Version) × (ticket_at c.machine.tickets job.ticket ≡ Some t) × (version_at c.machine.versions t.version ≡ Some v)
+    × Carries c.plan c.machine t v job
+
+-- a piece comes home: its job is what is out
+abbrev pub CanComeHome : Running → Pieced → Type 0
+CanComeHome c p = IsCarried c p.job
+
+-- `NotOut` where the ticket is not out, and nothing changes then; `Stale` where it is, and its version is not live; `Differs` where that is
+-- live and the job is not what was lent; `Home` where it is. The readings stand in the journal before the return; those of a piece that
+-- does not come home are lost.
+abbrev pub IsGiven : Running → Running → Pieced → Given → Type 0
+IsGiven old new p g.Home =
+    (t : Ticket) × (v : Version) × IsOut old p t v × Carries old.plan old.machine t v p.job
+    × (new ≡ after_return old p.job.ticket (readings p.read p.closed))
+IsGiven old new p (g.Stale id) =
+    (t : Ticket) × (ticket_at old.machine.tickets p.job.ticket ≡ Some t) × (t.version ≡ id) × (version_at old.machine.versions id ≡ None)
+    × (new ≡ after old (s.Return p.job.ticket))
+IsGiven old new p (g.NotOut n) = (n ≡ p.job.ticket) × (ticket_at old.machine.tickets n ≡ None) × (new ≡ old)
+IsGiven old new p (g.Differs lent back) =
+    (t : Ticket) × (v : Version) × IsOut old p t v × ¬ Carries old.plan old.machine t v p.job × (ticket_of lent ≡ t) × (back ≡ p)
+    × (new ≡ after old (s.Return p.job.ticket))

@@ -1,0 +1,112 @@
+// What is suppressed for a version: what is consumed, what the matches of its ancestors used, and the groups
+// that its label and theirs name. All of it is looked for within a range of numbers, from the version up to
+// the root.
+ghost use Rattle.std.specs.Prelude.{◌≡◌, ℕ, IfOk, IsSome};
+ghost use Rattle.sp_group.specs.Machine.{version_at};
+ghost use Rattle.sp_core.specs.Withheld.{lesser};
+ghost use Rattle.sp_core.specs.Suppressing.{conflict_at, least_suppressed, ready_ids, suppressed_within};
+
+use crate::lent::lent_under;
+use crate::withheld::{least_withheld, withheld_within};
+use crate::{Core, Memory};
+use sp_base::{Numbers, rising_same};
+use sp_rules::every_schedule;
+use sp_version::least_unskipped;
+use std::alloc::Global;
+
+// The lesser of two numbers, where both are there, and else the one that is.
+pub(crate) fn lesser(one: Option<u32>, other: Option<u32>) -> Option<u32>
+    ensures { result ≡ lesser one other }
+{
+    match (one, other) {
+        (Some(one), Some(other)) => Some(one.min(other)),
+        (None, other) => other,
+        (one, None) => one,
+    }
+}
+
+impl Core {
+    // The least of so many numbers from `first` on that is suppressed for a live version, and not skipped.
+    pub(crate) fn least_suppressed(
+        &self,
+        version: u64,
+        first: u32,
+        count: u32,
+        skipped: &Numbers,
+    ) -> Option<u32>
+        requires live { IsSome (version_at self.now.machine.versions version) }
+        ensures { result ≡ least_suppressed self.now.plan self.now.machine version first count skipped.now.list }
+    {
+        let mut found = None;
+        let mut below = version;
+        while let Some(parent) = self.tree.parent(below) {
+            let (Some(label), Some(held)) = (self.tree.label(below), self.tree.get(parent)) else {
+                unreachable!()
+            };
+            found = lesser(found, least_withheld(held, label, first, count, skipped));
+            below = parent;
+        }
+        lesser(
+            found,
+            least_unskipped(&self.consumed, first, count, skipped),
+        )
+    }
+
+    // Those of so many numbers from `first` on that are suppressed for a live version.
+    pub(crate) fn suppressed_within(
+        &self,
+        alloc: Global,
+        version: u64,
+        first: u32,
+        count: u32,
+    ) -> Result<Numbers, Memory>
+        requires live { IsSome (version_at self.now.machine.versions version) }
+        ensures { IfOk result (λ numbers. numbers.list ≡ suppressed_within self.now.plan self.now.machine version first count) }
+    {
+        rising_same();
+        let mut numbers = Numbers::new(alloc);
+        let mut below = version;
+        while let Some(parent) = self.tree.parent(below) {
+            let (Some(label), Some(held)) = (self.tree.label(below), self.tree.get(parent)) else {
+                unreachable!()
+            };
+            withheld_within(alloc, held, label, first, count, &mut numbers)?;
+            below = parent;
+        }
+        numbers.union(alloc, &self.consumed.cut_to(alloc, first, count)?)?;
+        Ok(numbers)
+    }
+
+    // The conflict of a version; None exactly where it is not live, or in none.
+    pub(crate) fn conflict_of(&self, version: u64) -> Option<u32>
+        ensures { result ≡ conflict_at self.now.plan self.now.machine version }
+    {
+        every_schedule();
+        let held = self.tree.get(version)?;
+        let read = self.least_suppressed(version, held.first, held.position, &held.skipped);
+        if read.is_some() {
+            return read;
+        }
+        let ticket = held.out?;
+        let lent = lent_under(&self.tickets, ticket)?;
+        self.least_suppressed(version, lent.first, lent.count, &lent.snapshot)
+    }
+
+    /// The conflict of a live version: the least event that it read and did not skip, or that is lent to it
+    /// and not in its ticket's snapshot, although the event is suppressed for it; None exactly where there is none.
+    pub fn conflict(&self, version: u64) -> Result<Option<u32>, Memory>
+        requires live { IsSome (version_at self.now.machine.versions version) }
+        ensures { IfOk result (λ event. event ≡ conflict_at self.now.plan self.now.machine version) }
+    {
+        Ok(self.conflict_of(version))
+    }
+
+    /// The versions that `lease` would not refuse, by rising id.
+    pub fn ready(&self, alloc: Global) -> Result<Vec<u64>, Memory>
+        ensures { IfOk result (λ ids. ids.items ≡ ready_ids self.now.plan self.now.bound self.now.machine) }
+    {
+        let mut ids = self.tree.walk(alloc)?;
+        ids.retain(|id| self.lease_refusal(*id).is_none());
+        Ok(ids)
+    }
+}

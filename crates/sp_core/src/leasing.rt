@@ -1,0 +1,169 @@
+// A lease: the next unread events of a version go out under a ticket.
+ghost use Rattle.std.specs.Prelude.{◌≡◌, ◌≤◌, ℕ, None, Some, IfOk, IfErr, OnOk, OnErr};
+ghost use Rattle.sp_plan.specs.WindowNumbers.{size};
+ghost use Rattle.sp_group.specs.declared.step.Step.TheVariants as s;
+ghost use Rattle.sp_core.specs.Faults.{IsFault};
+ghost use Rattle.sp_core.specs.Leasing.{HasBegun, IsLent, IsLeased, is_closed, with_out};
+ghost use Rattle.sp_core.specs.Running.{IsDone, after, refused};
+
+use crate::rooms::{enter, make_room};
+use crate::{Core, CoreFault, Lent, Memory};
+use sp_group::{Refusal, Step};
+use sp_piece::Job;
+use sp_plan::{Event, Listed};
+use sp_rules::{compiled_plans_are_lawful, every_schedule};
+use sp_tree::Tree;
+use sp_version::Version;
+use sp_window::{closed_come_first, windows_hold};
+use std::alloc::Global;
+
+// The same events once more.
+fn copies(alloc: Global, events: &[Event]) -> Result<Vec<Event>, Memory>
+    ensures { IfOk result (λ list. list.items ≡ events.now) }
+{
+    let mut list = Vec::with_capacity(alloc, events.len())?;
+    for event in events {
+        list.push(event.copy(alloc)?)?;
+    }
+    Ok(list)
+}
+
+// A ticket is out for a version from now on.
+fn put_out_for(tree: &mut Tree<Version>, version: u64, ticket: u64)
+    ensures { tree.new ≡ with_out tree.old version ticket }
+{
+    if let Some(held) = tree.get_mut(version) {
+        held.out = Some(ticket);
+    }
+}
+
+impl Core {
+    // How many events of a window were fed, and whether it is closed.
+    fn fed_of(&self, number: u32) -> (u32, bool)
+        requires begun { HasBegun self.now number }
+        ensures fed { result.0 ≡ size self.now.plan self.now.machine.events number }
+        ensures closed { result.1 ≡ is_closed self.now number }
+    {
+        windows_hold();
+        closed_come_first();
+        let Some(window) = self.windows.get(number) else {
+            unreachable!()
+        };
+        match window.end {
+            Some(end) => (end + 1 - window.first, true),
+            None => (self.events.len() as u32 + 1 - window.first, false),
+        }
+    }
+
+    // Why a lease of a version is refused, however many events are asked for.
+    pub(crate) fn lease_refusal(&self, version: u64) -> Option<Refusal>
+        ensures { (count : ℕ) → result ≡ refused self.now (s.Lease version count) }
+    {
+        every_schedule();
+        let Some(held) = self.tree.get(version) else {
+            return Some(Refusal::NotLive { version });
+        };
+        if let Some(ticket) = held.out {
+            return Some(Refusal::Out { ticket });
+        }
+        if let Some(event) = self.conflict_of(version) {
+            return Some(Refusal::Conflict { event });
+        }
+        let position = held.position;
+        let (fed, closed) = self.fed_of(held.window);
+        if position < fed || closed && !held.done {
+            None
+        } else {
+            Some(Refusal::NothingToRead { position })
+        }
+    }
+
+    // What goes out under the next ticket, where at most `count` events are asked for.
+    fn lent(&self, alloc: Global, version: u64, count: u32) -> Result<Lent, Memory>
+        requires passes { refused self.now (s.Lease version count) ≡ None }
+        ensures lent { IfOk result (IsLent self.now version count) }
+        ensures version { IfOk result (λ lent. lent.version ≡ version) }
+    {
+        every_schedule();
+        windows_hold();
+        let Some(held) = self.tree.get(version) else {
+            unreachable!()
+        };
+        let (fed, closed) = self.fed_of(held.window);
+        let unread = fed - held.position;
+        let first = held.first + held.position;
+        let lent = unread.min(count);
+        Ok(Lent {
+            ticket: self.next_ticket,
+            version,
+            first,
+            count: lent,
+            snapshot: self.suppressed_within(alloc, version, first, lent)?,
+            closes: closed && unread <= count,
+        })
+    }
+
+    // The job that carries what is lent.
+    fn job(&self, alloc: Global, lent: &Lent, count: u32) -> Result<Job, Memory>
+        requires lent { IsLent self.now lent.now.version count lent.now }
+        requires passes { refused self.now (s.Lease lent.now.version count) ≡ None }
+        ensures { IfOk result (IsLeased self.now lent.now.version count) }
+    {
+        every_schedule();
+        compiled_plans_are_lawful();
+        let Some(held) = self.tree.get(lent.version) else {
+            unreachable!()
+        };
+        let place = lent.first as usize - 1;
+        let events = copies(alloc, &self.events[place..place + lent.count as usize])?;
+        Ok(Job {
+            ticket: lent.ticket,
+            version: lent.version,
+            first: lent.first,
+            before: held.matcher.copy(alloc)?,
+            events: Listed::of(events),
+            snapshot: lent.snapshot.copy(alloc)?,
+            closes: lent.closes,
+        })
+    }
+
+    // Enters the lease.
+    fn put_out(&mut self, alloc: Global, lent: Lent, count: u32) -> Result<(), Memory>
+        requires lent { IsLent self.old lent.version count lent }
+        requires passes { refused self.old (s.Lease lent.version count) ≡ None }
+        ensures ok { OnOk result (self.new ≡ after self.old (s.Lease lent.version count)) }
+        ensures err { OnErr result (self.new ≡ self.old) }
+    {
+        let version = lent.version;
+        let ticket = lent.ticket;
+        make_room(&mut self.journal, self.tree.live())?;
+        self.tickets.reserve(1)?;
+        // There is room for it.
+        let _ = self.tickets.insert(0, lent);
+        self.next_ticket += 1;
+        put_out_for(&mut self.tree, version, ticket);
+        enter(&mut self.journal, Step::Lease { version, count }, 1);
+        Ok(())
+    }
+
+    /// The next unread events of a version's window, at most `count`, 1 to 1,024, go out for reading, and the
+    /// window's closing with them where they reach its end and it is closed. After a fault the core is as
+    /// before. It is refused where the version is not live, a ticket is out for it, it is in conflict, and where
+    /// there is nothing to read.
+    pub fn lease(&mut self, alloc: Global, version: u64, count: u32) -> Result<Job, CoreFault>
+        requires some { 1 ≤ count }
+        requires most { count ≤ 1024 }
+        ensures done { OnOk result (IsDone (s.Lease version count) self.old self.new) }
+        ensures job { IfOk result (IsLeased self.old version count) }
+        ensures err { OnErr result (self.new ≡ self.old) }
+        ensures fault { IfErr result (IsFault self.old (s.Lease version count)) }
+    {
+        if let Some(refusal) = self.lease_refusal(version) {
+            return Err(CoreFault::Refused(refusal));
+        }
+        let lent = self.lent(alloc, version, count)?;
+        let job = self.job(alloc, &lent, count)?;
+        self.put_out(alloc, lent, count)?;
+        Ok(job)
+    }
+}

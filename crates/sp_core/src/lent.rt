@@ -1,0 +1,30 @@
+ghost use Rattle.std.specs.Prelude.{◌≡◌, map, option_copied};
+ghost use Rattle.std.specs.Option.{option_map};
+ghost use Rattle.sp_group.specs.Machine.{ticket_at};
+ghost use Rattle.sp_core.specs.Carrying.{ticket_of};
+
+use sp_base::Numbers;
+
+/// What went out under a ticket.
+#[derive(Drop)]
+pub struct Lent {
+    /// The ticket's number, from 1.
+    pub ticket: u64,
+    /// The version to which it was lent.
+    pub version: u64,
+    /// The number of the first event lent; where none was lent, the number after the last one read.
+    pub first: u32,
+    /// How many events were lent, at most 1,024.
+    pub count: u32,
+    /// The numbers of those of them that are to be skipped.
+    pub snapshot: Numbers,
+    /// Whether the window's closing was lent behind them.
+    pub closes: bool,
+}
+
+// What went out under the ticket of a number; None exactly where it is not out.
+pub(crate) fn lent_under(tickets: &[Lent], ticket: u64) -> Option<&Lent>
+    ensures { option_map ticket_of (option_copied result) ≡ ticket_at (map ticket_of tickets.now) ticket }
+{
+    tickets.iter().find(|lent| lent.ticket == ticket)
+}
