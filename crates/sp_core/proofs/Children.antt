@@ -1,5 +1,5 @@
 -- The root of a tree, and the children of a parent, as the machine finds them.
-use Rattle.std.proofs.Common.{◌≡◌, ℕ, ◌+◌, ◌<◌, ◌≤◌, Bool, true, false, not, ◌&&◌, ◌==◌, cond, List, [], ◌∷◌, map, length, Option, Some, None, is_some, refl, sym, ap, subst, ◌∙◌, arith, find}
+use Rattle.std.proofs.Common.{◌≡◌, ℕ, Bool, true, false, not, ◌&&◌, ◌==◌, cond, List, [], ◌∷◌, map, Option, Some, None, is_some, refl, sym, ap, subst, ◌∙◌, arith, find}
 use Rattle.std.specs.List.{All}
 use Rattle.std.proofs.lemmas.Bool.{and_parts}
 use Rattle.std.proofs.lemmas.Bool.Decides.{nat_tests}
@@ -10,7 +10,7 @@ use Rattle.sp_version.specs.declared.version.Version.{Version}
 use Rattle.sp_group.specs.Family.{entry_at, is_parent, parent_there}
 use Rattle.sp_group.specs.Machine as machine
 use Rattle.sp_group.specs.Refusing.{child_with, id_of, same_list}
-use Rattle.sp_tree.specs.Grown.{Entry, AreRooted, FallFrom, IsChild, LacksChild, kin, root_in}
+use Rattle.sp_tree.specs.Grown.{Entry, AreRooted, IsChild, LacksChild, kin, root_in}
 use Rattle.sp_rules.specs.Kept.{Child, Shape, Stands}
 use Rattle.sp_core.specs.Holding.{version_of}
 use Rattle.sp_core.proofs.Entries.{version_is}

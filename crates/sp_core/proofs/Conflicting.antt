@@ -1,10 +1,11 @@
 -- Only what has been read, or is out, can be in conflict.
-use Rattle.std.proofs.Common.{◌≡◌, ℕ, zero, suc, ◌+◌, Bool, true, false, cond, not, ◌&&◌, ◌||◌, ◌==◌, nat_lt, nat_le, List, [], ◌∷◌, Option, Some, None, is_some, refl, sym, ap, ◌∙◌, arith}
+use Rattle.std.proofs.Common.{◌≡◌, ℕ, ◌+◌, Bool, true, false, cond, ◌&&◌, ◌||◌, ◌==◌, nat_lt, nat_le, List, [], ◌∷◌, Some, is_some, refl, sym, ap, ◌∙◌, arith}
+use Rattle.std.proofs.lemmas.Bool.{true≢false}
 use Rattle.std.proofs.lemmas.Bool.Decides.{nat_tests}
 use Rattle.sp_plan.specs.declared.plan.Plan.{Plan}
 use Rattle.sp_plan.specs.WindowNumbers.{first, size}
-use Rattle.sp_group.specs.Rising.{least}
 use Rattle.sp_group.specs.Machine.{Machine, Version, Ticket, is_out, out_for, is_bare, is_lent, is_hit, is_read, is_suppressed, conflict}
+use Rattle.sp_core.proofs.Least.{least_nothing}
 
 -- a ticket is out for a version exactly where its number is found
 pub out_is : (ts : List Ticket) (id : ℕ) → is_some (out_for ts id) ≡ is_out ts id
@@ -26,10 +27,6 @@ bare_if (t ∷ ts) id i h = one (t.version == id) h (bare_if ts id i)
 unread : (from position i : ℕ) (b : Bool) → nat_lt 0 position ≡ false → (nat_le from i && nat_lt i (from + position) && b) ≡ false
 unread from position i b h = grind (arith, nat_tests)
 
-least_of_none : (test : ℕ → Bool) (from n : ℕ) → ((i : ℕ) → test i ≡ false) → is_some (least test from n) ≡ false
-least_of_none test from zero h = refl
-least_of_none test from (suc n) h = ap (λ b. is_some (cond b (Some from) (least test (from + 1) n))) (h from) ∙ least_of_none test (from + 1) n h
-
 and_neither : (a b c : Bool) → b ≡ false → c ≡ false → (a && (b || c)) ≡ false
 and_neither true b c h k = grind arith
 and_neither false b c h k = refl
@@ -46,4 +43,4 @@ touched q m v h = one (nat_lt 0 v.position) (is_out m.tickets v.id) refl refl
     one : (a b : Bool) → nat_lt 0 v.position ≡ a → is_out m.tickets v.id ≡ b → (a || b) ≡ true
     one true b read out = refl
     one false true read out = refl
-    one false false read out = sym (least_of_none (is_hit q m v) (first q m.events v.window) (size q m.events v.window) (none read out)) ∙ h
+    one false false read out = absurd (true≢false (sym h ∙ ap is_some (least_nothing (is_hit q m v) (first q m.events v.window) (size q m.events v.window) (λ i low high. none read out i))))

@@ -1,6 +1,6 @@
 -- How many windows there are: as many before input has ended as behind it, and few.
-use Rattle.std.proofs.Common.{◌≡◌, ℕ, ℤ, pos, ◌+◌, ◌*◌, ◌<◌, ◌≤◌, ◌+ℤ◌, ◌*ℤ◌, Bool, true, false, List, [], ◌∷◌, length, map, Option, Some, None, is_some, refl, sym, ap, subst, ◌∙◌, arith, find, nat_lt}
-use Rattle.std.specs.Prelude.{unsigned_abs, filter}
+use Rattle.std.proofs.Common.{◌≡◌, ℕ, pos, ◌+◌, ◌<◌, ◌≤◌, ◌+ℤ◌, ◌*ℤ◌, Bool, true, false, List, [], ◌∷◌, length, Option, Some, None, is_some, refl, sym, ap, ◌∙◌, arith, find, nat_lt}
+use Rattle.std.specs.Prelude.{unsigned_abs}
 use Rattle.std.specs.List.{filter_map, range_with_len, cons_option}
 use Rattle.std.specs.Option.{option_map}
 use Rattle.std.proofs.lemmas.Bool.Decides.{nat_tests}
@@ -10,7 +10,7 @@ use Rattle.sp_plan.specs.declared.plan.Plan.{Plan}
 use Rattle.sp_plan.specs.declared.plan.Length.{Length}
 use Rattle.sp_plan.specs.declared.plan.Opening.{Opening}
 use Rattle.sp_plan.specs.declared.plan.Opening.TheVariants.{EveryEvents, EveryTime, When}
-use Rattle.sp_plan.specs.Windows.{IsWindowed, duration, numbered, spans, windows, windows_by, within, window_within}
+use Rattle.sp_plan.specs.Windows.{IsWindowed, duration, spans, windows, windows_by, within, window_within}
 use Rattle.sp_plan.specs.WindowNumbers.{count}
 use Rattle.sp_version.specs.declared.version.Version.{Version}
 use Rattle.sp_window.specs.Laws.{AreFew, ClosedFirst}

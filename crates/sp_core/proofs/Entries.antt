@@ -1,13 +1,12 @@
 -- The entries of a tree as the versions of the machine: what is found under an id is the same, and what holds of what is found holds of all.
-use Rattle.std.proofs.Common.{◌≡◌, ℕ, ◌+◌, ◌*◌, ◌<◌, ◌≤◌, Bool, true, false, ◌==◌, cond, List, [], ◌∷◌, map, length, Option, Some, None, refl, sym, ap, subst, ◌∙◌, arith}
+use Rattle.std.proofs.Common.{◌≡◌, ℕ, ◌<◌, Bool, true, false, ◌==◌, cond, List, [], ◌∷◌, map, Option, Some, None, refl, ap, subst, ◌∙◌, arith}
 use Rattle.std.specs.Option.{option_map}
 use Rattle.std.specs.List.{All}
 use Rattle.std.proofs.lemmas.Bool.Decides.{nat_tests}
 use Rattle.std.proofs.lemmas.List.Elements.{All-nil, All-cons, All-head, All-tail}
 use Rattle.sp_version.specs.declared.version.Version.{Version}
 use Rattle.sp_group.specs.Family.{entry_at}
-use Rattle.sp_group.specs.Machine as machine
-use Rattle.sp_group.specs.Machine.{Ticket, version_at, is_suppressed}
+use Rattle.sp_group.specs.Machine.{version_at, is_suppressed}
 use Rattle.sp_tree.specs.Grown.{Entry, FallFrom, kin, value_of}
 use Rattle.sp_rules.specs.Kept.{Local}
 use Rattle.sp_rules.specs.Schedules.{Reached}

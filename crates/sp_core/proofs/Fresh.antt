@@ -1,8 +1,6 @@
 -- A fresh version: where a spawn that is not refused puts it, and what it holds.
-use Rattle.std.proofs.Common.{◌≡◌, ℕ, ◌+◌, ◌<◌, ◌≤◌, Bool, true, false, not, ◌||◌, ◌==◌, cond, List, [], ◌∷◌, ◌++◌, map, length, Option, Some, None, is_some, refl, sym, ap, subst, ◌∙◌, arith, find, nat_lt, nat_le}
+use Rattle.std.proofs.Common.{◌≡◌, ℕ, ◌+◌, ◌<◌, ◌≤◌, Bool, true, false, not, ◌||◌, ◌==◌, cond, List, [], ◌∷◌, ◌++◌, map, length, Option, Some, None, is_some, refl, sym, ap, subst, ◌∙◌, arith, find, nat_lt}
 use Rattle.std.specs.Option.{option_map}
-use Rattle.std.specs.List.{All, sum}
-use Rattle.std.specs.List.Sorted.{IsStrictlyIncreasing}
 use Rattle.std.proofs.lemmas.Bool.Decides.{nat_tests}
 use Rattle.std.proofs.lemmas.List.Elements.{All-cons}
 use Rattle.std.proofs.lemmas.List.Sums.{sum_by-cons}
@@ -30,9 +28,9 @@ use Rattle.sp_group.specs.Refusing.{child_with, id_of, not_open}
 use Rattle.sp_group.specs.Effects.{any_spawned, child_spawned, effect, fresh, spawned}
 use Rattle.sp_tree.specs.Grown.{Grown, Entry, AreGrown, CanStand, groups_of, is_open, kin, with_child}
 use Rattle.sp_rules.specs.Schedules.{Reached}
-use Rattle.sp_core.specs.Holding.{Holding, Holds, HasRooms, IsCore, machine_of, running, unnumbered, version_of}
+use Rattle.sp_core.specs.Holding.{Holding, Holds, IsCore, machine_of, running, unnumbered, version_of}
 use Rattle.sp_core.specs.Carrying.{ticket_of}
-use Rattle.sp_core.specs.Rooms.{entries_owed, matches_held, numbers_held}
+use Rattle.sp_core.specs.Rooms.{entries_owed}
 use Rattle.sp_core.specs.Running.{once, refused}
 use Rattle.sp_core.specs.Spawning.{spawned_window, window_behind}
 use Rattle.sp_core.proofs.Children.{root_found, no_root, lacks_child, all_pass}
@@ -208,8 +206,8 @@ core_with h parent label v journal room core reached is fits f live entered owed
       rooms = record {
         entries = owed;
         matches = let more = sum_by-cons (λ n. n) (length v.copies.items) (map (λ x. length x.value.copies.items) h.tree.entries) in
-        let no = ap length f.copies in let old = core.rooms.matches in omega arith;
+            let no = ap length f.copies in let old = core.rooms.matches in omega arith;
         numbers = let more = sum_by-cons (λ n. n) (length v.used.list) (map (λ x. length x.value.used.list) h.tree.entries) in
-        let no = ap length f.used in let old = core.rooms.numbers in omega arith;
+            let no = ap length f.used in let old = core.rooms.numbers in omega arith;
       };
     }

@@ -1,8 +1,7 @@
 -- The conflict of a version, as a core holds it and its tickets.
-use Rattle.std.proofs.Common.{◌≡◌, ℕ, Bool, true, false, cond, ◌==◌, List, [], ◌∷◌, map, Option, Some, None, is_some, refl, sym, ap, ◌∙◌, arith}
+use Rattle.std.proofs.Common.{◌≡◌, ℕ, true, false, List, map, Option, Some, None, is_some, refl, sym, ap, ◌∙◌}
 use Rattle.std.specs.Prelude.{IsSome}
 use Rattle.std.specs.Option.{option_map}
-use Rattle.std.proofs.lemmas.Bool.Decides.{nat_tests}
 use Rattle.std.proofs.lemmas.Option.{none-some, same_Some}
 use Rattle.sp_plan.specs.WindowNumbers.{first}
 use Rattle.sp_group.specs.Family.{entry_at}
@@ -16,19 +15,8 @@ use Rattle.sp_core.specs.Carrying.{ticket_of}
 use Rattle.sp_core.specs.Holding.{Holding, Holds, IsCore, machine_of, version_of}
 use Rattle.sp_core.specs.Suppressing.{conflict_at, conflict_of, least_suppressed}
 use Rattle.sp_core.proofs.Entries.{Found, found, found_of_all, not_found, version_found, version_is}
+use Rattle.sp_core.proofs.Renewing.{at_entry}
 use Rattle.sp_core.proofs.InConflict.{IsLocal, Out, conflict_lent, conflict_none, conflict_read, out_is, read_least}
-
--- the id of an entry that is found
-pub id_is : (es : List (Entry Version)) (id : ℕ) (e : Entry Version) → entry_at kin es id ≡ Some e → e.version.id ≡ id
-id_is [] id e at = absurd (none-some e at)
-id_is (x ∷ es) id e at = one (x.version.id == id) refl at (λ later. id_is es id e later)
-  where
-    one : (b : Bool) → (x.version.id == id) ≡ b → cond b (Some x) (entry_at kin es id) ≡ Some e → (entry_at kin es id ≡ Some e → e.version.id ≡ id) → e.version.id ≡ id
-    one true own is rest =
-        let same : x ≡ e = same_Some x e is in
-        let mine : x.version.id ≡ id = grind (arith, nat_tests) in
-        ap (λ (y : Entry Version). y.version.id) (sym same) ∙ mine
-    one false other is rest = rest is
 
 -- a version that is held under an id: the machine's version, and what the rules say of it
 pub record Held (h : Holding) (id : ℕ) (held : Version) : Type 0 where
@@ -48,7 +36,7 @@ pub held_version : (h : Holding) → IsCore h → Reached h.plan h.tree.bound (m
 held_version h core r id held is =
     let f : Found (entry_at kin h.tree.entries id) held = found (entry_at kin h.tree.entries id) held is in
     let e : Entry Version = f.entry in
-    let own : e.version.id ≡ id = id_is h.tree.entries id e f.is in
+    let own : e.version.id ≡ id = at_entry h.tree.entries id e f.is in
     let holds : Holds h.plan h.events (map ticket_of h.tickets) e = found_of_all (Holds h.plan h.events (map ticket_of h.tickets)) h.tree.entries id e core.versions f.is in
     let at : version_at (machine_of h).versions id ≡ Some (version_of e) = version_is h.tree.entries id e f.is in
     let same : e.value ≡ held = f.value in

@@ -1,5 +1,5 @@
 -- How many entries of the journal may come without memory.
-use Rattle.std.proofs.Common.{◌≡◌, ℕ, ◌+◌, ◌*◌, ◌≤◌, Bool, true, false, cond, List, [], ◌∷◌, map, length, refl, arith}
+use Rattle.std.proofs.Common.{◌≡◌, ℕ, ◌+◌, ◌*◌, ◌≤◌, Bool, true, false, cond, List, [], ◌∷◌, map, length, arith}
 use Rattle.std.specs.List.{sum}
 use Rattle.std.proofs.lemmas.List.Sums.{sum_by-cons}
 use Rattle.sp_version.specs.declared.version.Version.{Version}
@@ -15,7 +15,7 @@ for_most e = one (is_touched e.value)
     one false = omega arith
 
 -- what one version more comes to
-pub one_more : (e : Entry Version) (es : List (Entry Version)) → sum (map entries_for (e ∷ es)) ≡ entries_for e + sum (map entries_for es)
+one_more : (e : Entry Version) (es : List (Entry Version)) → sum (map entries_for (e ∷ es)) ≡ entries_for e + sum (map entries_for es)
 one_more e es = sum_by-cons (λ n. n) (entries_for e) (map entries_for es)
 
 sum_most : (es : List (Entry Version)) → sum (map entries_for es) ≤ 2 * length es
@@ -27,6 +27,6 @@ pub owed_most : (ended : Bool) (es : List (Entry Version)) → entries_owed ende
 owed_most true es = let most = sum_most es in omega arith
 owed_most false es = let most = sum_most es in omega arith
 
--- where there is room for two entries of so many versions, and five more, there is room for a step's, and for all that versions fewer by one at most come to
+-- where room was made before a step for so many versions, there is enough behind it for at most one more of them
 pub room_for : (ended : Bool) (es : List (Entry Version)) (live old new : ℕ) → length es ≤ live + 1 → 2 * live + 5 ≤ old → old ≤ new + 1 → entries_owed ended es ≤ new
 room_for ended es live old new few made kept = let most = owed_most ended es in omega arith

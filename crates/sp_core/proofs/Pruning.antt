@@ -13,15 +13,7 @@ use Rattle.sp_group.specs.Effects as effects
 use Rattle.sp_tree.specs.Grown.{Grown, Entry, kin, lifted, with_version, value_of, AreGrown, AreRooted, FallFrom}
 use Rattle.sp_tree.specs.Changes as changes
 use Rattle.sp_core.specs.Holding.{version_of}
-
-version_if : (b : Bool) (e : Entry Version) (v : Option machine.Version) (o : Option (Entry Version)) → v ≡ option_map version_of o → cond b (Some (version_of e)) v ≡ option_map version_of (cond b (Some e) o)
-version_if true e v o h = refl
-version_if false e v o h = h
-
--- the entry of an id stands for the version of that id
-pub at_version : (es : List (Entry Version)) (id : ℕ) → version_at (map version_of es) id ≡ option_map version_of (entry_at kin es id)
-at_version [] id = refl
-at_version (e ∷ es) id = version_if (e.version.id == id) e (version_at (map version_of es) id) (entry_at kin es id) (at_version es id)
+use Rattle.sp_core.proofs.Entries.{version_found}
 
 is_some_map : {A B : Type 0} (f : A → B) (o : Option A) → is_some (option_map f o) ≡ is_some o
 is_some_map f None = refl
@@ -30,7 +22,7 @@ is_some_map f (Some x) = refl
 -- a value that is got is there for a version of the machine
 pub live_where_got : (es : List (Entry Version)) (id : ℕ) (got : Option (Bor Version)) → option_copied got ≡ value_of (entry_at kin es id)
     → is_some (version_at (map version_of es) id) ≡ is_some got
-live_where_got es id got h = ap is_some (at_version es id) ∙ is_some_map version_of (entry_at kin es id) ∙ held (entry_at kin es id) got h
+live_where_got es id got h = ap is_some (version_found es id) ∙ is_some_map version_of (entry_at kin es id) ∙ held (entry_at kin es id) got h
   where
     held : (o : Option (Entry Version)) (got : Option (Bor Version)) → option_copied got ≡ value_of o → is_some o ≡ is_some got
     held None None h = refl
@@ -40,7 +32,7 @@ live_where_got es id got h = ap is_some (at_version es id) ∙ is_some_map versi
 
 pub parent_version : (es : List (Entry Version)) (p : Option ℕ) → parent_there machine.kin (map version_of es) p ≡ parent_there kin es p
 parent_version es None = refl
-parent_version es (Some p) = ap is_some (at_version es p) ∙ is_some_map version_of (entry_at kin es p)
+parent_version es (Some p) = ap is_some (version_found es p) ∙ is_some_map version_of (entry_at kin es p)
 
 kept_version : (o : Option (Entry Version)) (es : List (Entry Version)) → map version_of (kept kin o es) ≡ kept machine.kin (option_map version_of o) (map version_of es)
 kept_version None es = refl
@@ -91,15 +83,6 @@ pub sum_first : {A : Type 0} (g : A → ℕ) (x : A) (xs : List A) → sum (map 
 sum_first g x xs = sum-map g (x ∷ xs) ∙ sum_by-cons g x xs ∙ ap (λ n. g x + n) (sym (sum-map g xs))
 
 module _ {A : Type 0} (k : Kin A) where
-  -- what holds of all entries holds of the one of an id
-  pub all_at : (P : A → Type 0) (es : List A) (id : ℕ) (e : A) → All P es → entry_at k es id ≡ Some e → P e
-  all_at P [] id e a at = absurd (cc)
-  all_at P (x ∷ es) id e a at = one (k.id x == id) at (all_at P es id e (All-tail P x es a))
-    where
-      one : (b : Bool) → cond b (Some x) (entry_at k es id) ≡ Some e → (entry_at k es id ≡ Some e → P e) → P e
-      one true at rest = subst P (same_Some x e at) (All-head P x es a)
-      one false at rest = rest at
-
   all_kept : (Q : A → Type 0) (o : Option A) (es : List A) → ((new : A) → o ≡ Some new → Q new) → All Q es → All Q (kept k o es)
   all_kept Q None es h a = a
   all_kept Q (Some e) es h a = one (parent_there k es (k.parent e))

@@ -1,5 +1,5 @@
 -- A version of the tree that begins anew: what the machine's version is then, what it holds, and how much room that frees.
-use Rattle.std.proofs.Common.{◌≡◌, ◌≢◌, ℕ, suc, ◌+◌, ◌<◌, ◌≤◌, Bool, true, false, cond, ◌==◌, ◌&&◌, ◌||◌, nat_lt, nat_le, not, List, [], ◌∷◌, length, map, Option, Some, None, is_some, refl, sym, ap, subst, ◌∙◌, arith, rules, eq-eqb}
+use Rattle.std.proofs.Common.{◌≡◌, ℕ, ◌+◌, ◌≤◌, Bool, true, false, cond, ◌==◌, ◌||◌, List, [], ◌∷◌, map, Option, Some, None, refl, sym, ap, subst, ◌∙◌, arith, rules, eq-eqb}
 use Rattle.std.specs.Prelude.{IsSome}
 use Rattle.std.specs.List.{All, sum}
 use Rattle.std.proofs.lemmas.List.Elements.{All-cons}
@@ -10,17 +10,16 @@ use Rattle.sp_plan.specs.declared.plan.Plan.{Plan}
 use Rattle.sp_plan.specs.Runs as runs
 use Rattle.sp_plan.specs.Runs.{State, is_among}
 use Rattle.sp_plan.specs.Groups.{used_by_all}
-use Rattle.sp_plan.specs.WindowNumbers.{first, size}
+use Rattle.sp_plan.specs.WindowNumbers.{first}
 use Rattle.sp_plan.specs.Same.{SamePlan}
 use Rattle.sp_match.specs.public.Matching.{Stands}
 use Rattle.sp_version.specs.declared.version.Version.{Version}
 use Rattle.sp_group.specs.Family.{entry_at, prune}
-use Rattle.sp_group.specs.Rising.{least, with_numbers}
+use Rattle.sp_group.specs.Rising.{with_numbers}
 use Rattle.sp_group.specs.Machine as machine
 use Rattle.sp_group.specs.Machine.{Machine, Ticket, inner, is_group, is_out, out_for, is_read, is_bare, is_lent, is_hit, is_suppressed, conflict}
 use Rattle.sp_group.specs.Effects as effects
 use Rattle.sp_group.specs.Effects.{fresh}
-use Rattle.sp_tree.specs.declared.version.Version as tree
 use Rattle.sp_tree.specs.Grown.{Grown, Entry, kin, lifted, with_version, answered, begun_anew, renewed, value_of, with_value}
 use Rattle.sp_tree.specs.Changes.{but}
 use Rattle.sp_core.specs.Holding.{Holds, version_of, unnumbered}

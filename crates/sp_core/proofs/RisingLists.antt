@@ -46,7 +46,7 @@ among_number (m ∷ ms) n i = one (nat_lt n m) (m == n) refl (among_number ms n 
     one false false e ih = ap (λ (z : Bool). m == i || z) ih ∙ or_in (m == i) (is_among ms i) (n == i)
 
 -- what is among a list with these numbers more
-among_numbers : (ms ns : List ℕ) (i : ℕ) → is_among (with_numbers ms ns) i ≡ (is_among ms i || is_among ns i)
+pub among_numbers : (ms ns : List ℕ) (i : ℕ) → is_among (with_numbers ms ns) i ≡ (is_among ms i || is_among ns i)
 among_numbers ms [] i = or_none (is_among ms i)
 among_numbers ms (n ∷ ns) i =
     among_numbers (with_number ms n) ns i ∙ ap (λ (z : Bool). z || is_among ns i) (among_number ms n i) ∙ sym (or_in (is_among ms i) (n == i) (is_among ns i))

@@ -1,5 +1,5 @@
 -- A core after a version began anew is what the machine makes of it.
-use Rattle.std.proofs.Common.{◌≡◌, ℕ, ◌+◌, ◌<◌, ◌≤◌, Bool, true, false, cond, not, ◌||◌, nat_lt, List, [], ◌∷◌, ◌++◌, length, map, Option, Some, None, is_some, refl, sym, ap, subst, ◌∙◌, arith}
+use Rattle.std.proofs.Common.{◌≡◌, ℕ, ◌+◌, ◌<◌, ◌≤◌, Bool, true, false, not, ◌||◌, nat_lt, List, [], ◌∷◌, ◌++◌, length, map, Option, Some, None, is_some, refl, sym, ap, subst, ◌∙◌, arith}
 use Rattle.std.specs.List.{All, sum}
 use Rattle.std.specs.Option.{option_map}
 use Rattle.sp_plan.specs.declared.plan.Plan.{Plan}
@@ -12,18 +12,17 @@ use Rattle.sp_group.specs.Machine.{Machine, kin, version_at, is_out, conflict}
 use Rattle.sp_group.specs.Family.{prune}
 use Rattle.sp_group.specs.Effects.{fresh, but, rolled, effect}
 use Rattle.sp_group.specs.Refusing.{refuse_if, roll_refusal}
-use Rattle.sp_tree.specs.Grown as tree
 use Rattle.sp_tree.specs.Grown.{Grown, Entry, AreGrown}
 use Rattle.sp_rules.specs.Schedules.{EverySchedule}
-use Rattle.sp_core.specs.Running.{Running, IsDone, after, once, refused}
+use Rattle.sp_core.specs.Running.{Running, after, once, refused}
 use Rattle.sp_core.specs.Holding.{Holding, Holds, IsCore, machine_of, running, version_of}
 use Rattle.sp_core.specs.Carrying.{ticket_of}
-use Rattle.sp_core.specs.Renewing.{IsAnew, anew, all_anew}
-use Rattle.sp_core.specs.Rooms.{entries_for, entries_owed, is_touched, matches_held, numbers_held}
+use Rattle.sp_core.specs.Renewing.{IsAnew, anew}
+use Rattle.sp_core.specs.Rooms.{entries_for, is_touched, matches_held, numbers_held}
 use Rattle.sp_core.specs.Suppressing.{conflict_of, conflict_at}
 use Rattle.sp_core.proofs.Conflicting.{out_is, touched}
 use Rattle.sp_core.proofs.Journal.{reached, replayed_on}
-use Rattle.sp_core.proofs.Pruning.{at_version, all_at}
+use Rattle.sp_core.proofs.Entries.{found_of_all, version_found}
 use Rattle.sp_core.proofs.Renewing.{at_entry, versions_anew, all_hold_anew, sum_anew}
 
 two_for : (e : Entry Version) → is_touched e.value ≡ true → entries_for e ≡ 2
@@ -58,7 +57,7 @@ conflict_told x y id told b same is h = ap (λ (z : Running). is_some (conflict_
 module _ (h : Holding) (all : All (Holds h.plan h.events (map ticket_of h.tickets)) h.tree.entries) (free : is_out (map ticket_of h.tickets) h.tree.next ≡ false)
     (id : ℕ) (t : Grown Version) (a : IsAnew h.tree id t) (hit : is_some (conflict_at h.plan (machine_of h) id) ≡ true) where
   pub is_there : version_at (machine_of h).versions id ≡ Some (version_of a.entry)
-  is_there = at_version h.tree.entries id ∙ ap (option_map version_of) a.was
+  is_there = version_found h.tree.entries id ∙ ap (option_map version_of) a.was
 
   pub in_conflict : is_some (conflict h.plan (machine_of h) (version_of a.entry)) ≡ true
   in_conflict = ap (λ v. is_some (conflict_of h.plan (machine_of h) v)) (sym is_there) ∙ hit
@@ -74,7 +73,7 @@ module _ (h : Holding) (all : All (Holds h.plan h.events (map ticket_of h.ticket
       ∙ sym (ap (rolled m) is_there)
 
   held : Holds h.plan h.events (map ticket_of h.tickets) a.entry
-  held = all_at tree.kin (Holds h.plan h.events (map ticket_of h.tickets)) h.tree.entries id a.entry all a.was
+  held = found_of_all (Holds h.plan h.events (map ticket_of h.tickets)) h.tree.entries id a.entry all a.was
 
   pub all_hold : All (Holds h.plan h.events (map ticket_of h.tickets)) t.entries
   all_hold =

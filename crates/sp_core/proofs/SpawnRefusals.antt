@@ -1,5 +1,5 @@
 -- Why spawns are refused, by what a core keeps.
-use Rattle.std.proofs.Common.{◌≡◌, ◌≢◌, ℕ, ◌+◌, ◌<◌, ◌≤◌, Bool, true, false, not, cond, List, [], ◌∷◌, map, length, Option, Some, None, is_some, refl, sym, ap, subst, ◌∙◌, arith, find, nat_lt, nat_le}
+use Rattle.std.proofs.Common.{◌≡◌, ◌≢◌, ℕ, ◌+◌, Bool, true, false, not, List, [], ◌∷◌, map, length, Option, Some, None, refl, sym, ap, ◌∙◌, arith, find, nat_lt, nat_le}
 use Rattle.std.specs.Prelude.{slice_get}
 use Rattle.std.specs.Option.{option_map}
 use Rattle.std.proofs.lemmas.Bool.Decides.{nat_tests}
@@ -11,7 +11,6 @@ use Rattle.sp_group.specs.declared.refusal.Refusal.{Refusal}
 use Rattle.sp_group.specs.declared.refusal.Refusal.TheVariants as r
 use Rattle.sp_group.specs.declared.step.Step.TheVariants as s
 use Rattle.sp_group.specs.Family.{entry_at}
-use Rattle.sp_group.specs.Machine.{Ticket, inner, is_group}
 use Rattle.sp_group.specs.Refusing.{refuse_if, refuse_for, child_refusal, child_with, not_open}
 use Rattle.sp_tree.specs.Grown.{Entry, groups_of, kin, root_in}
 use Rattle.sp_core.specs.Holding.{Holding, Holds, IsCore, machine_of, running, version_of}
@@ -24,10 +23,10 @@ use Rattle.sp_core.proofs.Children.{root_found}
 pub root_refused : (h : Holding) (label : List ℕ) (root : Option ℕ) → root_in h.tree.entries ≡ root
     → refused (running h) (s.Spawn None label)
     ≡ refuse_for root r.LabelTaken
-      (refuse_if (nat_lt (count h.plan h.events) (h.finished + 1)) (r.NoWindow (h.finished + 1)) (refuse_for (find (λ _. true) label) r.NotOpen None))
+    (refuse_if (nat_lt (count h.plan h.events) (h.finished + 1)) (r.NoWindow (h.finished + 1)) (refuse_for (find (λ _. true) label) r.NotOpen None))
 root_refused h label root is =
     ap (λ (o : Option ℕ). refuse_for o r.LabelTaken
-      (refuse_if (nat_lt (count h.plan h.events) (h.finished + 1)) (r.NoWindow (h.finished + 1)) (refuse_for (find (λ _. true) label) r.NotOpen None)))
+    (refuse_if (nat_lt (count h.plan h.events) (h.finished + 1)) (r.NoWindow (h.finished + 1)) (refuse_for (find (λ _. true) label) r.NotOpen None)))
     (root_found h.tree.entries ∙ is)
 
 -- the same where there is none, and its window is there or not
@@ -51,13 +50,13 @@ child_refused_by h window lacks group child full =
 pub child_refused : (h : Holding) (p : ℕ) (label : List ℕ) (e : Entry Version) → entry_at kin h.tree.entries p ≡ Some e
     → refused (running h) (s.Spawn (Some p) label)
     ≡ child_refused_by h e.value.window (nat_lt (count h.plan h.events) (e.value.window + 1)) (not_open h.plan (machine_of h) (version_of e) label)
-      (child_with (map version_of h.tree.entries) p label) (nat_le h.tree.bound (length h.tree.entries))
+    (child_with (map version_of h.tree.entries) p label) (nat_le h.tree.bound (length h.tree.entries))
 child_refused h p label e at =
     ap (child_refusal h.plan h.tree.bound (machine_of h) p label) (version_is h.tree.entries p e at)
     ∙ ap (λ (n : ℕ). refuse_if (nat_lt (count h.plan h.events) (e.value.window + 1)) (r.NoWindow (e.value.window + 1))
-      (refuse_for (not_open h.plan (machine_of h) (version_of e) label) r.NotOpen
-      (refuse_for (child_with (map version_of h.tree.entries) p label) r.LabelTaken (refuse_if (nat_le h.tree.bound n) (r.Full n h.tree.bound) None))))
-      (length-map h.tree.entries version_of)
+    (refuse_for (not_open h.plan (machine_of h) (version_of e) label) r.NotOpen
+    (refuse_for (child_with (map version_of h.tree.entries) p label) r.LabelTaken (refuse_if (nat_le h.tree.bound n) (r.Full n h.tree.bound) None))))
+    (length-map h.tree.entries version_of)
 
 -- the same by what the tests come to, where this value is found for the parent
 pub child_refused_as : (h : Holding) (p : ℕ) (label : List ℕ) (v : Version) (f : Found (entry_at kin h.tree.entries p) v) (lacks : Bool) (group child : Option ℕ) (full : Bool)

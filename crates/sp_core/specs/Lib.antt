@@ -1,5 +1,6 @@
 pub mod Carrying
 pub mod Faults
+pub mod Finishing
 pub mod Holding
 pub mod Homecoming
 pub mod Leasing
@@ -7,6 +8,7 @@ pub mod Renewing
 pub mod Returning
 pub mod Rooms
 pub mod Running
+pub mod Settling
 pub mod Showing
 pub mod Spawning
 pub mod Suppressing

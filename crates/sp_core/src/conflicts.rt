@@ -1,8 +1,10 @@
 // What is suppressed for a version: what is consumed, what the matches of its ancestors used, and the groups
 // that its label and theirs name. All of it is looked for within a range of numbers, from the version up to
 // the root.
-ghost use Rattle.std.specs.Prelude.{◌≡◌, ℕ, IfOk, IsSome};
+ghost use Rattle.std.specs.Prelude.{◌≡◌, IfOk, IsSome, is_none};
+ghost use Rattle.sp_group.specs.declared.step.Step.TheVariants as s;
 ghost use Rattle.sp_group.specs.Machine.{version_at};
+ghost use Rattle.sp_core.specs.Running.{refused};
 ghost use Rattle.sp_core.specs.Withheld.{lesser};
 ghost use Rattle.sp_core.specs.Suppressing.{conflict_at, least_suppressed, ready_ids, suppressed_within};
 
@@ -101,12 +103,19 @@ impl Core {
         Ok(self.conflict_of(version))
     }
 
+    // Whether a lease of a version would not be refused.
+    fn is_ready(&self, version: u64) -> bool
+        ensures { result ≡ is_none (refused self.now (s.Lease version 1)) }
+    {
+        self.lease_refusal(version).is_none()
+    }
+
     /// The versions that `lease` would not refuse, by rising id.
     pub fn ready(&self, alloc: Global) -> Result<Vec<u64>, Memory>
         ensures { IfOk result (λ ids. ids.items ≡ ready_ids self.now.plan self.now.bound self.now.machine) }
     {
         let mut ids = self.tree.walk(alloc)?;
-        ids.retain(|id| self.lease_refusal(*id).is_none());
+        ids.retain(|id| self.is_ready(*id));
         Ok(ids)
     }
 }

@@ -8,6 +8,7 @@ mod conflicts;
 mod emitted;
 mod fault;
 mod feeding;
+mod finishing;
 mod given;
 mod homecoming;
 mod leasing;

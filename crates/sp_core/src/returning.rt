@@ -1,20 +1,28 @@
 // What comes of a piece that is given back.
-ghost use Rattle.std.specs.Prelude.{◌≡◌, ◌↔◌, None, Some, IfOk, IfErr, IfSome, IsNone, IsSome, IsTrue, OnOk, OnErr};
+ghost use Rattle.std.specs.Prelude.{◌≡◌, ◌↔◌, ◌+◌, ◌<◌, ◌≤◌, ◌++◌, ◌∷◌, [], None, Some, IfOk, IfErr, IfSome, IsNone, IsSome, IsTrue, OnOk, OnErr};
 ghost use Rattle.sp_group.specs.declared.step.Step.TheVariants as s;
 ghost use Rattle.sp_group.specs.Machine.{Ticket, ticket_at, version_at};
 ghost use Rattle.sp_core.specs.Carrying.{ticket_of};
-ghost use Rattle.sp_core.specs.Returning.{CanComeHome, IsCarried, IsGiven, IsPlaceOf};
-ghost use Rattle.sp_core.specs.Running.{after};
+ghost use Rattle.sp_rules.specs.Returning.{readings};
+ghost use Rattle.sp_tree.specs.Grown.{AreGrown};
+ghost use Rattle.sp_core.specs.Returning.{CanComeHome, IsCarried, IsGiven, IsPlaceOf, reading_entries};
+ghost use Rattle.sp_core.specs.Rooms.{room};
+ghost use Rattle.sp_core.specs.Running.{after, once};
+ghost use Rattle.sp_core.specs.Settling.{CanBring, CanSettle, HomeLaws, IsFrom, IsSameTree, IsSettled, IsWithin};
 
 use crate::homecoming::{Brought, bring, decide_ended, take_up};
 use crate::rooms::{enter, make_room, make_rooms_for};
 use crate::{Core, Given, Lent, Memory};
-use sp_group::{Label, Step};
-use sp_piece::{Job, Piece};
+use sp_base::rising_same;
+use sp_group::{Entry, Label, Step};
+use sp_piece::{Job, Piece, readings_tell_matches, same_plans_read_alike};
 use sp_plan::Event;
 use sp_rules::{
-    every_schedule, pieces_come_home, readings_and_return, returns_by_groups, versions_have_groups,
+    coming_home_adds_matches, compiled_plans_are_lawful, every_schedule, pieces_come_home,
+    readings_and_return, returns_by_groups, versions_have_groups,
 };
+use sp_tree::Tree;
+use sp_version::Version;
 use std::alloc::{AllocError, Global};
 
 // Whether these are the same events.
@@ -30,6 +38,95 @@ fn same_events(events: &[Event], others: &[Event]) -> bool
         }
     }
     true
+}
+
+// Law: all that the layers below say of pieces that come home.
+fn home_laws()
+    ensures { HomeLaws }
+{
+    every_schedule();
+    compiled_plans_are_lawful();
+    pieces_come_home();
+    readings_and_return();
+    returns_by_groups();
+    versions_have_groups();
+    coming_home_adds_matches();
+    same_plans_read_alike();
+    readings_tell_matches();
+    rising_same();
+}
+
+// How many readings of its ticket a piece has made.
+fn readings_of(piece: &Piece) -> u32
+    ensures readings { result ≡ readings piece.now.read piece.now.closed }
+    ensures within { IsWithin piece.now }
+{
+    let read = piece.read();
+    if piece.closed() { read + 1 } else { read }
+}
+
+// Enters so many readings of a ticket, as one entry, if there are any.
+fn enter_readings(journal: &mut Vec<Entry>, ticket: u64, times: u32)
+    requires { 0 < room journal.old }
+    ensures items { journal.new.items ≡ journal.old.items ++ reading_entries ticket times }
+    ensures kept { room journal.old ≤ room journal.new + 1 }
+{
+    if times > 0 {
+        enter(journal, Step::Event { ticket }, times);
+    }
+}
+
+// Enters so many readings of a ticket, and its return.
+fn enter_return(journal: &mut Vec<Entry>, ticket: u64, times: u32)
+    requires { 1 < room journal.old }
+    ensures items { journal.new.items ≡ journal.old.items ++ reading_entries ticket times ++ once (s.Return ticket) ∷ [] }
+    ensures kept { room journal.old ≤ room journal.new + 2 }
+{
+    enter_readings(journal, ticket, times);
+    enter(journal, Step::Return { ticket }, 1);
+}
+
+// What a piece brings home to its version.
+fn brings(alloc: Global, tree: &Tree<Version>, piece: &Piece) -> Result<Brought, Memory>
+    requires { CanBring tree.now piece.now }
+    ensures { IfOk result (IsFrom tree.now piece.now) }
+{
+    let version = piece.job().version;
+    let Some(held) = tree.get(version) else {
+        unreachable!()
+    };
+    let Some(groups) = Label::new(alloc, tree.groups(version))? else {
+        unreachable!()
+    };
+    let brought = bring(alloc, held.window, groups, piece.after(), piece.moves())?;
+    brought.groups.runs();
+    Ok(brought)
+}
+
+// The version of a piece takes up what was read and brought, and its groups that are open no more are
+// decided. After want of memory the tree is the same but for the version's rooms.
+fn settle(
+    alloc: Global,
+    tree: &mut Tree<Version>,
+    piece: Piece,
+    mut brought: Brought,
+) -> Result<(), Piece>
+    requires { CanSettle tree.old piece brought }
+    ensures ok { OnOk result (IsSettled tree.old piece brought tree.new) }
+    ensures grown { OnOk result (AreGrown tree.new) }
+    ensures err { OnErr result (IsSameTree tree.old piece.job.version tree.new) }
+    ensures back { IfErr result (λ back. back ≡ piece) }
+{
+    let version = piece.job().version;
+    let Some(held) = tree.get_mut(version) else {
+        unreachable!()
+    };
+    take_up(alloc, held, piece, &mut brought)?;
+    tree.set_groups(version, brought.groups);
+    tree.live();
+    decide_ended(tree, version, &brought.completed);
+    tree.live();
+    Ok(())
 }
 
 impl Core {
@@ -88,22 +185,6 @@ impl Core {
         Ok(lent)
     }
 
-    // What a piece brings home to its version.
-    fn brings(&self, alloc: Global, piece: &Piece) -> Result<Brought, Memory>
-        requires { CanComeHome self.now piece.now }
-    {
-        every_schedule();
-        versions_have_groups();
-        let version = piece.job().version;
-        let Some(held) = self.tree.get(version) else {
-            unreachable!()
-        };
-        let Some(groups) = Label::new(alloc, self.tree.groups(version))? else {
-            unreachable!()
-        };
-        bring(alloc, held.window, groups, piece.after(), piece.moves())
-    }
-
     // The version takes what its piece has read, which is what was lent to it.
     fn come_home(&mut self, alloc: Global, piece: Piece) -> Result<Given, Piece>
         requires { CanComeHome self.old piece }
@@ -111,40 +192,28 @@ impl Core {
         ensures err { OnErr result (self.new ≡ self.old) }
         ensures back { IfErr result (λ back. back ≡ piece) }
     {
-        every_schedule();
-        pieces_come_home();
-        readings_and_return();
-        returns_by_groups();
-        let (ticket, version) = (piece.job().ticket, piece.job().version);
-        let times = piece.read() + u32::from(piece.closed());
+        home_laws();
+        let ticket = piece.job().ticket;
+        let times = readings_of(&piece);
         let Some(place) = self.place_of(ticket) else {
             unreachable!()
         };
-        let Ok(mut brought) = self.brings(alloc, &piece) else {
+        let Ok(brought) = brings(alloc, &self.tree, &piece) else {
             return Err(piece);
         };
-        let rooms = make_rooms_for(
+        let Ok(()) = make_rooms_for(
             alloc,
             &self.tree,
             &brought,
             &mut self.journal,
             &mut self.emitted,
             &mut self.consumed,
-        );
-        if rooms.is_err() {
+        ) else {
             return Err(piece);
-        }
-        let Some(held) = self.tree.get_mut(version) else {
-            unreachable!()
         };
-        take_up(alloc, held, piece, &mut brought)?;
-        self.tree.set_groups(version, brought.groups);
-        decide_ended(&mut self.tree, version, &brought.completed);
+        settle(alloc, &mut self.tree, piece, brought)?;
         self.tickets.remove(place);
-        if times > 0 {
-            enter(&mut self.journal, Step::Event { ticket }, times);
-        }
-        enter(&mut self.journal, Step::Return { ticket }, 1);
+        enter_return(&mut self.journal, ticket, times);
         Ok(Given::Home)
     }
 

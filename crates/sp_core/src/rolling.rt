@@ -27,6 +27,7 @@ pub(crate) fn begin_anew(tree: &mut Tree<Version>, version: u64) -> u64
     if let Some(held) = tree.get_mut(renewed) {
         held.restart();
     }
+    // It tells what every tree keeps.
     tree.live();
     renewed
 }

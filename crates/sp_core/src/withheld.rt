@@ -1,5 +1,5 @@
 // What a parent keeps from a child: what its matches used, and the groups that the child's label names.
-ghost use Rattle.std.specs.Prelude.{◌≡◌, ℕ, ◌||◌, OnOk, IsTrue, option_copied};
+ghost use Rattle.std.specs.Prelude.{◌≡◌, ℕ, ◌||◌, OnOk};
 ghost use Rattle.sp_base.specs.Numbers.{has};
 ghost use Rattle.sp_core.specs.Withheld.{is_kept_back, is_kept_within, least_kept_back};
 

@@ -5,7 +5,7 @@ ghost use Rattle.std.specs.List.{All, flat_map};
 ghost use Rattle.sp_plan.specs.Runs as definitions;
 ghost use Rattle.sp_match.specs.inside.Kept.{kept, all_kept};
 ghost use Rattle.sp_match.specs.inside.Good.{Good, NumbersBelow, RunUndoes, Undoes};
-ghost use Rattle.sp_match.specs.inside.Offer.{IsOffer, numbered};
+ghost use Rattle.sp_match.specs.inside.Offer.{IsOffer, IsShared, numbered};
 ghost use Rattle.sp_match.specs.inside.Effects.{Adds, run_after_binding, binding_told, completes, used_by_binding, run_at, runs_after_binding, runs_binding_told};
 ghost use Rattle.sp_match.specs.declared.run.Turn.TheVariants.{Idle};
 
@@ -13,10 +13,9 @@ use crate::Memory;
 use crate::completing::finish;
 use crate::leaving::abandon;
 use crate::moves::Move;
-use crate::offer::Offer;
+use crate::offer::{Offer, share};
 use crate::run::Run;
-use sp_plan::Plan;
-use std::alloc::Global;
+use sp_plan::{Plan, SharedEvent};
 
 // Whether the query consumes the events of a name.
 fn is_consumed(plan: &Plan, name: u8) -> bool
@@ -29,13 +28,14 @@ fn is_consumed(plan: &Plan, name: u8) -> bool
 // One run binds the event to the name, and completes where no element is left. Answers whether it is
 // complete.
 fn grow(
-    alloc: Global,
     offer: &Offer,
+    shared: &mut Option<SharedEvent>,
     run: &mut Run,
     name: u8,
     list: &mut Vec<Move>,
 ) -> Result<bool, Memory>
     requires offer { IsOffer offer.now }
+    requires shared { IsShared offer.now shared.old }
     requires good { Good offer.now.plan.now (kept run.old) }
     requires idle { run.old.turn ≡ Idle }
     requires named { name < length offer.now.plan.now.names }
@@ -46,29 +46,32 @@ fn grow(
         (binding_told offer.now.plan.now name (numbered offer.now) (kept run.old))) }
     ensures complete { IfOk result (λ complete. complete
         ≡ completes offer.now.plan.now name (numbered offer.now) (kept run.old)) }
+    ensures shared { IsShared offer.now shared.new }
     ensures undoes { RunUndoes offer.now.plan.now (kept run.old) (kept run.new) }
 {
     let consumed = is_consumed(offer.plan, name);
-    run.grow(alloc, name, consumed, offer.number, offer.event)?;
+    let event = share(offer, shared)?;
+    run.grow(name, consumed, offer.number, event)?;
     list.push(Move::Grown {
         run: run.number,
         number: offer.number,
     })?;
-    let is_whole = finish(alloc, offer.plan, run, list)?;
+    let is_whole = finish(offer.alloc, offer.plan, run, list)?;
     Ok(is_whole)
 }
 
 /// The run at this place binds the event to the name. Where it is complete then it leaves, and with it
 /// each other open run that holds a number which it used. Answers whether it used the event.
 pub(crate) fn bind(
-    alloc: Global,
     offer: &Offer,
+    shared: &mut Option<SharedEvent>,
     runs: &mut [Run],
     at: usize,
     name: u8,
     list: &mut Vec<Move>,
 ) -> Result<bool, Memory>
     requires offer { IsOffer offer.now }
+    requires shared { IsShared offer.now shared.old }
     requires good { All (Good offer.now.plan.now) (all_kept runs.old) }
     requires named { name < length offer.now.plan.now.names }
     requires below { NumbersBelow offer.now.number (run_at (all_kept runs.old) at) }
@@ -81,13 +84,14 @@ pub(crate) fn bind(
         ≡ runs_after_binding offer.now.plan.now name (numbered offer.now) at (all_kept runs.old)) }
     ensures told { OnOk result (Adds list.old.items list.new.items
         (runs_binding_told offer.now.plan.now name (numbered offer.now) at (all_kept runs.old))) }
+    ensures shared { IsShared offer.now shared.new }
     ensures undoes { Undoes offer.now.plan.now (all_kept runs.old) (all_kept runs.new) }
 {
-    let is_whole = grow(alloc, offer, &mut runs[at], name, list)?;
+    let is_whole = grow(offer, shared, &mut runs[at], name, list)?;
     if !is_whole {
         return Ok(false);
     }
-    let used = runs[at].used.copy(alloc)?;
+    let used = runs[at].used.copy(offer.alloc)?;
     abandon(runs, &used, list)?;
     Ok(used.has(offer.number))
 }

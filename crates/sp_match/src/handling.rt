@@ -5,7 +5,7 @@ ghost use Rattle.sp_plan.specs.Moves as definitions;
 ghost use Rattle.sp_match.specs.public.Seen.{all_seen};
 ghost use Rattle.sp_match.specs.inside.Kept.{all_kept, started};
 ghost use Rattle.sp_match.specs.inside.Good.{Undoes};
-ghost use Rattle.sp_match.specs.inside.Offer.{IsOffer, numbered};
+ghost use Rattle.sp_match.specs.inside.Offer.{IsOffer, IsShared, numbered};
 ghost use Rattle.sp_match.specs.inside.Going.{IsReady};
 ghost use Rattle.sp_match.specs.inside.Handling.{IsHandled};
 
@@ -16,18 +16,19 @@ use crate::run::Run;
 use crate::starting::{open, start_name};
 use crate::turns::offer_to_all;
 use crate::wanting::{want_after, want_before};
-use std::alloc::Global;
+use sp_plan::SharedEvent;
 
 // All that an event does to the runs and tells, but runs that leave are only marked. Answers whether a
 // run started. After want of memory what was done to the runs can be undone.
 fn handle(
-    alloc: Global,
     offer: &Offer,
+    shared: &mut Option<SharedEvent>,
     runs: &mut Vec<Run>,
     count: u32,
     list: &mut Vec<Move>,
 ) -> Result<bool, Memory>
     requires offer { IsOffer offer.now }
+    requires shared { IsShared offer.now shared.old }
     requires ready { IsReady offer.now.plan.now offer.now.number count (all_kept runs.old.items) }
     requires below { count < offer.now.number }
     requires none { list.old.items ≡ [] }
@@ -36,10 +37,10 @@ fn handle(
     ensures undoes { Undoes offer.now.plan.now (all_kept runs.old.items)
         (take (length runs.old.items) (all_kept runs.new.items)) }
 {
-    let so_far = offer_to_all(alloc, offer, runs, list)?;
-    match start_name(alloc, offer, runs, so_far) {
+    let so_far = offer_to_all(offer, shared, runs, list)?;
+    match start_name(offer, runs, so_far) {
         Some(name) => {
-            open(alloc, offer, runs, count, name, list)?;
+            open(offer, shared, runs, count, name, list)?;
             Ok(true)
         }
         None => Ok(false),
@@ -49,7 +50,6 @@ fn handle(
 /// All that an event does and tells, as `handle` has it, and what the runs want that were open when it
 /// came. `lefts` is a room that is used again.
 pub(crate) fn handle_all(
-    alloc: Global,
     offer: &Offer,
     runs: &mut Vec<Run>,
     lefts: &mut Vec<u32>,
@@ -70,7 +70,8 @@ pub(crate) fn handle_all(
 {
     moves.clear();
     want_before(offer.plan, runs, lefts)?;
-    let began = handle(alloc, offer, runs, count, &mut moves.list)?;
+    let mut shared = None;
+    let began = handle(offer, &mut shared, runs, count, &mut moves.list)?;
     want_after(offer.plan, lefts, runs, &mut moves.wanted)?;
     Ok(began)
 }

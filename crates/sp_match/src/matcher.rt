@@ -126,18 +126,12 @@ impl Matcher {
         fitting_events_are_small();
         let open = self.runs.len();
         let offer = Offer {
+            alloc,
             plan: &self.plan,
             number,
             event,
         };
-        match handle_all(
-            alloc,
-            &offer,
-            &mut self.runs,
-            &mut self.lefts,
-            self.count,
-            moves,
-        ) {
+        match handle_all(&offer, &mut self.runs, &mut self.lefts, self.count, moves) {
             Ok(started) => {
                 settle(&self.plan, &mut self.runs);
                 self.count = count_after(self.count, started);
@@ -195,7 +189,7 @@ impl Matcher {
         Ok(moves)
     }
 
-    /// The same runs once more, with the same plan.
+    /// The same runs once more, with the same plan. The plan and the bound events are shared, not copied.
     pub fn copy(&self, alloc: Global) -> Result<Matcher, Memory>
         ensures { IfOk result (λ m. m ≡ self.now) }
     {

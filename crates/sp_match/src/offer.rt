@@ -1,16 +1,19 @@
 // An event that is offered to the runs of a window.
-ghost use Rattle.std.specs.Prelude.{◌≡◌, []};
+ghost use Rattle.std.specs.Prelude.{◌≡◌, [], Some, IfOk, OnOk};
 ghost use Rattle.sp_plan.specs.Runs.{takes};
-ghost use Rattle.sp_match.specs.inside.Offer.{IsOffer, lets_leave};
+ghost use Rattle.sp_match.specs.inside.Offer.{IsOffer, IsShared, lets_leave};
 
+use crate::Memory;
 use crate::run::Run;
 use crate::taking::takes;
-use sp_plan::{Event, Plan, Select};
+use sp_plan::{Event, Plan, Select, SharedEvent};
 use std::alloc::Global;
 
 /// An event that the open runs are offered, and that may start one.
 #[derive(Clone, Copy, Drop)]
 pub(crate) struct Offer<'a> {
+    /// Where memory comes from.
+    pub(crate) alloc: Global,
     /// What is matched.
     pub(crate) plan: &'a Plan,
     /// The event's number, from 1.
@@ -19,21 +22,37 @@ pub(crate) struct Offer<'a> {
 }
 
 /// The name under which the event begins a run, if it begins one.
-pub(crate) fn begins(alloc: Global, offer: &Offer) -> Option<u8>
+pub(crate) fn begins(offer: &Offer) -> Option<u8>
     requires { IsOffer offer.now }
     ensures { result ≡ takes offer.now.plan.now [] offer.now.event.now }
 {
-    let none = Run::new(alloc, 0);
+    let none = Run::new(offer.alloc, 0);
     takes(offer.plan, &none, offer.event)
 }
 
 /// Whether an open run leaves that doesn't take the event: under LAST, where the event begins a run.
-pub(crate) fn leaves(alloc: Global, offer: &Offer) -> bool
+pub(crate) fn leaves(offer: &Offer) -> bool
     requires { IsOffer offer.now }
     ensures { result ≡ lets_leave offer.now }
 {
     match offer.plan.select {
-        Select::Last => begins(alloc, offer).is_some(),
+        Select::Last => begins(offer).is_some(),
         Select::First | Select::Each => false,
     }
+}
+
+/// A handle of the event for a run that binds it. The event is copied for the first of these runs alone;
+/// `shared`, which is None until then, keeps a handle for the others.
+pub(crate) fn share(offer: &Offer, shared: &mut Option<SharedEvent>) -> Result<SharedEvent, Memory>
+    requires { IsShared offer.now shared.old }
+    ensures event { IfOk result (λ event. event ≡ offer.now.event.now) }
+    ensures kept { OnOk result (shared.new ≡ Some offer.now.event.now) }
+    ensures shared { IsShared offer.now shared.new }
+{
+    if let Some(event) = shared {
+        return event.share();
+    }
+    let event = SharedEvent::of(offer.alloc, offer.event)?;
+    *shared = Some(event.share()?);
+    Ok(event)
 }

@@ -7,7 +7,7 @@ ghost use Rattle.sp_match.specs.inside.Kept.{kept, stays, empty, grown, before, 
 
 use crate::Memory;
 use sp_base::Numbers;
-use sp_plan::{Bound, Event};
+use sp_plan::{Bound, SharedEvent};
 use std::alloc::Global;
 
 /// A partial match that is open.
@@ -91,20 +91,19 @@ impl Run {
     // Binds an event to a name. After want of memory it is as before.
     pub(crate) fn grow(
         &mut self,
-        alloc: Global,
         name: u8,
         consumed: bool,
         number: u32,
-        event: &Event,
+        event: SharedEvent,
     ) -> Result<(), Memory>
         requires { CanGrow name number (kept self.old) }
         ensures grown { OnOk result
-            (kept self.new ≡ grown name consumed number event.now (kept self.old)) }
+            (kept self.new ≡ grown name consumed number event (kept self.old)) }
         ensures err { OnErr result (kept self.new ≡ kept self.old) }
     {
         self.bound.reserve(1)?;
         self.used.reserve(1)?;
-        self.events.bind(alloc, name, event)?;
+        self.events.bind_shared(name, event)?;
         self.bound.push((name, number))?;
         if consumed {
             self.used.put(number);

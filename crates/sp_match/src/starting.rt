@@ -7,7 +7,7 @@ ghost use Rattle.sp_plan.specs.Moves.{Told, OpenedTold};
 ghost use Rattle.sp_plan.specs.Windows.{Numbered};
 ghost use Rattle.sp_match.specs.inside.Kept.{Kept, kept, all_kept, empty, started};
 ghost use Rattle.sp_match.specs.inside.Good.{Good, Undoes};
-ghost use Rattle.sp_match.specs.inside.Offer.{IsOffer, numbered};
+ghost use Rattle.sp_match.specs.inside.Offer.{IsOffer, IsShared, numbered};
 ghost use Rattle.sp_match.specs.inside.Effects.{Adds, open_runs, runs_after_binding, runs_binding_told};
 ghost use Rattle.sp_match.specs.inside.Going.{Going, lets_start, starting};
 
@@ -17,8 +17,7 @@ use crate::moves::Move;
 use crate::offer::{Offer, begins};
 use crate::run::Run;
 use crate::turns::Reception;
-use sp_plan::{Plan, Select};
-use std::alloc::Global;
+use sp_plan::{Plan, Select, SharedEvent};
 
 // How many runs stay open.
 fn open_count(runs: &[Run]) -> usize
@@ -55,12 +54,7 @@ fn may_start(plan: &Plan, runs: &[Run], so_far: Reception) -> bool
 }
 
 /// The name under which the event starts a run, where it starts one.
-pub(crate) fn start_name(
-    alloc: Global,
-    offer: &Offer,
-    runs: &[Run],
-    so_far: Reception,
-) -> Option<u8>
+pub(crate) fn start_name(offer: &Offer, runs: &[Run], so_far: Reception) -> Option<u8>
     requires { IsOffer offer.now }
     ensures { (s : State) (old : List Kept) (ts : List Told)
         → s.open_runs ≡ map started old → length old ≡ length runs.now
@@ -69,20 +63,21 @@ pub(crate) fn start_name(
         → result ≡ starting offer.now.plan.now (numbered offer.now) s }
 {
     let may = may_start(offer.plan, runs, so_far);
-    if may { begins(alloc, offer) } else { None }
+    if may { begins(offer) } else { None }
 }
 
 /// A new run starts with the event under this name. Where it is complete it leaves, and with it each
 /// open run that holds a number which it used.
 pub(crate) fn open(
-    alloc: Global,
     offer: &Offer,
+    shared: &mut Option<SharedEvent>,
     runs: &mut Vec<Run>,
     count: u32,
     name: u8,
     list: &mut Vec<Move>,
 ) -> Result<(), Memory>
     requires offer { IsOffer offer.now }
+    requires shared { IsShared offer.now shared.old }
     requires good { All (Good offer.now.plan.now) (all_kept runs.old.items) }
     requires named { name < length offer.now.plan.now.names }
     requires below { count < offer.now.number }
@@ -97,8 +92,8 @@ pub(crate) fn open(
         (take (length runs.old.items) (all_kept runs.new.items)) }
 {
     let at = runs.len();
-    runs.push(Run::new(alloc, count + 1))?;
+    runs.push(Run::new(offer.alloc, count + 1))?;
     list.push(Move::Opened { run: count + 1 })?;
-    bind(alloc, offer, runs, at, name, list)?;
+    bind(offer, shared, runs, at, name, list)?;
     Ok(())
 }

@@ -4,7 +4,7 @@ ghost use Rattle.std.specs.List.{All};
 ghost use Rattle.sp_match.specs.public.Seen.{all_seen};
 ghost use Rattle.sp_match.specs.inside.Kept.{kept, all_kept};
 ghost use Rattle.sp_match.specs.inside.Good.{Good, NumbersBelow, Undoes};
-ghost use Rattle.sp_match.specs.inside.Offer.{IsOffer, lets_leave, numbered};
+ghost use Rattle.sp_match.specs.inside.Offer.{IsOffer, IsShared, lets_leave, numbered};
 ghost use Rattle.sp_match.specs.inside.Effects.{Adds, run_at, runs_after_offer, offer_told, reception_after_offer};
 ghost use Rattle.sp_match.specs.inside.Turn.{IsTurn, taken_at};
 ghost use Rattle.sp_match.specs.inside.Going.{AllHadTurns, IsSet};
@@ -17,7 +17,7 @@ use crate::moves::Move;
 use crate::offer::{Offer, leaves};
 use crate::run::Run;
 use crate::taking::takes;
-use std::alloc::Global;
+use sp_plan::SharedEvent;
 
 /// What an event has met with among the runs that were open when it came.
 #[derive(Clone, Copy, Drop)]
@@ -32,14 +32,15 @@ pub(crate) enum Reception {
 
 // The run at this place, which is open, is offered the event.
 fn deal(
-    alloc: Global,
     offer: &Offer,
+    shared: &mut Option<SharedEvent>,
     runs: &mut [Run],
     at: usize,
     so_far: Reception,
     list: &mut Vec<Move>,
 ) -> Result<Reception, Memory>
     requires offer { IsOffer offer.now }
+    requires shared { IsShared offer.now shared.old }
     requires good { All (Good offer.now.plan.now) (all_kept runs.old) }
     requires below { NumbersBelow offer.now.number (run_at (all_kept runs.old) at) }
     requires within { at < length runs.old }
@@ -53,18 +54,19 @@ fn deal(
     ensures told { OnOk result (Adds list.old.items list.new.items (offer_told offer.now.plan.now
         (lets_leave offer.now) at (numbered offer.now) (all_kept runs.old)
         (taken_at offer.now.plan.now at (numbered offer.now) (all_kept runs.old)))) }
+    ensures shared { IsShared offer.now shared.new }
     ensures undoes { Undoes offer.now.plan.now (all_kept runs.old) (all_kept runs.new) }
 {
     match takes(offer.plan, &runs[at], offer.event) {
         Some(name) => {
-            let used = bind(alloc, offer, runs, at, name, list)?;
+            let used = bind(offer, shared, runs, at, name, list)?;
             Ok(if used {
                 Reception::Used
             } else {
                 Reception::Taken
             })
         }
-        None if leaves(alloc, offer) => {
+        None if leaves(offer) => {
             leave(&mut runs[at], list)?;
             Ok(so_far)
         }
@@ -74,14 +76,15 @@ fn deal(
 
 // One run's turn: it is offered the event unless it has left or the event was used.
 fn turn(
-    alloc: Global,
     offer: &Offer,
+    shared: &mut Option<SharedEvent>,
     runs: &mut [Run],
     at: usize,
     so_far: Reception,
     list: &mut Vec<Move>,
 ) -> Result<Reception, Memory>
     requires offer { IsOffer offer.now }
+    requires shared { IsShared offer.now shared.old }
     requires good { All (Good offer.now.plan.now) (all_kept runs.old) }
     requires below { NumbersBelow offer.now.number (run_at (all_kept runs.old) at) }
     requires within { at < length runs.old }
@@ -89,31 +92,34 @@ fn turn(
     ensures turned { IfOk result (λ r. IsTurn offer.now.plan.now (lets_leave offer.now) at
         (numbered offer.now) (all_kept runs.old) (all_kept runs.new) (all_seen list.old.items)
         (all_seen list.new.items) so_far r) }
+    ensures shared { IsShared offer.now shared.new }
     ensures undoes { Undoes offer.now.plan.now (all_kept runs.old) (all_kept runs.new) }
 {
     if matches!(so_far, Reception::Used) || !runs[at].stays() {
         return Ok(so_far);
     }
-    deal(alloc, offer, runs, at, so_far, list)
+    deal(offer, shared, runs, at, so_far, list)
 }
 
 /// The runs that are open when an event comes are offered it, the oldest first.
 pub(crate) fn offer_to_all(
-    alloc: Global,
     offer: &Offer,
+    shared: &mut Option<SharedEvent>,
     runs: &mut [Run],
     list: &mut Vec<Move>,
 ) -> Result<Reception, Memory>
     requires offer { IsOffer offer.now }
+    requires shared { IsShared offer.now shared.old }
     requires ready { IsSet offer.now.plan.now offer.now.number (all_kept runs.old) }
     requires none { list.old.items ≡ [] }
     ensures going { IfOk result (λ r. AllHadTurns offer.now.plan.now (numbered offer.now)
         (all_kept runs.old) (all_kept runs.new) (all_seen list.new.items) r) }
+    ensures shared { IsShared offer.now shared.new }
     ensures undoes { Undoes offer.now.plan.now (all_kept runs.old) (all_kept runs.new) }
 {
     let mut so_far = Reception::Passed;
     for at in 0..runs.len() {
-        so_far = turn(alloc, offer, runs, at, so_far, list)?;
+        so_far = turn(offer, shared, runs, at, so_far, list)?;
     }
     Ok(so_far)
 }

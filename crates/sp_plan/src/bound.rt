@@ -3,7 +3,7 @@ ghost use Rattle.std.specs.Option.{option_map, option_copied};
 ghost use Rattle.sp_plan.specs.Values.{last_bound};
 ghost use Rattle.sp_plan.specs.Blocks.{seen, IsBlock, Blocked};
 
-use crate::{Event, Memory};
+use crate::{Event, Memory, SharedEvent};
 use std::alloc::Global;
 use std::marker::Model;
 
@@ -13,10 +13,11 @@ use std::marker::Model;
 struct Pair {
     name: u8,
     block: usize,
-    event: Event,
+    event: SharedEvent,
 }
 
-/// The events that a partial match has bound so far, each with the number of its name.
+/// The events that a partial match has bound so far, each with the number of its name. They are held by
+/// handles, so that one event which many matches have bound is there once.
 #[derive(Drop)]
 pub struct Bound {
     pairs: Vec<Pair>,
@@ -55,7 +56,7 @@ fn block_behind(pairs: &[Pair], name: u8) -> usize
 fn same_pair(x: &Pair, y: &Pair) -> bool
     ensures { IsTrue result ↔ (seen x.now ≡ seen y.now) }
 {
-    x.name == y.name && x.event.same(&y.event)
+    x.name == y.name && x.event.event().same(y.event.event())
 }
 
 // Whether two lists of pairs have the same names and events.
@@ -88,7 +89,14 @@ impl Bound {
         ensures bound { OnOk result (self.new ≡ self.old ++ (name, event.now) ∷ []) }
         ensures kept { OnErr result (self.new ≡ self.old) }
     {
-        let event = event.copy(alloc)?;
+        self.bind_shared(name, SharedEvent::of(alloc, event)?)
+    }
+
+    /// Binds one event more, and copies nothing. Want of memory leaves the value as it was.
+    pub fn bind_shared(&mut self, name: u8, event: SharedEvent) -> Result<(), Memory>
+        ensures bound { OnOk result (self.new ≡ self.old ++ (name, event) ∷ []) }
+        ensures kept { OnErr result (self.new ≡ self.old) }
+    {
         let block = block_behind(&self.pairs, name);
         self.pairs.push(Pair { name, block, event })?;
         Ok(())
@@ -109,7 +117,7 @@ impl Bound {
         self.pairs.clear();
     }
 
-    /// The same events once more.
+    /// The same events once more. No event is copied.
     pub fn copy(&self, alloc: Global) -> Result<Bound, Memory>
         ensures { IfOk result (λ bound. bound ≡ self.now) }
     {
@@ -118,7 +126,7 @@ impl Bound {
             pairs.push(Pair {
                 name: pair.name,
                 block: pair.block,
-                event: pair.event.copy(alloc)?,
+                event: pair.event.share()?,
             })?;
         }
         Ok(Bound { pairs })
@@ -140,7 +148,7 @@ impl Bound {
         while left > 0 {
             let pair = &self.pairs[left - 1];
             if pair.name == name {
-                return Some(&pair.event);
+                return Some(pair.event.event());
             }
             left = pair.block;
         }

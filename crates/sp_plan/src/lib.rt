@@ -12,6 +12,7 @@ mod laws;
 mod places;
 mod plan;
 mod same;
+mod shared;
 
 pub use bound::Bound;
 pub use eval::{holds, value};
@@ -24,4 +25,5 @@ pub use places::Places;
 pub use plan::{
     Column, Compare, Element, Expr, Kind, Length, Name, Opening, Plan, Pred, Schema, Select,
 };
+pub use shared::SharedEvent;
 pub use sp_text::{Listed, Memory, Text};

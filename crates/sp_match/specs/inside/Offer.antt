@@ -1,5 +1,6 @@
 -- An event that is offered to the runs of a window.
-use Rattle.std.specs.Prelude.{Bool}
+use Rattle.std.specs.Prelude.{◌≡◌, Bool, Option, IfSome}
+use Rattle.sp_plan.specs.declared.event.Event.{Event}
 use Rattle.sp_plan.specs.Bounds.{IsSmall}
 use Rattle.sp_plan.specs.Compiled.{IsCompiled}
 use Rattle.sp_plan.specs.Windows.{Numbered}
@@ -18,3 +19,7 @@ lets_leave o = leaves o.plan.now.select o.plan.now o.event.now
 pub record IsOffer (o : Offer) : Type 0 where
   pub compiled : IsCompiled o.plan.now
   pub small : IsSmall o.event.now
+
+-- What runs share of an event is the event, where one has bound it.
+abbrev pub IsShared : Offer → Option Event → Type 0
+IsShared o shared = IfSome shared (λ event. event ≡ o.event.now)

@@ -29,6 +29,7 @@ returns-then-not-is_whole c =
       used = ap (λ ns. is_among ns c.args.offer.now.number) (no_used q name x k open_yet) ∙ ap (λ k. is_among (used_by_binding q name x k) c.args.offer.now.number) (sym same);
       runs = map-set kept rs at c.grow.new.run ∙ ap (set (map kept rs) at) c.in_ok-is_whole.ensures.run ∙ open_runs_are q name x at (map kept rs) k same open_yet;
       told = c.in_ok-is_whole.ensures.told ∙ ap (λ l. map seen c.args.list.now.items ++ l) (open_told_is q name x at (map kept rs) k same open_yet);
+      shared = c.in_ok-is_whole.ensures.shared;
       undoes = undone_set q rs at c.index-runs-at.result c.grow.new.run c.requires.within c.requires.good c.in_ok-is_whole.ensures.undoes;
     }
 
@@ -65,6 +66,7 @@ returns c =
       runs = c.in_ok-abandon.ensures.runs ∙ ap (map (run_after_use ns)) set_is ∙ whole_runs_are q name x at ks k ns same done used;
       told = c.in_ok-abandon.ensures.told ∙ (λ i. c.in_ok-is_whole.ensures.told i ++ flat_map (use_told ns) (set_is i))
           ∙ append_assoc before (binding_told q name x k) (flat_map (use_told ns) (set ks at (run_after_binding q name x k))) ∙ ap (λ l. before ++ l) (whole_told_is q name x at ks k ns same done used);
+      shared = c.in_ok-is_whole.ensures.shared;
       undoes = undoes_on q ks (map kept (set rs at c.grow.new.run)) (map kept c.abandon.new.runs)
           (undone_set q rs at c.index-runs-at.result c.grow.new.run c.requires.within c.requires.good c.in_ok-is_whole.ensures.undoes) (c.in_ok-abandon.ensures.undoes q (undone_set c.args.offer.now.plan.now c.args.runs.now c.args.at c.index-runs-at.result c.grow.new.run c.requires.within c.requires.good c.in_ok-is_whole.ensures.undoes).good);
     }

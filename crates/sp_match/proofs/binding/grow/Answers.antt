@@ -21,21 +21,21 @@ pub returns-in_err-push-clause-undoes : goal.returns-in_err-push-clause-undoes
 returns-in_err-push-clause-undoes c =
     let q = c.args.offer.now.plan.now in
     let k = kept c.args.run.now in
-    let is : kept c.grow.new.self ≡ run_with_event q c.args.name (c.args.offer.now.number, c.args.offer.now.event.now) k = c.in_ok-grow.ensures.grown ∙ ap (λ b. grown c.args.name b c.args.offer.now.number c.args.offer.now.event.now k) c.is_consumed-consumed.ensures in
+    let is : kept c.grow.new.self ≡ run_with_event q c.args.name (c.args.offer.now.number, c.args.offer.now.event.now) k = c.in_ok-grow.ensures.grown ∙ (λ i. grown c.args.name (c.is_consumed-consumed.ensures i) c.args.offer.now.number (c.in_ok-event.ensures.event i) k) in
     subst (RunUndoes q k) (sym is) (run_grown q c.args.name c.args.offer.now.number c.args.offer.now.event.now k c.requires.good c.requires.idle c.requires.named c.requires.offer.compiled.names c.requires.offer.small c.requires.below)
 
 pub finish-requires-clause-good : goal.finish-requires-clause-good
 finish-requires-clause-good c =
     let q = c.args.offer.now.plan.now in
     let k = kept c.args.run.now in
-    let is : kept c.grow.new.self ≡ run_with_event q c.args.name (c.args.offer.now.number, c.args.offer.now.event.now) k = c.in_ok-grow.ensures.grown ∙ ap (λ b. grown c.args.name b c.args.offer.now.number c.args.offer.now.event.now k) c.is_consumed-consumed.ensures in
+    let is : kept c.grow.new.self ≡ run_with_event q c.args.name (c.args.offer.now.number, c.args.offer.now.event.now) k = c.in_ok-grow.ensures.grown ∙ (λ i. grown c.args.name (c.is_consumed-consumed.ensures i) c.args.offer.now.number (c.in_ok-event.ensures.event i) k) in
     subst (Good q) (sym is) (run_grown q c.args.name c.args.offer.now.number c.args.offer.now.event.now k c.requires.good c.requires.idle c.requires.named c.requires.offer.compiled.names c.requires.offer.small c.requires.below).good
 
 pub returns-in_err-is_whole-clause-undoes : goal.returns-in_err-is_whole-clause-undoes
 returns-in_err-is_whole-clause-undoes c =
     let q = c.args.offer.now.plan.now in
     let k = kept c.args.run.now in
-    let is : kept c.grow.new.self ≡ run_with_event q c.args.name (c.args.offer.now.number, c.args.offer.now.event.now) k = c.in_ok-grow.ensures.grown ∙ ap (λ b. grown c.args.name b c.args.offer.now.number c.args.offer.now.event.now k) c.is_consumed-consumed.ensures in
+    let is : kept c.grow.new.self ≡ run_with_event q c.args.name (c.args.offer.now.number, c.args.offer.now.event.now) k = c.in_ok-grow.ensures.grown ∙ (λ i. grown c.args.name (c.is_consumed-consumed.ensures i) c.args.offer.now.number (c.in_ok-event.ensures.event i) k) in
     subst (RunUndoes q k) (sym (c.in_err-is_whole.ensures.err ∙ is)) (run_grown q c.args.name c.args.offer.now.number c.args.offer.now.event.now k c.requires.good c.requires.idle c.requires.named c.requires.offer.compiled.names c.requires.offer.small c.requires.below)
 
 pub returns : goal.returns
@@ -43,7 +43,7 @@ returns c =
     let q = c.args.offer.now.plan.now in
     let k = kept c.args.run.now in
     let k' = run_with_event q c.args.name (c.args.offer.now.number, c.args.offer.now.event.now) k in
-    let is : kept c.grow.new.self ≡ k' = c.in_ok-grow.ensures.grown ∙ ap (λ b. grown c.args.name b c.args.offer.now.number c.args.offer.now.event.now k) c.is_consumed-consumed.ensures in
+    let is : kept c.grow.new.self ≡ k' = c.in_ok-grow.ensures.grown ∙ (λ i. grown c.args.name (c.is_consumed-consumed.ensures i) c.args.offer.now.number (c.in_ok-event.ensures.event i) k) in
     let undoes = run_grown q c.args.name c.args.offer.now.number c.args.offer.now.event.now k c.requires.good c.requires.idle c.requires.named c.requires.offer.compiled.names c.requires.offer.small c.requires.below in
     let now : kept c.finish.new.run ≡ run_if_complete q k' = c.in_ok-is_whole.ensures.run ∙ ap (run_if_complete q) is in
     let before = map seen c.args.list.now.items in
@@ -54,5 +54,6 @@ returns c =
           ∙ (λ i. (ap (map seen) c.in_ok-push.ensures.items ∙ map_push seen c.args.list.now.items _ ∙ ap (λ (n : Kept). before ++ GrownTold n.number c.args.offer.now.number ∷ []) is) i ++ told_if_complete q (is i))
           ∙ append_assoc before (grew ∷ []) (told_if_complete q k');
       complete = c.in_ok-is_whole.ensures.complete ∙ ap (λ n. is_complete q (pairs n)) is;
+      shared = c.in_ok-event.ensures.shared;
       undoes = subst (RunUndoes q k) (sym now) (run_fate q k k' (run_if_complete q k').fate undoes);
     }

@@ -18,6 +18,7 @@ loop-at-init c =
     let none = ap (map seen) c.requires.none in
     record {
       going = λ s is. subst (λ (l : List Told). Going q x s old 0 old l Passed) (sym none) (going_start q x s c.args.offer.now.number c.requires.ready.0 old c.requires.ready.1 is);
+      shared = c.requires.shared;
       undoes = all_stay q old c.requires.ready.1.good;
     }
 
@@ -51,6 +52,7 @@ loop-at-preserved c =
     record {
       going = λ s is. going_more q x s c.requires.ready.0 c.args.offer.now.number c.loop-at.at old (map kept c.loop-at.runs) (map kept c.turn.new.runs) (map seen c.loop-at.list.items) (map seen c.turn.new.list.items)
           c.loop-at.so_far c.in_ok-so_far.so_far c.requires.ready.1 within c.loop-at.invariant.undoes (c.loop-at.invariant.going s is) c.in_ok-so_far.ensures.turned;
+      shared = c.in_ok-so_far.ensures.shared;
       undoes = undoes_on q old (map kept c.loop-at.runs) (map kept c.turn.new.runs) c.loop-at.invariant.undoes c.in_ok-so_far.ensures.undoes;
     }
 
@@ -62,5 +64,6 @@ returns c =
     let end : c.loop-at.at ≡ length old = omega (arith, c.loop-at-test.false, c.loop-at.auto.at-end, length-map c.args.runs.now kept) in
     record {
       going = λ s is. subst (λ (i : ℕ). Going q x s old i (map kept c.loop-at.runs) (map seen c.loop-at.list.items) c.loop-at.so_far) end (c.loop-at.invariant.going s is);
+      shared = c.loop-at.invariant.shared;
       undoes = c.loop-at.invariant.undoes;
     }

@@ -1,12 +1,9 @@
-use Rattle.std.proofs.Common.{◌≡◌, ◌∙◌, refl, sym, ap, subst, None, Some, Option, ℕ, ◌+◌, ◌≤◌, ◌<◌, Bool, true, false, List, map, length, nat_lt, nat_le, find, arith}
-use Rattle.std.proofs.lemmas.Bool.Decides.{nat_tests}
+use Rattle.std.proofs.Common.{◌≡◌, ◌∙◌, refl, sym, ap, subst, None, Some, ◌+◌, true, false, arith}
 use Rattle.sp_version.specs.declared.version.Version.{Version}
 use Rattle.sp_group.specs.declared.refusal.Refusal.TheVariants as r
 use Rattle.sp_group.specs.declared.step.Step.TheVariants as s
 use Rattle.sp_group.specs.Machine.{inner}
-use Rattle.sp_group.specs.Refusing.{child_with, not_open}
-use Rattle.sp_plan.specs.WindowNumbers.{count}
-use Rattle.sp_core.specs.Holding.{holding, machine_of, running, version_of}
+use Rattle.sp_core.specs.Holding.{holding}
 use Rattle.sp_core.specs.Running.{Running, refused}
 use Rattle.sp_core.proofs.Journal.{reached}
 use Rattle.sp_core.proofs.Entries.{found, not_found}

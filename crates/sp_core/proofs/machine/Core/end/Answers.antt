@@ -1,9 +1,9 @@
-use Rattle.std.proofs.Common.{◌≡◌, ◌∙◌, refl, None, ℕ, ◌+◌, ◌≤◌, Bool, true, false, arith, if◌then◌else◌, ap, subst}
+use Rattle.std.proofs.Common.{◌≡◌, ◌∙◌, refl, None, ℕ, ◌+◌, ◌≤◌, Bool, true, false, arith, if◌then◌else◌, ap}
 use Rattle.sp_group.specs.declared.step.Step.TheVariants as s
 use Rattle.sp_group.specs.declared.refusal.Refusal.TheVariants as r
 use Rattle.sp_group.specs.Refusing.{refuse_if}
 use Rattle.sp_core.specs.Holding.{Holding, holding}
-use Rattle.sp_core.specs.Rooms.{room, entries_owed}
+use Rattle.sp_core.specs.Rooms.{room}
 use Rattle.sp_core.proofs.Journal.{replayed_on}
 use Rattle.sp_core.proofs.machine.Core.end.Goals as goal
 

@@ -1,15 +1,11 @@
-use Rattle.std.proofs.Common.{rules, ◌≡◌, ◌∙◌, refl, sym, ap, subst, None, Some, Option, ℕ, ◌+◌, ◌≤◌, ◌<◌, ◌++◌, ◌∷◌, [], List, map, length, arith}
-use Rattle.std.specs.Option.{option_map}
+use Rattle.std.proofs.Common.{rules, ◌≡◌, ◌∙◌, refl, sym, ap, subst, None, Some, ◌++◌, ◌∷◌, [], arith}
 use Rattle.sp_plan.specs.declared.plan.Plan.{Plan}
 use Rattle.sp_plan.specs.Same.{SamePlan}
-use Rattle.sp_plan.specs.WindowNumbers.{first, numbered_window}
-use Rattle.sp_window.specs.Laws.{IsNumber}
-use Rattle.sp_window.specs.Standing.{shown}
 use Rattle.sp_version.specs.declared.version.Version.{Version}
 use Rattle.sp_group.specs.declared.step.Step.TheVariants as s
 use Rattle.sp_group.specs.Rising.{IsLabel}
-use Rattle.sp_tree.specs.Grown.{Grown, CanStand}
-use Rattle.sp_core.specs.Holding.{Holding, IsCore, holding, machine_of, running}
+use Rattle.sp_tree.specs.Grown.{Grown}
+use Rattle.sp_core.specs.Holding.{IsCore, holding, machine_of, running}
 use Rattle.sp_core.specs.Rooms.{room}
 use Rattle.sp_core.specs.Running.{Running, after, once, refused}
 use Rattle.sp_core.specs.Spawning.{spawned_window}

@@ -1,13 +1,9 @@
-use Rattle.std.proofs.Common.{◌≡◌, ◌∙◌, refl, sym, ap, subst, None, Some, Option, ℕ, ◌+◌, ◌≤◌, ◌<◌, Bool, true, false, List, nat_lt, find, arith}
+use Rattle.std.proofs.Common.{◌≡◌, ◌∙◌, sym, ap, subst, None, Some, Option, ℕ, ◌+◌, true, false, List, find, arith}
 use Rattle.std.specs.Prelude.{slice_get}
-use Rattle.std.proofs.lemmas.Bool.Decides.{nat_tests}
 use Rattle.sp_group.specs.declared.refusal.Refusal.TheVariants as r
 use Rattle.sp_group.specs.declared.step.Step.TheVariants as s
-use Rattle.sp_group.specs.Refusing.{refuse_if, refuse_for}
-use Rattle.sp_plan.specs.Windows.{windows}
-use Rattle.sp_plan.specs.declared.plan.Plan.{Plan}
-use Rattle.sp_plan.specs.WindowNumbers.{count}
-use Rattle.sp_core.specs.Holding.{holding, machine_of, running}
+use Rattle.sp_group.specs.Refusing.{refuse_for}
+use Rattle.sp_core.specs.Holding.{holding}
 use Rattle.sp_core.specs.Running.{Running, refused}
 use Rattle.sp_core.proofs.Journal.{reached}
 use Rattle.sp_core.proofs.Counts.{has_window, lacks_window, windows_few, finished_within}

@@ -1,11 +1,10 @@
-use Rattle.std.proofs.Common.{rules, ◌≡◌, ◌∙◌, refl, sym, ap, subst, None, ℕ, ◌+◌, ◌*◌, ◌≤◌, pos, ◌≤ℤ◌, ◌++◌, ◌∷◌, [], Bool, true, false, List, map, length, arith}
+use Rattle.std.proofs.Common.{rules, ◌≡◌, ◌∙◌, refl, sym, ap, subst, None, ℕ, pos, ◌≤ℤ◌, ◌++◌, ◌∷◌, [], Bool, true, false, List, map, arith}
 use Rattle.std.specs.List.{All}
 use Rattle.sp_plan.specs.declared.event.Event.{Event}
 use Rattle.sp_plan.specs.declared.plan.Plan.{Plan}
 use Rattle.sp_plan.specs.Events.{fits}
 use Rattle.sp_plan.specs.WindowNumbers.{Good}
 use Rattle.sp_window.specs.Standing as window
-use Rattle.sp_group.specs.declared.step.Entry.{Entry}
 use Rattle.sp_group.specs.declared.step.Step.TheVariants as s
 use Rattle.sp_group.specs.declared.refusal.Refusal.TheVariants as r
 use Rattle.sp_core.specs.Holding.{Holding, Holds, holding, machine_of, running}

@@ -1,4 +1,4 @@
-use Rattle.std.proofs.Common.{◌≡◌, ◌∙◌, refl, sym, ap, subst, None, Some, Option, ℕ, ◌+◌, ◌≤◌, arith}
+use Rattle.std.proofs.Common.{◌∙◌, sym, ap, ◌+◌, arith}
 use Rattle.sp_version.specs.declared.version.Version.{Version}
 use Rattle.sp_core.specs.Holding.{holding, machine_of, version_of}
 use Rattle.sp_core.specs.Running.{Running}

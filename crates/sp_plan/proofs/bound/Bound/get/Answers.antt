@@ -19,7 +19,7 @@ returns-then-pair-name c =
     let none : filter (λ p. eqb p.name c.args.name) (drop (at + 1) pairs) ≡ [] = rw one c.loop-left.invariant.none in
     let last = found_last pairs at pair c.args.name (omega arith) hit none in
     let found = sym (ap (λ (l : BoundEvents). last_bound c.args.name l) c.self.view_is) ∙ last in
-    ap (λ (p : Pair). Some p.event) item ∙ sym (ap (option_map (λ (p : ℕ × Event). p.1)) found)
+    ap Some c.event.ensures ∙ ap (λ (p : Pair). Some p.event) item ∙ sym (ap (option_map (λ (p : ℕ × Event). p.1)) found)
 
 pub loop-left-smaller : goal.loop-left-smaller
 loop-left-smaller c =
