@@ -1,9 +1,9 @@
 -- A core after a piece came home is what the machine makes of it.
-use Rattle.std.proofs.Common.{◌≡◌, ◌⊎◌, inl, inr, ℕ, zero, suc, ◌+◌, ◌*◌, ◌<◌, ◌≤◌, Bool, true, false, cond, not, ◌||◌, ◌==◌, nat_lt, List, [], ◌∷◌, ◌++◌, filter, length, map, replicate, take, drop, Option, Some, None, refl, sym, ap, subst, ◌∙◌, arith, get_or}
+use Rattle.std.proofs.Common.{◌≡◌, ◌⊎◌, inl, inr, ℕ, zero, suc, ◌+◌, ◌*◌, ◌<◌, ◌≤◌, Bool, true, false, cond, ◌||◌, ◌==◌, nat_lt, List, [], ◌∷◌, ◌++◌, filter, length, map, Option, Some, None, refl, sym, ap, subst, ◌∙◌, arith, get_or}
 use Rattle.std.specs.List.{All, flat_map, remove, sum}
 use Rattle.std.specs.List.Sorted.{IsStrictlyIncreasing}
 use Rattle.std.proofs.lemmas.Bool.Decides.{nat_tests}
-use Rattle.std.proofs.lemmas.List.{append_assoc, drop-map, length-append, length-map, map-append, take-map}
+use Rattle.std.proofs.lemmas.List.{append_assoc, length-append, length-map}
 use Rattle.std.proofs.lemmas.List.Elements.{All-map}
 use Rattle.std.proofs.lemmas.Option.{slice_get_within}
 use Rattle.sp_base.specs.Numbers.{NumberList}
@@ -11,27 +11,23 @@ use Rattle.sp_plan.specs.declared.event.Event.{Event}
 use Rattle.sp_plan.specs.declared.found.Match.{Match}
 use Rattle.sp_plan.specs.declared.plan.Plan.{Plan}
 use Rattle.sp_plan.specs.Groups.{used_by_all}
-use Rattle.sp_plan.specs.Runs.{Run, Started, State, is_among, used}
-use Rattle.sp_plan.specs.Sequential.{match_of}
+use Rattle.sp_plan.specs.Runs.{Started, State, is_among, used}
 use Rattle.sp_plan.specs.WindowNumbers.{first}
 use Rattle.sp_match.specs.public.Laws.{completion}
 use Rattle.sp_match.specs.public.Matching.{Stands}
-use Rattle.sp_piece.specs.Pieced.{Pieced, LedTo}
+use Rattle.sp_piece.specs.Pieced.{Pieced}
 use Rattle.sp_version.specs.declared.version.Version.{Version}
-use Rattle.sp_group.specs.declared.outcome.Outcome.{Outcome}
 use Rattle.sp_group.specs.declared.step.Entry as step
-use Rattle.sp_group.specs.declared.step.Step.{Step}
 use Rattle.sp_group.specs.declared.step.Step.TheVariants as s
 use Rattle.sp_group.specs.Deciding.{foresaw_all, others_than}
 use Rattle.sp_group.specs.Effects.{after_reading, home, is_newly_spent, without}
 use Rattle.sp_group.specs.Family.{entry_at, is_parent, prune}
 use Rattle.sp_group.specs.Machine as machine
 use Rattle.sp_group.specs.Machine.{Machine, Ticket, inner, is_group, out_for, ticket_at, version_at}
-use Rattle.sp_group.specs.Rising.{has_number, with_numbers}
+use Rattle.sp_group.specs.Rising.{with_numbers}
 use Rattle.sp_group.specs.Steps.{step, steps}
 use Rattle.sp_rules.specs.ByGroups.{AreToDecide, IsByGroups, ended, grouped, outcome_in, using_runs}
-use Rattle.sp_rules.specs.Kept.{NewestFirst}
-use Rattle.sp_rules.specs.Returning.{IsReadAndReturned, read_to, readings, reads, reads_and_return}
+use Rattle.sp_rules.specs.Returning.{IsReadAndReturned, read_to, readings, reads_and_return}
 use Rattle.sp_rules.specs.Schedules.{Fits}
 use Rattle.sp_tree.specs.declared.version.Version as branch
 use Rattle.sp_tree.specs.Decided.{rule_of}
@@ -39,22 +35,21 @@ use Rattle.sp_tree.specs.Grown.{AreGrown, Entry, Grown, kin, lifted, pruned, wit
 use Rattle.sp_core.specs.declared.homecoming.Brought.{Brought}
 use Rattle.sp_core.specs.declared.given.Given.TheVariants as g
 use Rattle.sp_core.specs.declared.lent.Lent.{Lent}
-use Rattle.sp_core.specs.Carrying.{Carries, ticket_of}
+use Rattle.sp_core.specs.Carrying.{ticket_of}
 use Rattle.sp_core.specs.Holding.{Holding, Holds, IsCore, machine_of, running, unnumbered, version_of}
 use Rattle.sp_core.specs.Homecoming.{IsBrought, IsTakenUp, completions, ended_in, is_grouped, outcome_of, spent_run, unnumbered_told, used_told}
 use Rattle.sp_core.specs.Returning.{IsGiven, IsPlaceOf, after_return, reading_entries}
-use Rattle.sp_core.specs.Rooms.{entries_owed, matches_held, numbers_held}
+use Rattle.sp_core.specs.Rooms.{matches_held, numbers_held}
 use Rattle.sp_core.specs.Running.{Running, flat, once}
 use Rattle.sp_core.specs.Settling.{HomeLaws, IsFrom, IsSettled, with_settled}
 use Rattle.sp_core.proofs.Coming.{Coming, adds, before, comes, completed_now, grouped_now, has_before, has_now, held, id_is, live_here, local_is, now, plan_now, reached_is, stands_now, version_home}
 use Rattle.sp_core.proofs.Deciding.{ended_alike, foresaw_alike, versions_decided}
-use Rattle.sp_core.proofs.Entries.{found_of_all, version_is}
 use Rattle.sp_core.proofs.Journal.{replayed_by}
 use Rattle.sp_core.proofs.Later.{length_numbers, numbers_more, spent_are, unnumbered_are, unnumbered_more, used_are}
 use Rattle.sp_core.proofs.Owed.{owed_most}
 use Rattle.sp_core.proofs.Owner.{only_one, settled, settled_are, settled_if, sum_settled}
 use Rattle.sp_core.proofs.Pruning.{all_pruned, length_pruned, sum_pruned}
-use Rattle.sp_core.proofs.TicketsLeft.{none_out, same_out, taken_out}
+use Rattle.sp_core.proofs.TicketsLeft.{left_without, none_out, same_out}
 
 or_first : (a b c d : Bool) → d ≡ ((a || b) || c) → a ≡ true → d ≡ true
 or_first true b c d is h = is
@@ -439,17 +434,6 @@ module _ (laws : HomeLaws) (h : Holding) (p : Pieced) (a : Coming h p) (b : Brou
 
     pub given_home : IsGiven (running h) (running after) p g.Home
     given_home = (a.ticket, version_of e, record { out = a.out; live = (comes laws h p a).live }, a.carries, running_home)
-
--- a ticket that is taken out of its place
-map_remove : (ls : List Lent) (place : ℕ) → map ticket_of (remove ls place) ≡ remove (map ticket_of ls) place
-map_remove ls place =
-    map-append ticket_of (take place ls) (drop (suc place) ls)
-    ∙ ap (λ (ts : List Ticket). ts ++ map ticket_of (drop (suc place) ls)) (sym (take-map ticket_of place ls))
-    ∙ ap (λ (ts : List Ticket). take place (map ticket_of ls) ++ ts) (sym (drop-map ticket_of (suc place) ls))
-
-pub left_without : (ls : List Lent) (n place : ℕ) → NewestFirst (map ticket_of ls) → IsPlaceOf (map ticket_of ls) n place → map ticket_of (remove ls place) ≡ without n (map ticket_of ls)
-left_without ls n place newest at =
-    map_remove ls place ∙ taken_out (map ticket_of ls) place at.0 newest at.1 ∙ ap (λ (k : ℕ). without k (map ticket_of ls)) at.2
 
 -- it is a place among the tickets
 pub place_within : (ls : List Lent) (n place : ℕ) → IsPlaceOf (map ticket_of ls) n place → place < length ls

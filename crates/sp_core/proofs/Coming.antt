@@ -1,21 +1,17 @@
 -- A piece that comes home: what it led to is what its version comes to, and what it told are the matches that are added.
-use Rattle.std.proofs.Common.{◌≡◌, ℕ, ◌+◌, ◌-◌, ◌<◌, ◌≤◌, Bool, true, false, cond, ◌&&◌, ◌||◌, ◌==◌, List, [], ◌∷◌, ◌++◌, length, map, take, drop, Option, Some, None, refl, sym, ap, subst, ◌∙◌, arith}
+use Rattle.std.proofs.Common.{◌≡◌, ℕ, ◌+◌, ◌-◌, ◌≤◌, Bool, true, false, cond, ◌&&◌, ◌||◌, ◌==◌, List, [], ◌∷◌, ◌++◌, length, map, drop, Some, refl, sym, ap, subst, ◌∙◌, arith}
 use Rattle.std.specs.List.{All, flat_map, list_any}
-use Rattle.std.specs.List.Sorted.{IsStrictlyIncreasing}
-use Rattle.std.specs.Option.{option_map}
 use Rattle.std.proofs.lemmas.List.{length-take-le, length-drop}
 use Rattle.std.proofs.lemmas.List.Elements.{All-tail}
-use Rattle.sp_base.specs.Numbers.{RisingSame}
 use Rattle.sp_plan.specs.declared.event.Event.{Event}
 use Rattle.sp_plan.specs.declared.plan.Plan.{Plan}
-use Rattle.sp_plan.specs.Compiled.{IsCompiled}
 use Rattle.sp_plan.specs.Same.{SamePlan}
-use Rattle.sp_plan.specs.Runs.{Started, State, is_among, used}
+use Rattle.sp_plan.specs.Runs.{Started, State, used}
 use Rattle.sp_window.specs.Laws.{IsNumber}
 use Rattle.sp_match.specs.declared.moves.Moves.{Moves}
-use Rattle.sp_match.specs.public.Laws.{Sound, completion}
+use Rattle.sp_match.specs.public.Laws.{completion}
 use Rattle.sp_match.specs.public.Matching.{Matching, Stands}
-use Rattle.sp_piece.specs.Alike.{ReadAlike, SamePlansReadAlike, ReadingsTellMatches, by_plan}
+use Rattle.sp_piece.specs.Alike.{ReadAlike, by_plan}
 use Rattle.sp_piece.specs.Pieced.{Pieced, LedTo, Tells, loan}
 use Rattle.sp_piece.specs.Reading.{Loan, accounts_to, read_on, read_to}
 use Rattle.sp_version.specs.declared.version.Version.{Version}
@@ -23,18 +19,17 @@ use Rattle.sp_group.specs.Family.{entry_at}
 use Rattle.sp_group.specs.Machine as machine
 use Rattle.sp_group.specs.Machine.{Machine, Ticket, inner, is_group, is_suppressed, ticket_at, version_at}
 use Rattle.sp_group.specs.Rising.{IsLabel, has_number}
-use Rattle.sp_rules.specs.ByGroups.{AddsMatches, ComingHomeAddsMatches, HasGroups, ReturnsByGroups, VersionHasGroups, VersionsHaveGroups, grouped, using_runs}
-use Rattle.sp_rules.specs.ComingHome.{FollowLent, IsComingHome, PiecesComeHome, come_home, events_lent}
+use Rattle.sp_rules.specs.ByGroups.{AddsMatches, VersionHasGroups, grouped}
+use Rattle.sp_rules.specs.ComingHome.{IsComingHome, come_home, events_lent}
 use Rattle.sp_rules.specs.Kept as kept
-use Rattle.sp_rules.specs.Lawful.{Lawful}
-use Rattle.sp_rules.specs.Returning.{LendsSoFar, ReadingsAndReturn}
-use Rattle.sp_rules.specs.Schedules.{EverySchedule, Reached}
+use Rattle.sp_rules.specs.Returning.{LendsSoFar}
+use Rattle.sp_rules.specs.Schedules.{Reached}
 use Rattle.sp_tree.specs.Grown.{Entry, kin}
 use Rattle.sp_core.specs.declared.lent.Lent.{Lent}
 use Rattle.sp_core.specs.declared.homecoming.Brought.{Brought}
 use Rattle.sp_core.specs.Carrying.{Carries, lent_events, ticket_of}
 use Rattle.sp_core.specs.Holding.{Holding, Holds, IsCore, machine_of, running, version_of}
-use Rattle.sp_core.specs.Homecoming.{AreNumbered, completions, is_grouped, spent_run}
+use Rattle.sp_core.specs.Homecoming.{completions, is_grouped, spent_run}
 use Rattle.sp_core.specs.Returning.{IsCarried}
 use Rattle.sp_core.specs.Settling.{CanBring, CanSettle, HomeLaws, IsFrom, IsWithin}
 use Rattle.sp_core.proofs.Entries.{found_of_all, local, version_is}

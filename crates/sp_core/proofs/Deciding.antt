@@ -1,14 +1,14 @@
 -- The groups of a version that comes home are decided: this does to the versions of the machine what the reading does to them.
-use Rattle.std.proofs.Common.{◌≡◌, ◌⊎◌, inl, inr, ⊎_elim, ℕ, ◌+◌, Bool, true, false, cond, not, ◌&&◌, ◌||◌, ◌==◌, nat_lt, List, [], ◌∷◌, ◌++◌, filter, map, Option, Some, None, refl, sym, ap, subst, ◌∙◌, arith, get_or}
+use Rattle.std.proofs.Common.{◌≡◌, ⊎_elim, ℕ, Bool, true, false, cond, not, ◌&&◌, ◌||◌, ◌==◌, List, [], ◌∷◌, filter, map, Option, Some, None, refl, sym, ap, ◌∙◌, arith, get_or}
 use Rattle.std.specs.List.{All, flat_map, list_all, list_any}
 use Rattle.std.specs.Option.{option_map}
 use Rattle.std.proofs.lemmas.List.Elements.{All-nil, All-cons, All-head, All-tail, All-map}
 use Rattle.std.proofs.lemmas.Bool.Decides.{nat_tests}
 use Rattle.std.proofs.lemmas.Simd.{map-map}
 use Rattle.sp_plan.specs.declared.plan.Plan.{Plan}
-use Rattle.sp_plan.specs.Groups.{is_matched, is_open}
+use Rattle.sp_plan.specs.Groups.{is_open}
 use Rattle.sp_plan.specs.Moves.{is_run, pairs_of}
-use Rattle.sp_plan.specs.Runs.{Run, Started, State, is_among, used}
+use Rattle.sp_plan.specs.Runs.{Started, State, is_among, used}
 use Rattle.sp_match.specs.public.Laws.{OpenHasNoMatch, Sound}
 use Rattle.sp_match.specs.public.Matching.{Matching}
 use Rattle.sp_group.specs.declared.outcome.Outcome.{Outcome}

@@ -1,6 +1,6 @@
 -- A journal that is longer by a step still leads to the state, and all that holds of states that steps lead to holds of a core's.
 use Rattle.std.proofs.Common.{◌≡◌, ℕ, ◌+◌, ◌≤◌, List, [], ◌∷◌, ◌++◌, length, None, sym, ap, subst, ◌∙◌, refl, arith, replicate}
-use Rattle.std.specs.List.{fold, flat_map}
+use Rattle.std.specs.List.{fold}
 use Rattle.std.proofs.lemmas.Grind.{flat_map-append}
 use Rattle.std.proofs.lemmas.List.{length-append}
 use Rattle.std.proofs.lemmas.List.Sums.{fold-append}
@@ -9,7 +9,7 @@ use Rattle.sp_group.specs.declared.step.Entry.{Entry}
 use Rattle.sp_group.specs.declared.step.Step.{Step}
 use Rattle.sp_group.specs.Machine.{Machine, opening}
 use Rattle.sp_group.specs.Effects.{effect}
-use Rattle.sp_group.specs.Steps.{step, steps, replay, after_entry, unless_refused}
+use Rattle.sp_group.specs.Steps.{step, steps, after_entry, unless_refused}
 use Rattle.sp_rules.specs.Schedules.{FitsStep, Fits, Reached, EverySchedule}
 use Rattle.sp_core.specs.Running.{flat, once, refused}
 use Rattle.sp_core.specs.Holding.{Holding, IsReplayed, IsCore, machine_of, running}

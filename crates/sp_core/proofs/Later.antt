@@ -9,9 +9,8 @@ use Rattle.std.proofs.lemmas.List.Sums.{fold-append}
 use Rattle.sp_base.specs.Numbers.{RisingSame}
 use Rattle.sp_plan.specs.declared.found.Match.{Match}
 use Rattle.sp_plan.specs.declared.plan.Plan.{Plan}
-use Rattle.sp_plan.specs.Groups.{used_by_all}
 use Rattle.sp_plan.specs.Moves.{Told}
-use Rattle.sp_plan.specs.Runs.{Run, Started, State, bindings, is_among, used}
+use Rattle.sp_plan.specs.Runs.{Run, Started, State, is_among, used}
 use Rattle.sp_plan.specs.Sequential.{match_of}
 use Rattle.sp_match.specs.declared.moves.Moves.{Moves}
 use Rattle.sp_match.specs.public.Laws.{completion, is_completion}

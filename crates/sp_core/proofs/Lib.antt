@@ -1,5 +1,6 @@
 pub mod Alike
 pub mod Ancestors
+pub mod Carried
 pub mod Children
 pub mod ComesHome
 pub mod Coming
@@ -9,10 +10,12 @@ pub mod Counts
 pub mod Cuts
 pub mod DecidedGroups
 pub mod Deciding
+pub mod Ended
 pub mod Entries
 pub mod Fed
 pub mod Finished
 pub mod Fresh
+pub mod GivenBack
 pub mod GroupsHeld
 pub mod HeirConflict
 pub mod Heirs
@@ -27,6 +30,7 @@ pub mod LeaseRefused
 pub mod Leased
 pub mod Least
 pub mod Lending
+pub mod NothingRead
 pub mod Numbering
 pub mod Owed
 pub mod Owner
@@ -40,6 +44,7 @@ pub mod RisingLists
 pub mod Rolled
 pub mod Roomier
 pub mod Roots
+pub mod SamePlans
 pub mod Settled
 pub mod SpawnRefusals
 pub mod Suppressed

@@ -1,6 +1,6 @@
 -- A core that has the same values, and more room, is the same core.
-use Rattle.std.proofs.Common.{◌≡◌, ℕ, ◌+◌, ◌≤◌, Bool, cond, ◌||◌, nat_lt, is_some, List, [], length, map, Some, refl, sym, ap, subst, ◌∙◌, arith}
-use Rattle.std.specs.List.{All, sum}
+use Rattle.std.proofs.Common.{◌≡◌, ℕ, ◌≤◌, Bool, cond, ◌||◌, nat_lt, is_some, List, [], length, map, sym, ap, subst, ◌∙◌, arith}
+use Rattle.std.specs.List.{sum}
 use Rattle.sp_base.specs.Numbers.{NumberList}
 use Rattle.sp_plan.specs.declared.event.Event.{Event}
 use Rattle.sp_plan.specs.declared.found.Match.{Match}
@@ -11,16 +11,14 @@ use Rattle.sp_plan.specs.WindowNumbers.{first}
 use Rattle.sp_match.specs.public.Matching.{Matching, Stands}
 use Rattle.sp_version.specs.declared.version.Version.{Version}
 use Rattle.sp_group.specs.declared.step.Entry as step
-use Rattle.sp_group.specs.Family.{entry_at}
 use Rattle.sp_group.specs.Machine as machine
 use Rattle.sp_group.specs.Machine.{Ticket, inner, is_group}
 use Rattle.sp_group.specs.Rising.{with_numbers}
-use Rattle.sp_tree.specs.Grown.{Entry, Grown, kin, with_value, written}
+use Rattle.sp_tree.specs.Grown.{Entry, Grown, with_value, written}
 use Rattle.sp_core.specs.Carrying.{ticket_of}
 use Rattle.sp_core.specs.Holding.{Holding, Holds, IsCore, machine_of, running, unnumbered, version_of}
 use Rattle.sp_core.specs.Homecoming.{IsSameButRooms}
-use Rattle.sp_core.specs.Rooms.{entries_for, matches_held, numbers_held}
-use Rattle.sp_core.specs.Running.{Running}
+use Rattle.sp_core.specs.Rooms.{entries_for}
 use Rattle.sp_core.specs.Settling.{IsSameTree}
 use Rattle.sp_core.proofs.Written.{all_written, grown_written, map_written}
 

@@ -1,11 +1,10 @@
 -- Where a ticket stands among those that are out.
-use Rattle.std.proofs.Common.{◌≡◌, ℕ, ◌+◌, ◌<◌, ◌≤◌, Bool, true, false, ◌==◌, cond, List, [], ◌∷◌, length, map, drop, get_or, Option, Some, None, refl, sym, ap, ◌∙◌, arith}
-use Rattle.std.specs.List.{slice_get}
+use Rattle.std.proofs.Common.{◌≡◌, ℕ, ◌+◌, ◌<◌, ◌≤◌, true, false, ◌==◌, List, ◌∷◌, length, map, drop, get_or, Some, None, refl, sym, ap, ◌∙◌, arith}
 use Rattle.std.specs.Option.{option_map}
 use Rattle.std.proofs.lemmas.Bool.Decides.{nat_tests}
 use Rattle.std.proofs.lemmas.List.{drop_more, drop_all}
 use Rattle.std.proofs.lemmas.Option.{slice_get-map, slice_get-get_or}
-use Rattle.sp_group.specs.Machine.{Ticket, ticket_at}
+use Rattle.sp_group.specs.Machine.{ticket_at}
 use Rattle.sp_core.specs.declared.lent.Lent.{Lent}
 use Rattle.sp_core.specs.Carrying.{ticket_of}
 use Rattle.sp_core.specs.Returning.{IsPlaceOf}
@@ -22,13 +21,12 @@ from ls n i d is few = ap (λ (xs : List Lent). ticket_at (map ticket_of xs) n) 
 
 pub place_found : (ls : List Lent) (n i : ℕ) (d : Lent) → d ≡ get_or ls i d → i < length ls → d.ticket ≡ n
     → ticket_at (map ticket_of ls) n ≡ ticket_at (map ticket_of (drop i ls)) n → IsPlaceOf (map ticket_of ls) n i
-place_found ls n i d is few same so_far =
-    (
-      ticket_of d,
-      slice_get-map ticket_of ls i ∙ ap (option_map ticket_of) (slice_get-get_or ls i d few ∙ ap Some (sym is)),
-      same,
-      so_far ∙ from ls n i d is few ∙ first_is d (drop (i + 1) ls) n same,
-    )
+place_found ls n i d is few same so_far = (
+  ticket_of d,
+  slice_get-map ticket_of ls i ∙ ap (option_map ticket_of) (slice_get-get_or ls i d few ∙ ap Some (sym is)),
+  same,
+  so_far ∙ from ls n i d is few ∙ first_is d (drop (i + 1) ls) n same,
+)
 
 pub place_further : (ls : List Lent) (n i : ℕ) (d : Lent) → d ≡ get_or ls i d → i < length ls → ¬ (d.ticket ≡ n)
     → ticket_at (map ticket_of ls) n ≡ ticket_at (map ticket_of (drop i ls)) n → ticket_at (map ticket_of ls) n ≡ ticket_at (map ticket_of (drop (i + 1) ls)) n

@@ -1,11 +1,14 @@
 -- The tickets without the one of a number: where it stood, and what is out for versions then.
-use Rattle.std.proofs.Common.{◌≡◌, ℕ, zero, suc, ◌<◌, Bool, true, false, cond, not, ◌==◌, List, [], ◌∷◌, ◌++◌, map, take, drop, Option, Some, None, refl, sym, ap, ◌∙◌, arith}
+use Rattle.std.proofs.Common.{◌≡◌, ℕ, zero, suc, Bool, true, false, cond, not, ◌==◌, List, [], ◌∷◌, map, Some, None, refl, sym, ap, ◌∙◌, arith}
 use Rattle.std.specs.Prelude.{slice_get}
 use Rattle.std.specs.List.{remove}
 use Rattle.std.proofs.lemmas.Bool.Decides.{nat_tests}
 use Rattle.sp_group.specs.Machine.{Ticket, ticket_at, out_for}
 use Rattle.sp_group.specs.Effects.{without}
 use Rattle.sp_rules.specs.Kept.{NewestFirst}
+use Rattle.sp_core.specs.declared.lent.Lent.{Lent}
+use Rattle.sp_core.specs.Carrying.{ticket_of}
+use Rattle.sp_core.specs.Returning.{IsPlaceOf}
 
 -- a ticket that stands somewhere is found by its number
 pub found_somewhere : (ts : List Ticket) (place : ℕ) (t : Ticket) → slice_get ts place ≡ Some t → (u : Ticket) × (ticket_at ts t.number ≡ Some u)
@@ -30,7 +33,7 @@ none_taken n (x ∷ ts) none = one (x.number == n) none (none_taken n ts)
     one false none rest = ap (λ us. x ∷ us) (rest none)
 
 -- the ticket at a place is taken out by its number
-pub taken_out : (ts : List Ticket) (place : ℕ) (t : Ticket) → NewestFirst ts → slice_get ts place ≡ Some t → remove ts place ≡ without t.number ts
+taken_out : (ts : List Ticket) (place : ℕ) (t : Ticket) → NewestFirst ts → slice_get ts place ≡ Some t → remove ts place ≡ without t.number ts
 taken_out [] place t newest at = absurd (cc)
 taken_out (x ∷ ts) zero t newest at =
     let same : x ≡ t = cc in
@@ -84,3 +87,14 @@ same_out (x ∷ ts) n id newest other = one (same_out ts n id newest.1) (x.numbe
         rest (λ u at of. let low = newest.0 n u at in absurd (grind (arith, nat_tests)))
         ∙ two (x.version == id) refl (other x refl)
     one rest false is other = ap (λ o. cond (x.version == id) (Some x.number) o) (rest other)
+
+map_remove : (ls : List Lent) (place : ℕ) → map ticket_of (remove ls place) ≡ remove (map ticket_of ls) place
+map_remove [] zero = refl
+map_remove [] (suc place) = refl
+map_remove (l ∷ ls) zero = refl
+map_remove (l ∷ ls) (suc place) = ap (λ ts. ticket_of l ∷ ts) (map_remove ls place)
+
+-- the tickets that are kept, where the one of a number is taken out of its place
+pub left_without : (ls : List Lent) (n place : ℕ) → NewestFirst (map ticket_of ls) → IsPlaceOf (map ticket_of ls) n place → map ticket_of (remove ls place) ≡ without n (map ticket_of ls)
+left_without ls n place newest at =
+    map_remove ls place ∙ taken_out (map ticket_of ls) place at.0 newest at.1 ∙ ap (λ (k : ℕ). without k (map ticket_of ls)) at.2

@@ -1,19 +1,23 @@
 -- What giving a piece back does, and what it answers.
-use Rattle.std.specs.Prelude.{◌≡◌, ℕ, zero, suc, List, [], ◌∷◌, ◌++◌, Some, None, slice_get}
+use Rattle.std.specs.Prelude.{◌≡◌, ℕ, zero, suc, List, [], ◌∷◌, ◌++◌, Option, Some, None, slice_get}
 use Rattle.sp_piece.specs.declared.job.Job.{Job}
 use Rattle.sp_piece.specs.Pieced.{Pieced}
-use Rattle.sp_group.specs.declared.step.Entry.{Entry}
+use Rattle.sp_version.specs.declared.version.Version as held
+use Rattle.sp_group.specs.declared.step.Entry as step
 use Rattle.sp_group.specs.declared.step.Step.TheVariants as s
+use Rattle.sp_group.specs.Family.{entry_at}
 use Rattle.sp_group.specs.Machine.{Ticket, Version, version_at, ticket_at}
 use Rattle.sp_group.specs.Steps.{steps}
 use Rattle.sp_rules.specs.Returning.{readings, reads_and_return}
+use Rattle.sp_tree.specs.Grown.{Grown, Entry, kin, with_value}
 use Rattle.sp_core.specs.declared.given.Given.{Given}
+use Rattle.sp_core.specs.declared.lent.Lent.{Lent}
 use Rattle.sp_core.specs.declared.given.Given.TheVariants as g
 use Rattle.sp_core.specs.Running.{Running, after, once}
 use Rattle.sp_core.specs.Carrying.{Carries, ticket_of}
 
 -- so many readings of a ticket as an entry, none where nothing was read
-abbrev pub reading_entries : ℕ → ℕ → List Entry
+abbrev pub reading_entries : ℕ → ℕ → List step.Entry
 reading_entries n zero = []
 reading_entries n (suc k) = record { step = s.Event n; times = suc k } ∷ []
 
@@ -32,6 +36,21 @@ pub record IsOut (c : Running) (p : Pieced) (t : Ticket) (v : Version) : Type 0 
 -- the ticket of that number stands at this place
 abbrev pub IsPlaceOf : List Ticket → ℕ → ℕ → Type 0
 IsPlaceOf tickets n place = (t : Ticket) × (slice_get tickets place ≡ Some t) × (t.number ≡ n) × (ticket_at tickets n ≡ Some t)
+
+-- the tree where nothing is out for a version, if it is live
+abbrev pub none_out_where : Grown held.Version → ℕ → Option (Entry held.Version) → Grown held.Version
+none_out_where t id None = t
+none_out_where t id (Some e) = with_value t id (record e.value { out = None })
+
+abbrev pub with_none_out : Grown held.Version → ℕ → Grown held.Version
+with_none_out t id = none_out_where t id (entry_at kin t.entries id)
+
+-- a job has the values of what went out, but for its ticket's number
+pub record HasValues (job : Job) (lent : Lent) : Type 0 where
+  pub version : job.version ≡ lent.version
+  pub first : job.first ≡ lent.first
+  pub closes : job.closes ≡ lent.closes
+  pub snapshot : job.snapshot.list ≡ lent.snapshot.list
 
 -- a job is what is out under its ticket, for a live version
 abbrev pub IsCarried : Running → Job → Type 0

@@ -57,7 +57,7 @@ pub record IsFrom (t : Grown Version) (p : Pieced) (b : Brought) : Type 0 where
   pub brought : (e : Entry Version) → entry_at kin t.entries p.job.version ≡ Some e → IsBrought e.value.window e.version.groups after moves b
   pub rising : IsStrictlyIncreasing b.groups
 
--- The version of a piece is live, and can read so many events more.
+-- The version of a piece is live, and can read so many events more; and the groups that are brought rise.
 pub record CanSettle (t : Grown Version) (p : Pieced) (b : Brought) : Type 0 where
   pub entry : Entry Version
   pub live : entry_at kin t.entries p.job.version ≡ Some entry

@@ -5,7 +5,7 @@ ghost use Rattle.sp_group.specs.Machine.{Ticket, ticket_at, version_at};
 ghost use Rattle.sp_core.specs.Carrying.{ticket_of};
 ghost use Rattle.sp_rules.specs.Returning.{readings};
 ghost use Rattle.sp_tree.specs.Grown.{AreGrown};
-ghost use Rattle.sp_core.specs.Returning.{CanComeHome, IsCarried, IsGiven, IsPlaceOf, reading_entries};
+ghost use Rattle.sp_core.specs.Returning.{CanComeHome, HasValues, IsCarried, IsGiven, IsPlaceOf, reading_entries, with_none_out};
 ghost use Rattle.sp_core.specs.Rooms.{room};
 ghost use Rattle.sp_core.specs.Running.{after, once};
 ghost use Rattle.sp_core.specs.Settling.{CanBring, CanSettle, HomeLaws, IsFrom, IsSameTree, IsSettled, IsWithin};
@@ -23,6 +23,7 @@ use sp_rules::{
 };
 use sp_tree::Tree;
 use sp_version::Version;
+use sp_window::windows_hold;
 use std::alloc::{AllocError, Global};
 
 // Whether these are the same events.
@@ -38,6 +39,25 @@ fn same_events(events: &[Event], others: &[Event]) -> bool
         }
     }
     true
+}
+
+// Whether a job has the values of what went out.
+fn has_values(job: &Job, lent: &Lent) -> bool
+    ensures { IsTrue result ↔ HasValues job.now lent.now }
+{
+    job.version == lent.version
+        && job.first == lent.first
+        && job.closes == lent.closes
+        && job.snapshot.list() == lent.snapshot.list()
+}
+
+// Nothing is out for a version from now on.
+fn put_back_for(tree: &mut Tree<Version>, version: u64)
+    ensures { tree.new ≡ with_none_out tree.old version }
+{
+    if let Some(held) = tree.get_mut(version) {
+        held.out = None;
+    }
 }
 
 // Law: all that the layers below say of pieces that come home.
@@ -148,6 +168,7 @@ impl Core {
         ensures { IsTrue result ↔ IsCarried self.now job.now }
     {
         every_schedule();
+        windows_hold();
         let Some(place) = self.place_of(job.ticket) else {
             return false;
         };
@@ -157,10 +178,7 @@ impl Core {
         };
         let from = lent.first as usize - 1;
         let events = &self.events[from..from + lent.count as usize];
-        job.version == lent.version
-            && job.first == lent.first
-            && job.closes == lent.closes
-            && job.snapshot.list() == lent.snapshot.list()
+        has_values(job, lent)
             && same_events(job.events.as_slice(), events)
             && held.matcher.same(&job.before)
     }
@@ -178,9 +196,7 @@ impl Core {
         };
         make_room(&mut self.journal, self.tree.live())?;
         let lent = self.tickets.remove(place);
-        if let Some(held) = self.tree.get_mut(lent.version) {
-            held.out = None;
-        }
+        put_back_for(&mut self.tree, lent.version);
         enter(&mut self.journal, Step::Return { ticket }, 1);
         Ok(lent)
     }

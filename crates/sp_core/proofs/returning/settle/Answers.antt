@@ -1,4 +1,4 @@
-use Rattle.std.proofs.Common.{◌≡◌, ℕ, ap}
+use Rattle.std.proofs.Common.{ap}
 use Rattle.sp_piece.specs.declared.job.Job.{Job}
 use Rattle.sp_tree.specs.Grown.{with_value}
 use Rattle.sp_core.specs.Settling.{IsSameTree}

@@ -1,8 +1,7 @@
-use Rattle.std.proofs.Common.{◌≡◌, ◌++◌, ◌∷◌, [], ℕ, List, map, sym, ap, subst, ◌∙◌, arith}
+use Rattle.std.proofs.Common.{◌++◌, ◌∷◌, [], ℕ, List, map, sym, ap, subst, ◌∙◌, arith}
 use Rattle.sp_piece.specs.declared.job.Job.{Job}
 use Rattle.sp_group.specs.declared.step.Entry.{Entry}
 use Rattle.sp_group.specs.declared.step.Step.TheVariants as s
-use Rattle.sp_rules.specs.Returning.{readings}
 use Rattle.sp_core.specs.Carrying.{ticket_of}
 use Rattle.sp_core.specs.Holding.{holding}
 use Rattle.sp_core.specs.Returning.{IsCarried, IsPlaceOf, reading_entries}
@@ -54,12 +53,12 @@ invariant_of-self-2 c =
     let n = p.job.ticket in
     let is = subst (λ (r : Running). IsCarried r p.job) (sym c.self.view_is) c.requires in
     let at = subst (λ (j : Job). IsPlaceOf (map ticket_of h.tickets) j.ticket c.in-Some.place) c.job.ensures
-        (subst (λ (r : Running). IsPlaceOf r.machine.tickets c.job.result.now.ticket c.in-Some.place) (sym c.self.view_is) c.in-Some.ensures.some) in
+    (subst (λ (r : Running). IsPlaceOf r.machine.tickets c.job.result.now.ticket c.in-Some.place) (sym c.self.view_is) c.in-Some.ensures.some) in
     let made = c.make_rooms_for in
     let journal = c.enter_return.ensures.items
-        ∙ ap (λ (es : List Entry). es ++ reading_entries c.job.result.now.ticket c.readings_of-times.result ++ once (s.Return c.job.result.now.ticket) ∷ []) made.ensures.journal
-        ∙ ap (λ (j : Job). h.journal ++ reading_entries j.ticket c.readings_of-times.result ++ once (s.Return j.ticket) ∷ []) c.job.ensures
-        ∙ ap (λ (times : ℕ). h.journal ++ reading_entries n times ++ once (s.Return n) ∷ []) c.readings_of-times.ensures.readings in
+    ∙ ap (λ (es : List Entry). es ++ reading_entries c.job.result.now.ticket c.readings_of-times.result ++ once (s.Return c.job.result.now.ticket) ∷ []) made.ensures.journal
+    ∙ ap (λ (j : Job). h.journal ++ reading_entries j.ticket c.readings_of-times.result ++ once (s.Return j.ticket) ∷ []) c.job.ensures
+    ∙ ap (λ (times : ℕ). h.journal ++ reading_entries n times ++ once (s.Return n) ∷ []) c.readings_of-times.ensures.readings in
     core_comes c.home_laws.ensures h p (coming h p c.self.invariant c.readings_of-times.ensures.within is) c.in-Ok.brought c.in-Ok.ensures c.settle.new.tree c.in_ok-settle.ensures.ok
     c.in_ok-settle.ensures.grown c.remove.new.self.items made.new.emitted.items made.new.consumed c.enter_return.new.journal.items (room c.enter_return.new.journal) (room made.new.emitted)
     c.in-Some.place at c.remove.ensures.items made.ensures.emitted made.ensures.consumed journal
@@ -72,12 +71,12 @@ returns-clause-given c =
     let n = p.job.ticket in
     let is = subst (λ (r : Running). IsCarried r p.job) (sym c.self.view_is) c.requires in
     let at = subst (λ (j : Job). IsPlaceOf (map ticket_of h.tickets) j.ticket c.in-Some.place) c.job.ensures
-        (subst (λ (r : Running). IsPlaceOf r.machine.tickets c.job.result.now.ticket c.in-Some.place) (sym c.self.view_is) c.in-Some.ensures.some) in
+    (subst (λ (r : Running). IsPlaceOf r.machine.tickets c.job.result.now.ticket c.in-Some.place) (sym c.self.view_is) c.in-Some.ensures.some) in
     let made = c.make_rooms_for in
     let journal = c.enter_return.ensures.items
-        ∙ ap (λ (es : List Entry). es ++ reading_entries c.job.result.now.ticket c.readings_of-times.result ++ once (s.Return c.job.result.now.ticket) ∷ []) made.ensures.journal
-        ∙ ap (λ (j : Job). h.journal ++ reading_entries j.ticket c.readings_of-times.result ++ once (s.Return j.ticket) ∷ []) c.job.ensures
-        ∙ ap (λ (times : ℕ). h.journal ++ reading_entries n times ++ once (s.Return n) ∷ []) c.readings_of-times.ensures.readings in
+    ∙ ap (λ (es : List Entry). es ++ reading_entries c.job.result.now.ticket c.readings_of-times.result ++ once (s.Return c.job.result.now.ticket) ∷ []) made.ensures.journal
+    ∙ ap (λ (j : Job). h.journal ++ reading_entries j.ticket c.readings_of-times.result ++ once (s.Return j.ticket) ∷ []) c.job.ensures
+    ∙ ap (λ (times : ℕ). h.journal ++ reading_entries n times ++ once (s.Return n) ∷ []) c.readings_of-times.ensures.readings in
     given_comes c.home_laws.ensures h p (coming h p c.self.invariant c.readings_of-times.ensures.within is) c.in-Ok.brought c.in-Ok.ensures c.settle.new.tree c.in_ok-settle.ensures.ok
     c.in_ok-settle.ensures.grown c.remove.new.self.items made.new.emitted.items made.new.consumed c.enter_return.new.journal.items (room c.enter_return.new.journal) (room made.new.emitted)
     c.in-Some.place at c.remove.ensures.items made.ensures.emitted made.ensures.consumed journal

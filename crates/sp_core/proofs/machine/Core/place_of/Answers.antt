@@ -1,5 +1,4 @@
-use Rattle.std.proofs.Common.{◌≡◌, ◌<◌, ◌≤◌, length, refl, subst, sym, arith, None}
-use Rattle.std.specs.Prelude.{IfSome}
+use Rattle.std.proofs.Common.{◌≡◌, ◌<◌, ◌≤◌, length, refl, subst, arith, None}
 use Rattle.sp_group.specs.Machine.{ticket_at}
 use Rattle.sp_core.specs.Returning.{IsPlaceOf}
 use Rattle.sp_core.specs.Running.{Running}
