@@ -21,10 +21,10 @@ def program():
     return asked.stdout.rstrip("\n")
 
 
-def run(words, source, counts_lines=False):
-    """A run of the program with these words. `source` is the path of its input, or a function that writes the input
-    to a descriptor. A run that does not end with status 0 stops the bench."""
-    command, writes = [program(), *words], callable(source)
+def run(words, source, counts_lines=False, path=None):
+    """A run of the program with these words, or of the one at a path. `source` is the path of its input, or a function
+    that writes the input to a descriptor. A run that does not end with status 0 stops the bench."""
+    command, writes = [path or program(), *words], callable(source)
     with open(os.devnull if writes else source, "rb") as rows:
         begin = time.monotonic()
         child = subprocess.Popen(
@@ -44,9 +44,9 @@ def run(words, source, counts_lines=False):
     return Ran(seconds, usage.ru_utime + usage.ru_stime, usage.ru_maxrss * 1024, lines)
 
 
-def best(words, source, by="seconds"):
+def best(words, source, by="seconds", path=None):
     """The best of three runs, by the clock or by `processor`: what else runs on the machine only adds to a time."""
-    return min((run(words, source) for _ in range(3)), key=operator.attrgetter(by))
+    return min((run(words, source, path=path) for _ in range(3)), key=operator.attrgetter(by))
 
 
 def scattered(count):

@@ -1,11 +1,13 @@
 -- Events of which the first so many fit a plan, or never go back in time.
-use Rattle.std.proofs.Common.{◌≡◌, inl, inr, ℕ, zero, suc, ◌+◌, ◌-◌, ◌<◌, ◌≤◌, ◌≤ℤ◌, List, [], ◌∷◌, true, length, get_or, Some, refl, sym, subst, arith}
+use Rattle.std.proofs.Common.{◌≡◌, ◌⊎◌, inl, inr, ℕ, zero, suc, ◌+◌, ◌-◌, ◌<◌, ◌≤◌, ◌≤ℤ◌, List, [], ◌∷◌, ◌++◌, true, length, get_or, Some, refl, sym, subst, arith}
 use Rattle.std.proofs.lemmas.Bool.{cases_lt}
 use Rattle.std.specs.Prelude.{slice_get}
 use Rattle.std.proofs.lemmas.Int.{ints}
+use Rattle.std.proofs.lemmas.List.Elements.{All-push}
 use Rattle.sp_plan.specs.declared.event.Event.{Event}
 use Rattle.sp_plan.specs.declared.plan.Plan.{Plan}
 use Rattle.sp_plan.specs.Events.{AllFit, NeverGoesBack, fits}
+use Rattle.sp_plan.specs.WindowNumbers.{Good}
 
 -- of the events below this place, none has a time below that of one before it
 abbrev pub OrderedTo : ℕ → List Event → Type 0
@@ -76,3 +78,40 @@ fit_more q events n d event before inside is fit i x less xi = elim (cases_lt i 
 -- events of which all fit
 pub fit_all : (q : Plan) (events : List Event) (n : ℕ) → FitTo q n events → length events ≤ n → AllFit q events
 fit_all q events n fit most k d inside = fit k (get_or events k d) (omega arith) (there events k d inside)
+
+-- what stands in a list with one item more
+at_push : (events : List Event) (e : Event) (i : ℕ) (x : Event) → slice_get (events ++ e ∷ []) i ≡ Some x → (slice_get events i ≡ Some x) ⊎ ((i ≡ length events) × (x ≡ e))
+at_push [] e zero x is = inr (refl, cc is)
+at_push [] e (suc i) x is = absurd (cc is)
+at_push (f ∷ events) e zero x is = inl is
+at_push (f ∷ events) e (suc i) x is = elim (at_push events e i x is) [
+  | inl there ↦ inl there
+  | inr last ↦ inr (let at : suc i ≡ suc (length events) = omega (arith, last.0) in at, last.1)
+]
+
+-- an event that is not before the last one is before none
+before_none : (events : List Event) (e : Event) → NeverGoesBack events → ((last : Event) → slice_get events (length events - 1) ≡ Some last → last.time ≤ℤ e.time)
+    → (i : ℕ) (x : Event) → slice_get events i ≡ Some x → x.time ≤ℤ e.time
+before_none events e ordered last i x xi =
+    let inside = within events i x xi in
+    let final : slice_get events (length events - 1) ≡ Some (get_or events (length events - 1) x) = there events (length events - 1) x (omega (arith, inside)) in
+    let above = last (get_or events (length events - 1) x) final in
+    let below = ordered i (length events - 1) x (get_or events (length events - 1) x) (omega (arith, inside)) xi final in
+    omega (arith, ints, above, below)
+
+-- one event more, which fits and is not before the last one
+pub good_next : (q : Plan) (events : List Event) (e : Event) → Good q events → fits q e ≡ true
+    → ((last : Event) → slice_get events (length events - 1) ≡ Some last → last.time ≤ℤ e.time) → Good q (events ++ e ∷ [])
+good_next q events e good fit last = (All-push (λ (x : Event). fits q x ≡ true) events e good.0 fit, ordered)
+  where
+    ordered : NeverGoesBack (events ++ e ∷ [])
+    ordered i j x y le xi yj = elim (at_push events e i x xi) [
+      | inl one ↦ elim (at_push events e j y yj) [
+        | inl other ↦ good.1 i j x y le one other
+        | inr end ↦ subst (λ (z : Event). x.time ≤ℤ z.time) (sym end.1) (before_none events e good.1 last i x one)
+      ]
+      | inr one ↦ elim (at_push events e j y yj) [
+        | inl other ↦ absurd (let less = within events j y other in omega (arith, one.0))
+        | inr end ↦ let same : x ≡ y = cc (one.1, end.1) in subst (λ (z : Event). x.time ≤ℤ z.time) same (omega (arith, ints))
+      ]
+    ]

@@ -6,12 +6,14 @@ use crate::cutting::cut_rows;
 use crate::given::{events_of, plan_of};
 use crate::lines::{read_line, written_line};
 use crate::loads::loads;
+use crate::machine::machine;
 use crate::matching::moves;
 use crate::numbers::{numbers, shares};
 use crate::predicates::predicates;
 use crate::queries::{printed, same};
 use crate::rows::rows;
 use crate::sequence::matches;
+use crate::stepped::stepped;
 use crate::text::Answer;
 use crate::tokens::tokens;
 use crate::windows::windows;
@@ -76,21 +78,21 @@ fn answer_of_plan(
         "rows" => rows(alloc, plan, input, out),
         "line" => read_line(alloc, plan, input, out),
         "match" => written_line(alloc, plan, words, out),
+        "stepped" => stepped(alloc, plan, words, out),
         _ => {
             let events = events_of(alloc, plan, input)?;
-            answer_of_events(alloc, call, plan, &events, words.len() > 1, out)
+            answer_of_events(alloc, call, plan, &events, words, out)
         }
     }
 }
 
-// The same of the calls that are made on a plan and events; the input has ended where there is a second
-// word.
+// The same of the calls that are made on a plan and events.
 fn answer_of_events(
     alloc: Global,
     call: &str,
     plan: &Arc<Plan>,
     events: &[Event],
-    ended: bool,
+    words: &[String],
     out: &mut Answer,
 ) -> Result<(), AllocError>
     requires { IsCompiled (arc_value plan.now) }
@@ -98,8 +100,10 @@ fn answer_of_events(
     match call {
         "windows" => windows(alloc, plan, events, out),
         "moves" => moves(alloc, plan, events, out),
-        "plain" => matches(alloc, plan, events, ended, out),
+        // The input has ended where there is a second word.
+        "plain" => matches(alloc, plan, events, words.len() > 1, out),
         "holds" => predicates(alloc, plan, events, out),
+        "machine" => machine(alloc, plan, events, words, out),
         _ => Ok(out.text("no such call\n")),
     }
 }

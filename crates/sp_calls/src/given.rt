@@ -90,3 +90,19 @@ pub(crate) fn events_of(
 pub(crate) fn number(text: &str) -> u32 {
     text.parse().unwrap_or(0)
 }
+
+/// The same of a number that may be longer.
+pub(crate) fn long_number(text: &str) -> u64 {
+    text.parse().unwrap_or(0)
+}
+
+/// The numbers that a text lists, parted by commas, and none of a dash.
+pub(crate) fn numbers_of(alloc: Global, text: &str) -> Result<Vec<u32>, AllocError> {
+    let mut list = Vec::new(alloc);
+    for part in text.split(',') {
+        if part != "-" {
+            list.push(number(part))?;
+        }
+    }
+    Ok(list)
+}

@@ -1,5 +1,5 @@
 // Lines of matches, written and read back.
-use crate::given::number;
+use crate::given::{number, numbers_of};
 use crate::text::Answer;
 use sp_emit::{match_line, read_match_line};
 use sp_plan::{Listed, Match, Places, Plan};
@@ -30,13 +30,7 @@ pub(crate) fn read_line(
 
 // The numbers of events that a text lists, none of a dash; no numbers where they don't rise.
 fn places(alloc: Global, text: &str) -> Result<Option<Places>, AllocError> {
-    let mut list = Vec::new(alloc);
-    for part in text.split(',') {
-        if part != "-" {
-            list.push(number(part))?;
-        }
-    }
-    Places::new(alloc, &list)
+    Places::new(alloc, &numbers_of(alloc, text)?)
 }
 
 // The numbers of the events of each name, from name 0 on.
