@@ -9,8 +9,10 @@ mod law;
 mod number;
 mod places;
 mod read;
+mod state;
 mod write;
 
 pub use law::one_match;
 pub use read::read_match_line;
+pub use state::state_lines;
 pub use write::match_line;
