@@ -1,2 +1,4 @@
 mod Bytes
+mod Words
 mod Lines
+mod Alone
