@@ -1,7 +1,9 @@
 //! Schedules: lists of steps as texts, read and printed. What a schedule is stands in `specs/Schedules.antt`.
 #![tactic(auto)]
 
+mod cut;
 mod fault;
+mod number;
 mod print;
 mod read;
 mod step;
