@@ -1,2 +1,4 @@
+mod Answering
 mod Parts
 mod Numbers
+mod Labels

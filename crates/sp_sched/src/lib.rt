@@ -3,6 +3,7 @@
 
 mod cut;
 mod fault;
+mod label;
 mod number;
 mod print;
 mod read;
