@@ -2,3 +2,4 @@ mod Answering
 mod Parts
 mod Numbers
 mod Labels
+mod Steps

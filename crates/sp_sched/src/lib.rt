@@ -4,6 +4,7 @@
 mod cut;
 mod fault;
 mod label;
+mod line;
 mod number;
 mod print;
 mod read;
