@@ -3,3 +3,4 @@ mod Parts
 mod Numbers
 mod Labels
 mod Steps
+mod Reading
