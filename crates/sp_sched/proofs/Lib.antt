@@ -2,3 +2,9 @@ mod Bytes
 mod Words
 mod Lines
 mod Alone
+mod Answering
+mod Parts
+mod Numbers
+mod Labels
+mod Steps
+mod Reading

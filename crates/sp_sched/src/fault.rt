@@ -2,6 +2,7 @@ ghost use Rattle.std.specs.Prelude.{◌≡◌};
 ghost use Rattle.sp_sched.specs.declared.fault.SchedFault.TheVariants as f;
 
 use crate::Memory;
+use std::alloc::AllocFailed;
 
 /// Why a text was not read as a schedule.
 #[derive(Clone, Copy, Debug, Drop, PartialEq, Eq)]
@@ -16,6 +17,14 @@ impl From<Memory> for SchedFault {
     ghost from_gives = { λ _ fault. fault ≡ f.Memory };
 
     fn from(_: Memory) -> SchedFault {
+        SchedFault::Memory
+    }
+}
+
+impl<T: Drop> From<AllocFailed<T>> for SchedFault {
+    ghost from_gives = { λ _ fault. fault ≡ f.Memory };
+
+    fn from(_: AllocFailed<T>) -> SchedFault {
         SchedFault::Memory
     }
 }

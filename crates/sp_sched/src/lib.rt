@@ -1,8 +1,12 @@
 //! Schedules: lists of steps as texts, read and printed. What a schedule is stands in `specs/Schedules.antt`.
 #![tactic(auto)]
 
+mod cut;
 mod fault;
+mod label;
 mod law;
+mod line;
+mod number;
 mod print;
 mod read;
 mod step;
