@@ -8,3 +8,4 @@ mod Numbers
 mod Labels
 mod Steps
 mod Reading
+mod Standing

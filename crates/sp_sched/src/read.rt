@@ -1,6 +1,7 @@
 ghost use Rattle.std.specs.Prelude.{◌≡◌, ◌∷◌, ◌+◌, ◌<◌, ◌^◌, [], length, IfOk, IfErr, MatchOption, OnOk};
+ghost use Rattle.std.specs.List.{All};
 ghost use Rattle.sp_sched.specs.Schedules as s;
-ghost use Rattle.sp_sched.specs.Schedules.{IsFault, IsSchedule, lines};
+ghost use Rattle.sp_sched.specs.Schedules.{CanStand, IsFault, IsSchedule, lines};
 ghost use Rattle.sp_sched.specs.Reading.{Adds, IsFirstLine, IsLineFault};
 
 use crate::cut::cut;
@@ -50,10 +51,11 @@ fn take_line(
 }
 
 /// The steps of a schedule, one a line; blank lines are passed over. `BadStep` comes exactly where a line is
-/// neither blank nor a step, with the first such line.
+/// neither blank nor a step, with the first such line. Each number is in its range, and each label rises.
 pub fn read_schedule(alloc: Global, text: &[u8]) -> Result<Vec<TraceStep>, SchedFault>
     requires { length text.now < 2 ^ 32 }
     ensures steps { IfOk result (λ steps. IsSchedule text.now steps.items) }
+    ensures stand { IfOk result (λ steps. All CanStand steps.items) }
     ensures fault { IfErr result (IsFault text.now) }
 {
     let mut steps = Vec::new(alloc);
