@@ -12,6 +12,7 @@ use crate::numbers::{numbers, shares};
 use crate::predicates::predicates;
 use crate::queries::{printed, same};
 use crate::rows::rows;
+use crate::schedule::schedule;
 use crate::sequence::matches;
 use crate::stepped::stepped;
 use crate::text::Answer;
@@ -37,6 +38,7 @@ pub fn answer(
         "tokens" => tokens(alloc, input, &mut out)?,
         "cut" => cut_rows(alloc, words, input, &mut out)?,
         "loads" => loads(alloc, words, files, &mut out),
+        "schedule" => schedule(alloc, input, &mut out),
         _ => answer_of_words(alloc, call, words, input, &mut out)?,
     }
     out.into_text()

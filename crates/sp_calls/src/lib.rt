@@ -20,6 +20,7 @@ mod numbers;
 mod predicates;
 mod queries;
 mod rows;
+mod schedule;
 mod sequence;
 mod spoiling;
 mod stepped;
