@@ -19,6 +19,7 @@ mod returning;
 mod rolling;
 mod rooms;
 mod spawning;
+mod state;
 mod withheld;
 
 pub use emitted::Emitted;
