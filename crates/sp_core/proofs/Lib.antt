@@ -35,6 +35,7 @@ pub mod Numbering
 pub mod Owed
 pub mod Owner
 pub mod Popped
+pub mod Printed
 pub mod Pruning
 pub mod Range
 pub mod ReadyIds
