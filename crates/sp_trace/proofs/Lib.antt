@@ -1,0 +1,7 @@
+mod Worked
+mod WorkedRolledBack
+mod WorkedOutAtPromotion
+mod WorkedGroupWithinAReading
+mod WorkedAtTheBound
+mod WorkedBothOutcomes
+mod WorkedGroupsOutOfOrder
