@@ -1,3 +1,4 @@
+pub mod Going
 mod Worked
 mod WorkedRolledBack
 mod WorkedOutAtPromotion
