@@ -15,5 +15,5 @@ mod write;
 
 pub use law::one_match;
 pub use read::read_match_line;
-pub use state::state_lines;
+pub use state::{push_id, push_numbers, push_truth, state_lines};
 pub use write::match_line;

@@ -15,8 +15,8 @@ use std::fmt::Write;
 // Room for a line with few numbers.
 const ROOM: usize = 128;
 
-// Adds a number, or a dash where there is none.
-fn push_id(out: &mut String, id: Option<u64>) -> Result<(), Memory>
+/// Adds a number, or a dash where there is none.
+pub fn push_id(out: &mut String, id: Option<u64>) -> Result<(), Memory>
     ensures { OnOk result (string_bytes out.new ≡ string_bytes out.old ++ id_text id) }
 {
     match id {
@@ -26,15 +26,15 @@ fn push_id(out: &mut String, id: Option<u64>) -> Result<(), Memory>
     Ok(())
 }
 
-// Adds 1 where it is so, and else 0.
-fn push_truth(out: &mut String, truth: bool) -> Result<(), Memory>
+/// Adds 1 where it is so, and else 0.
+pub fn push_truth(out: &mut String, truth: bool) -> Result<(), Memory>
     ensures { OnOk result (string_bytes out.new ≡ string_bytes out.old ++ truth_text truth) }
 {
     out.push_str(if truth { "1" } else { "0" })
 }
 
-// Adds numbers joined by commas, or a dash where there are none.
-fn push_numbers(out: &mut String, numbers: &Numbers) -> Result<(), Memory>
+/// Adds numbers joined by commas, or a dash where there are none.
+pub fn push_numbers(out: &mut String, numbers: &Numbers) -> Result<(), Memory>
     ensures { OnOk result (string_bytes out.new ≡ string_bytes out.old ++ list_text numbers.now.list) }
 {
     push_list(out, numbers.list())

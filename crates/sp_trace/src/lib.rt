@@ -2,6 +2,8 @@
 //! `specs/Traced.antt`.
 #![tactic(auto)]
 
+mod answers;
+mod refusals;
 mod tracer;
 
 use std::alloc::AllocError;

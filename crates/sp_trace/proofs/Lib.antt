@@ -1,0 +1,8 @@
+pub mod Going
+mod Worked
+mod WorkedRolledBack
+mod WorkedOutAtPromotion
+mod WorkedGroupWithinAReading
+mod WorkedAtTheBound
+mod WorkedBothOutcomes
+mod WorkedGroupsOutOfOrder
