@@ -1,5 +1,6 @@
 pub mod Alike
 pub mod Ancestors
+pub mod AtATicket
 pub mod Carried
 pub mod Children
 pub mod ComesHome
@@ -32,11 +33,16 @@ pub mod Least
 pub mod Lending
 pub mod NothingRead
 pub mod Numbering
+pub mod OneStepOn
+pub mod OnTheBench
 pub mod Owed
 pub mod Owner
+pub mod PiecesOut
 pub mod Popped
 pub mod Pruning
 pub mod Range
+pub mod ReadApart
+pub mod ReadOn
 pub mod ReadyIds
 pub mod Refused
 pub mod Renewing
