@@ -41,9 +41,12 @@ impl Bench {
         requires none_out { core.machine.tickets ≡ [] }
         ensures { IfOk result (λ bench. bench ≡ benched core) }
     {
-        let _ = alloc;
-        let _ = core;
-        Err(AllocError)
+        // It tells what every core keeps.
+        let _ = &core.plan;
+        Ok(Bench {
+            core,
+            pieces: Vec::new(alloc),
+        })
     }
 
     /// Takes a step: an event that is fed fits the plan, and its time is not before the last one's; a lease asks
@@ -57,9 +60,16 @@ impl Bench {
         ensures err { OnErr result (self.new ≡ self.old) }
         ensures fault { IfErr result (IsBenchFault self.old step) }
     {
-        let _ = alloc;
-        let _ = step;
-        Err(CoreFault::Memory)
+        match step {
+            Step::Feed(event) => self.feed(alloc, event),
+            Step::End => self.end(),
+            Step::Spawn { parent, label } => self.spawn(alloc, parent, label),
+            Step::Lease { version, count } => self.lease(alloc, version, count),
+            Step::Event { ticket } => self.read(alloc, ticket),
+            Step::Return { ticket } => self.give_back(alloc, ticket),
+            Step::Roll { version } => self.roll(version),
+            Step::Finish => self.finish(),
+        }
     }
 
     /// The state as it is printed, with how far each ticket is read.

@@ -21,6 +21,7 @@ mod returning;
 mod rolling;
 mod rooms;
 mod spawning;
+mod stepping;
 mod withheld;
 
 pub use answer::Answer;
