@@ -39,6 +39,7 @@ pub mod Owed
 pub mod Owner
 pub mod PiecesOut
 pub mod Popped
+pub mod Printed
 pub mod Pruning
 pub mod Range
 pub mod ReadApart

@@ -4,6 +4,7 @@ pub mod Finishing
 pub mod Holding
 pub mod Homecoming
 pub mod Leasing
+pub mod Printing
 pub mod Renewing
 pub mod Returning
 pub mod Rooms

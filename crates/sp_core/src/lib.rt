@@ -21,6 +21,7 @@ mod returning;
 mod rolling;
 mod rooms;
 mod spawning;
+mod state;
 mod stepping;
 mod withheld;
 

@@ -4,4 +4,6 @@ mod Numbers
 mod Commas
 mod Named
 mod Lines
+mod StateTexts
+mod WorkedStates
 mod Written

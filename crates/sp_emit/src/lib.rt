@@ -1,6 +1,7 @@
 //! The lines of matches: written, and read back. What the line of a match is stands in
 //! `sp_plan/specs/Lines.antt`; which matches a plan can have, and that a text is the line of at most
-//! one of them, in `specs/Matches.antt`.
+//! one of them, in `specs/Matches.antt`. The lines of a state of the speculative machine are written
+//! too; what they are stands in `specs/StateLines.antt`.
 #![tactic(auto)]
 
 mod bindings;

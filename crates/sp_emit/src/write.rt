@@ -85,16 +85,24 @@ fn push_bindings(out: &mut String, plan: &Plan, bound: &[(u8, Places)]) -> Resul
     Ok(())
 }
 
-// Adds the consumed numbers, or a dash where there are none.
-fn push_used(out: &mut String, used: &Places) -> Result<(), Memory>
-    ensures text { OnOk result (string_bytes out.new ≡ string_bytes out.old ++ used_text used.now) }
-    ensures are { OnOk result (ArePlaces used.now) }
+// Adds numbers joined by commas, or a dash where there are none.
+pub(crate) fn push_list(out: &mut String, numbers: &[u32]) -> Result<(), Memory>
+    ensures text { OnOk result (string_bytes out.new ≡ string_bytes out.old ++ used_text numbers.now) }
+    ensures small { All (λ n. n < 2 ^ 32) numbers.now }
 {
-    if used.list().is_empty() {
+    if numbers.is_empty() {
         out.push_str("-")?;
         return Ok(());
     }
-    push_places(out, used)
+    push_commas(out, numbers)
+}
+
+// Adds the consumed numbers, or a dash where there are none.
+fn push_used(out: &mut String, used: &Places) -> Result<(), Memory>
+    ensures text { OnOk result (string_bytes out.new ≡ string_bytes out.old ++ used_text used.now) }
+    ensures are { ArePlaces used.now }
+{
+    push_list(out, used.list())
 }
 
 /// The line of a match: its window's number, its own number, each bound name with the numbers of its
