@@ -31,6 +31,7 @@ pub mod LeaseRefused
 pub mod Leased
 pub mod Least
 pub mod Lending
+pub mod LinesRead
 pub mod NothingRead
 pub mod Numbering
 pub mod OneStepOn
