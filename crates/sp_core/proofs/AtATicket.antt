@@ -5,7 +5,6 @@ use Rattle.std.specs.List.{insert, remove}
 use Rattle.std.specs.Prelude.{IfErr, IfOk, OnErr, OnOk}
 use Rattle.sp_piece.specs.Pieced.{Pieced, after_step, answer as answer_of}
 use Rattle.sp_piece.specs.declared.stepped.Stepped.TheVariants as p
-use Rattle.sp_group.specs.declared.refusal.Refusal.{Refusal}
 use Rattle.sp_group.specs.declared.refusal.Refusal.TheVariants as r
 use Rattle.sp_group.specs.declared.step.Step.{Step}
 use Rattle.sp_group.specs.declared.step.Step.TheVariants as s

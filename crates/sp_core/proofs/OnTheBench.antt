@@ -1,5 +1,5 @@
 -- What each kind of step makes of a bench.
-use Rattle.std.proofs.Common.{◌≡◌, ℕ, ◌+◌, ◌<◌, ◌≤◌, Bool, true, false, cond, ◌==◌, List, [], ◌∷◌, ◌++◌, ◌⊎◌, inl, inr, length, map, get_or, set, take, drop, suc, Option, Some, None, is_some, refl, sym, ap, subst, ◌∙◌, arith}
+use Rattle.std.proofs.Common.{◌≡◌, ℕ, ◌<◌, Bool, true, false, cond, ◌==◌, List, [], ◌∷◌, ◌++◌, ◌⊎◌, inl, inr, length, map, get_or, set, take, drop, suc, Option, Some, None, is_some, refl, sym, ap, subst, ◌∙◌, arith}
 use Rattle.std.specs.List.{All, remove}
 use Rattle.std.proofs.lemmas.Bool.Decides.{nat_tests}
 use Rattle.std.proofs.lemmas.List.Elements.{All-append, All-nil, All-cons, All-drop, All-set, All-take, All-weaker}
@@ -11,12 +11,12 @@ use Rattle.sp_group.specs.declared.step.Entry.{Entry}
 use Rattle.sp_group.specs.declared.step.Step.{Step}
 use Rattle.sp_group.specs.declared.step.Step.TheVariants as s
 use Rattle.sp_group.specs.Machine.{Machine, Ticket, Version, ticket_at, version_at}
-use Rattle.sp_group.specs.Refusing.{event_refusal, refusal, return_refusal}
+use Rattle.sp_group.specs.Refusing.{event_refusal, return_refusal}
 use Rattle.sp_group.specs.Effects.{effect, home, leased, read_if, read_on, returned, without}
 use Rattle.sp_group.specs.Effects as effects
-use Rattle.sp_group.specs.Steps.{Home, Leased, Stale, answer, event_answer, lease_answer as steps_lease, return_answer, steps}
+use Rattle.sp_group.specs.Steps.{Home, Leased, Stale, answer, event_answer, lease_answer as steps_lease, return_answer}
 use Rattle.sp_rules.specs.Kept.{NewestFirst}
-use Rattle.sp_rules.specs.Returning.{LendsSoFar, readings, read_to, reads_and_return}
+use Rattle.sp_rules.specs.Returning.{LendsSoFar, readings}
 use Rattle.sp_rules.specs.Schedules.{FitsStep}
 use Rattle.sp_core.specs.declared.answer.Answer.{Answer}
 use Rattle.sp_core.specs.declared.answer.Answer.TheVariants as a
@@ -24,7 +24,7 @@ use Rattle.sp_core.specs.declared.fault.CoreFault.{CoreFault}
 use Rattle.sp_core.specs.declared.fault.CoreFault.TheVariants as f
 use Rattle.sp_core.specs.declared.given.Given.TheVariants as g
 use Rattle.sp_core.specs.declared.lent.Lent.{Lent}
-use Rattle.sp_core.specs.Benched.{Benched, IsAnswerTo, IsBenchFault, IsTaken, answered, refused_by, taken}
+use Rattle.sp_core.specs.Benched.{Benched, IsAnswerTo, IsBenchFault, IsTaken, answered, refused_by}
 use Rattle.sp_core.specs.Carrying.{Carries, ticket_of}
 use Rattle.sp_core.specs.Faults.{IsFault}
 use Rattle.sp_core.specs.Holding.{Holding, IsCore, machine_of, running}
@@ -32,9 +32,8 @@ use Rattle.sp_core.specs.Leasing.{IsLeased, IsLent}
 use Rattle.sp_core.specs.OnBench.{BenchLaws, IsHeld, IsOnBench, on_bench, ticket_in, unread}
 use Rattle.sp_core.specs.Returning.{IsGiven, reading_entries}
 use Rattle.sp_core.specs.Running.{IsDone, Running, after, flat, once, refused}
-use Rattle.sp_core.specs.Settling.{IsWithin}
 use Rattle.sp_core.proofs.OneStepOn.{IsKnown, IsStep, all_known, found_at, goes_on, reached_by}
-use Rattle.sp_core.proofs.PiecesOut.{IsPieceAt, gone_at, read_at, unread_read, unread_without}
+use Rattle.sp_core.proofs.PiecesOut.{gone_at, read_at, unread_read, unread_without}
 use Rattle.sp_core.proofs.ReadApart.{found_unread, leaves_tickets, left_alone, same_answer, same_effect, same_lease, same_refusal}
 use Rattle.sp_core.proofs.ReadOn.{stays_within}
 

@@ -1,24 +1,22 @@
 -- A step more on a bench: steps lead to the new state, and each piece that stays still carries what is lent to its version.
-use Rattle.std.proofs.Common.{◌≡◌, ℕ, ◌+◌, ◌<◌, zero, suc, Bool, true, false, cond, ◌==◌, List, [], ◌∷◌, ◌++◌, ◌⊎◌, inl, inr, length, map, get_or, Some, None, refl, sym, ap, subst, ◌∙◌, arith}
-use Rattle.std.specs.List.{All, fold}
+use Rattle.std.proofs.Common.{◌≡◌, ℕ, ◌<◌, zero, suc, Bool, true, false, ◌==◌, List, [], ◌∷◌, ◌++◌, ◌⊎◌, inl, inr, length, map, get_or, Some, None, refl, sym, ap, subst, ◌∙◌, arith}
+use Rattle.std.specs.List.{All}
 use Rattle.std.proofs.lemmas.Bool.Decides.{nat_tests}
 use Rattle.std.proofs.lemmas.List.Sums.{fold-append}
-use Rattle.sp_plan.specs.declared.plan.Plan.{Plan}
 use Rattle.sp_plan.specs.declared.event.Event.{Event}
 use Rattle.sp_plan.specs.Runs.{State}
 use Rattle.sp_match.specs.public.Matching.{Stands}
 use Rattle.sp_piece.specs.Pieced.{Pieced}
 use Rattle.sp_group.specs.declared.step.Entry.{Entry}
 use Rattle.sp_group.specs.declared.step.Step.{Step}
-use Rattle.sp_group.specs.Machine.{Machine, Ticket, Version, inner, opening, ticket_at, version_at}
+use Rattle.sp_group.specs.Machine.{Machine, Ticket, inner, opening, ticket_at, version_at}
 use Rattle.sp_group.specs.Refusing.{refusal}
 use Rattle.sp_group.specs.Effects.{effect}
 use Rattle.sp_group.specs.Steps.{step, steps, unless_refused}
-use Rattle.sp_rules.specs.Kept.{Kept, NewestFirst}
+use Rattle.sp_rules.specs.Kept.{NewestFirst}
 use Rattle.sp_rules.specs.Returning.{read_to}
 use Rattle.sp_rules.specs.Schedules.{Fits, FitsStep, Reached}
-use Rattle.sp_rules.specs.StayingLent.{StaysLent}
-use Rattle.sp_core.specs.Carrying.{Carries, lent_events}
+use Rattle.sp_core.specs.Carrying.{lent_events}
 use Rattle.sp_core.specs.Running.{Running}
 use Rattle.sp_core.specs.OnBench.{BenchLaws, IsHeld, IsOnBench, on_bench, ticket_in, unread}
 use Rattle.sp_core.proofs.Journal.{fits_on}

@@ -1,6 +1,6 @@
 -- The pieces of a bench and the tickets of its machine: where the piece of a number stands, and what becomes of the tickets where it is read
 -- on and where it goes out.
-use Rattle.std.proofs.Common.{◌≡◌, ℕ, ◌<◌, zero, suc, Bool, true, false, cond, not, ◌==◌, List, [], ◌∷◌, length, map, get_or, set, Some, refl, sym, ap, subst, ◌∙◌, arith}
+use Rattle.std.proofs.Common.{◌≡◌, ℕ, ◌<◌, zero, suc, Bool, true, false, cond, not, ◌==◌, List, [], ◌∷◌, length, map, get_or, set, Some, refl, sym, ap, ◌∙◌, arith}
 use Rattle.std.specs.List.{remove}
 use Rattle.std.specs.Option.{option_map}
 use Rattle.std.proofs.lemmas.Bool.Decides.{nat_tests}

@@ -5,8 +5,7 @@ use Rattle.sp_plan.specs.declared.plan.Plan.{Plan}
 use Rattle.sp_group.specs.declared.refusal.Refusal.TheVariants as r
 use Rattle.sp_group.specs.declared.step.Step.{Step}
 use Rattle.sp_group.specs.declared.step.Step.TheVariants as s
-use Rattle.sp_group.specs.Rising.{least}
-use Rattle.sp_group.specs.Machine.{Machine, Ticket, Version, conflict, inner, is_bare, is_lent, is_read, is_suppressed, out_for, root_in, ticket_at, version_at}
+use Rattle.sp_group.specs.Machine.{Machine, Ticket, Version, conflict, is_bare, is_lent, is_read, is_suppressed, out_for, root_in, ticket_at, version_at}
 use Rattle.sp_group.specs.Refusing.{id_of, has_nothing_to_read, lease_refusal, refusal, refuse_for, refuse_if, roll_refusal}
 use Rattle.sp_group.specs.Effects.{any_spawned, child_spawned, effect, finished_one, new_matches, popped, rolled, settled}
 use Rattle.sp_group.specs.Seen.{version_seen}

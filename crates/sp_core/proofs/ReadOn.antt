@@ -5,7 +5,6 @@ use Rattle.sp_piece.specs.Pieced.{Pieced, after_step, answer}
 use Rattle.sp_piece.specs.declared.stepped.Stepped.{Stepped}
 use Rattle.sp_piece.specs.declared.stepped.Stepped.TheVariants as p
 use Rattle.sp_group.specs.declared.refusal.Refusal.TheVariants as r
-use Rattle.sp_group.specs.Machine.{Ticket}
 use Rattle.sp_group.specs.Refusing.{event_refusal, refuse_if}
 use Rattle.sp_group.specs.Effects.{read_if}
 use Rattle.sp_group.specs.Steps.{Answered, event_answer}

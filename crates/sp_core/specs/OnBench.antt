@@ -1,5 +1,5 @@
 -- What a bench keeps, and for which state of the machine it stands.
-use Rattle.std.specs.Prelude.{◌≡◌, ◌≤◌, ℕ, false, List, map, length, None, Some}
+use Rattle.std.specs.Prelude.{◌≡◌, ◌≤◌, false, List, map, length, None, Some}
 use Rattle.std.specs.List.{All}
 use Rattle.sp_plan.specs.Compiled.{IsCompiled}
 use Rattle.sp_group.specs.declared.step.Step.{Step}

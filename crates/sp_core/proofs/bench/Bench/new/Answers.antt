@@ -1,7 +1,5 @@
-use Rattle.std.proofs.Common.{◌≡◌, [], sym, ap, subst, ◌∙◌}
-use Rattle.sp_piece.specs.Pieced.{Pieced}
+use Rattle.std.proofs.Common.{ap, ◌∙◌}
 use Rattle.sp_core.specs.Holding.{holding}
-use Rattle.sp_core.specs.OnBench.{IsOnBench}
 use Rattle.sp_core.specs.Running.{Running}
 use Rattle.sp_core.proofs.OnTheBench.{put_on}
 use Rattle.sp_core.proofs.bench.Bench.new.Goals as goal

@@ -1,7 +1,7 @@
 use Rattle.std.proofs.Common.{◌≡◌, ℕ, None, sym, subst}
 use Rattle.sp_group.specs.declared.step.Step.TheVariants as s
-use Rattle.sp_core.specs.Leasing.{IsLeased, IsLent}
-use Rattle.sp_core.specs.Running.{after, refused}
+use Rattle.sp_core.specs.Leasing.{IsLent}
+use Rattle.sp_core.specs.Running.{refused}
 use Rattle.sp_core.proofs.machine.Core.lend.Goals as goal
 
 pub job-requires-clause-lent : goal.job-requires-clause-lent
