@@ -15,7 +15,7 @@ use Rattle.sp_core.specs.Running.{flat, once, refused}
 use Rattle.sp_core.specs.Holding.{Holding, IsReplayed, IsCore, machine_of, running}
 
 -- steps that fit, and then others that fit the state to which these lead
-fits_on : (q : Plan) (bound : ℕ) (m : Machine) (xs ys : List Step) → Fits q bound m xs → Fits q bound (steps q bound m xs) ys → Fits q bound m (xs ++ ys)
+pub fits_on : (q : Plan) (bound : ℕ) (m : Machine) (xs ys : List Step) → Fits q bound m xs → Fits q bound (steps q bound m xs) ys → Fits q bound m (xs ++ ys)
 fits_on q bound m [] ys a b = b
 fits_on q bound m (x ∷ xs) ys a b = (a.0, fits_on q bound (step q bound m x) xs ys a.1 b)
 

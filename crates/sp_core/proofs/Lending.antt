@@ -3,7 +3,7 @@ use Rattle.std.proofs.Common.{◌≡◌, ℕ, ◌+◌, ◌-◌, ◌<◌, ◌≤�
 use Rattle.std.specs.List.{All}
 use Rattle.std.proofs.lemmas.Bool.Decides.{nat_tests}
 use Rattle.std.proofs.lemmas.List.Elements.{All-nil, All-take, All-drop}
-use Rattle.std.proofs.lemmas.List.{length-take}
+use Rattle.std.proofs.lemmas.List.{length-drop, length-take}
 use Rattle.sp_plan.specs.declared.event.Event.{Event}
 use Rattle.sp_plan.specs.declared.plan.Plan.{Plan}
 use Rattle.sp_plan.specs.declared.plan.Schema.{Schema}
@@ -94,6 +94,12 @@ module _ (h : Holding) (lent : Lent) (n : ℕ) (a : Leases h lent n) (r : Reache
         high = omega (arith, first_is, count_most, reads, within.0);
         few = within.1;
       }
+
+  -- so they are as many as the ticket says
+  pub all_lent : length (lent_events h.events (ticket_of lent)) ≡ lent.count
+  all_lent =
+      let fed = is_fed in
+      omega (arith, fed.low, fed.high, length-take lent.count (drop (lent.first - 1) h.events), length-drop (lent.first - 1) h.events)
 
   held : Holds h.plan h.events (map ticket_of h.tickets) a.entry.entry
   held = found_of_all (Holds h.plan h.events (map ticket_of h.tickets)) h.tree.entries lent.version a.entry.entry a.core.versions a.entry.is

@@ -1,5 +1,6 @@
 pub mod Alike
 pub mod Ancestors
+pub mod AtATicket
 pub mod Carried
 pub mod Children
 pub mod ComesHome
@@ -30,14 +31,20 @@ pub mod LeaseRefused
 pub mod Leased
 pub mod Least
 pub mod Lending
+pub mod LinesRead
 pub mod NothingRead
 pub mod Numbering
+pub mod OneStepOn
+pub mod OnTheBench
 pub mod Owed
 pub mod Owner
+pub mod PiecesOut
 pub mod Popped
 pub mod Printed
 pub mod Pruning
 pub mod Range
+pub mod ReadApart
+pub mod ReadOn
 pub mod ReadyIds
 pub mod Refused
 pub mod Renewing

@@ -33,7 +33,7 @@ none_taken n (x ∷ ts) none = one (x.number == n) none (none_taken n ts)
     one false none rest = ap (λ us. x ∷ us) (rest none)
 
 -- the ticket at a place is taken out by its number
-taken_out : (ts : List Ticket) (place : ℕ) (t : Ticket) → NewestFirst ts → slice_get ts place ≡ Some t → remove ts place ≡ without t.number ts
+pub taken_out : (ts : List Ticket) (place : ℕ) (t : Ticket) → NewestFirst ts → slice_get ts place ≡ Some t → remove ts place ≡ without t.number ts
 taken_out [] place t newest at = absurd (cc)
 taken_out (x ∷ ts) zero t newest at =
     let same : x ≡ t = cc in
@@ -88,13 +88,13 @@ same_out (x ∷ ts) n id newest other = one (same_out ts n id newest.1) (x.numbe
         ∙ two (x.version == id) refl (other x refl)
     one rest false is other = ap (λ o. cond (x.version == id) (Some x.number) o) (rest other)
 
-map_remove : (ls : List Lent) (place : ℕ) → map ticket_of (remove ls place) ≡ remove (map ticket_of ls) place
-map_remove [] zero = refl
-map_remove [] (suc place) = refl
-map_remove (l ∷ ls) zero = refl
-map_remove (l ∷ ls) (suc place) = ap (λ ts. ticket_of l ∷ ts) (map_remove ls place)
+pub map_remove : {A B : Type 0} (f : A → B) (xs : List A) (place : ℕ) → map f (remove xs place) ≡ remove (map f xs) place
+map_remove f [] zero = refl
+map_remove f [] (suc place) = refl
+map_remove f (x ∷ xs) zero = refl
+map_remove f (x ∷ xs) (suc place) = ap (λ ys. f x ∷ ys) (map_remove f xs place)
 
 -- the tickets that are kept, where the one of a number is taken out of its place
 pub left_without : (ls : List Lent) (n place : ℕ) → NewestFirst (map ticket_of ls) → IsPlaceOf (map ticket_of ls) n place → map ticket_of (remove ls place) ≡ without n (map ticket_of ls)
 left_without ls n place newest at =
-    map_remove ls place ∙ taken_out (map ticket_of ls) place at.0 newest at.1 ∙ ap (λ (k : ℕ). without k (map ticket_of ls)) at.2
+    map_remove ticket_of ls place ∙ taken_out (map ticket_of ls) place at.0 newest at.1 ∙ ap (λ (k : ℕ). without k (map ticket_of ls)) at.2

@@ -1,5 +1,5 @@
 -- A bench as its callers see it: a machine whose pieces are held where they are read; and what a step does to it.
-use Rattle.std.specs.Prelude.{◌≡◌, ℕ, ◌≤◌, length, List, [], ◌∷◌, ◌++◌, Option, Some, None}
+use Rattle.std.specs.Prelude.{◌≡◌, ℕ, ◌≤◌, [], ◌∷◌, ◌++◌, Option, Some, None}
 use Rattle.sp_plan.specs.declared.plan.Plan.{Plan}
 use Rattle.sp_plan.specs.WindowNumbers.{Good}
 use Rattle.sp_group.specs.declared.refusal.Refusal.{Refusal}

@@ -1,11 +1,15 @@
-ghost use Rattle.std.specs.Prelude.{◌≡◌, [], IfOk, IfErr, OnOk, OnErr};
+ghost use Rattle.std.specs.Prelude.{◌≡◌, [], map, reverse, IfOk, IfErr, OnOk, OnErr};
 ghost use Rattle.sp_core.specs.Benched.{CanTake, IsAnswerTo, IsBenchFault, IsTaken, benched};
-ghost use Rattle.sp_group.specs.Seen.{seen, state_seen};
+ghost use Rattle.sp_core.specs.OnBench.{ticket_in, unread};
+ghost use Rattle.sp_group.specs.Seen.{seen, seen_ticket, state_seen, ticket_seen};
+ghost use Rattle.sp_rules.specs.Schedules.{Reached};
 
+use crate::stepping::bench_laws;
 use crate::{Answer, Core, CoreFault, Memory};
-use sp_group::{State, Step};
+use sp_group::{State, Step, TicketLine};
 use sp_piece::Piece;
-use std::alloc::{AllocError, Global};
+use sp_plan::Listed;
+use std::alloc::Global;
 use std::marker::Model;
 
 /// A core with its pieces that are out, each held where it is read. Contracts see the plan, the bound, and the
@@ -35,15 +39,30 @@ impl Model for Bench {
     ghost invariant = { λ b. IsOnBench b.core b.pieces.items };
 }
 
+// The lines of tickets with how far their pieces are read. The oldest line stands first, and the newest piece.
+fn with_readings(tickets: Listed<TicketLine>, pieces: &[Piece]) -> Listed<TicketLine>
+    requires { map seen_ticket tickets ≡ reverse (map ticket_seen (map unread (map ticket_in pieces.now))) }
+    ensures { map seen_ticket result ≡ reverse (map ticket_seen (map ticket_in pieces.now)) }
+{
+    let mut lines = tickets.into_vec();
+    for i in 0..lines.len() {
+        lines[i].read = pieces[pieces.len() - 1 - i].read();
+    }
+    Listed::of(lines)
+}
+
 impl Bench {
     /// Puts a core on the bench, no ticket of which is out.
     pub fn new(alloc: Global, core: Core) -> Result<Bench, Memory>
         requires none_out { core.machine.tickets ≡ [] }
         ensures { IfOk result (λ bench. bench ≡ benched core) }
     {
-        let _ = alloc;
-        let _ = core;
-        Err(AllocError)
+        // It tells what every core keeps.
+        let _ = &core.plan;
+        Ok(Bench {
+            core,
+            pieces: Vec::new(alloc),
+        })
     }
 
     /// Takes a step: an event that is fed fits the plan, and its time is not before the last one's; a lease asks
@@ -57,16 +76,27 @@ impl Bench {
         ensures err { OnErr result (self.new ≡ self.old) }
         ensures fault { IfErr result (IsBenchFault self.old step) }
     {
-        let _ = alloc;
-        let _ = step;
-        Err(CoreFault::Memory)
+        match step {
+            Step::Feed(event) => self.feed(alloc, event),
+            Step::End => self.end(),
+            Step::Spawn { parent, label } => self.spawn(alloc, parent, label),
+            Step::Lease { version, count } => self.lease(alloc, version, count),
+            Step::Event { ticket } => self.read(alloc, ticket),
+            Step::Return { ticket } => self.give_back(alloc, ticket),
+            Step::Roll { version } => self.roll(version),
+            Step::Finish => self.finish(),
+        }
     }
 
-    /// The state as it is printed, with how far each ticket is read.
+    /// The state as it is printed, with how far each ticket is read. It is one to which steps lead, and keeps
+    /// what each of these keeps.
     pub fn state(&self, alloc: Global) -> Result<State, Memory>
-        ensures { IfOk result (λ s. seen s ≡ state_seen self.now.plan self.now.machine) }
+        ensures state { IfOk result (λ s. seen s ≡ state_seen self.now.plan self.now.machine) }
+        ensures reached { Reached self.now.plan self.now.bound self.now.machine }
     {
-        let _ = alloc;
-        Err(AllocError)
+        bench_laws();
+        let mut state = self.core.state(alloc)?;
+        state.tickets = with_readings(state.tickets, &self.pieces);
+        Ok(state)
     }
 }

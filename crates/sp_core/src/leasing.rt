@@ -1,5 +1,5 @@
 // A lease: the next unread events of a version go out under a ticket.
-ghost use Rattle.std.specs.Prelude.{◌≡◌, ◌≤◌, ℕ, None, Some, IfOk, IfErr, OnOk, OnErr};
+ghost use Rattle.std.specs.Prelude.{◌≡◌, ◌≤◌, ℕ, length, None, Some, IfOk, IfErr, OnOk, OnErr};
 ghost use Rattle.sp_plan.specs.WindowNumbers.{size};
 ghost use Rattle.sp_group.specs.declared.step.Step.TheVariants as s;
 ghost use Rattle.sp_core.specs.Faults.{IsFault};
@@ -107,7 +107,8 @@ impl Core {
     fn job(&self, alloc: Global, lent: &Lent, count: u32) -> Result<Job, Memory>
         requires lent { IsLent self.now lent.now.version count lent.now }
         requires passes { refused self.now (s.Lease lent.now.version count) ≡ None }
-        ensures { IfOk result (IsLeased self.now lent.now.version count) }
+        ensures job { IfOk result (IsLeased self.now lent.now.version count) }
+        ensures events { IfOk result (λ job. length job.events ≡ lent.now.count) }
     {
         every_schedule();
         compiled_plans_are_lawful();
@@ -144,6 +145,27 @@ impl Core {
         put_out_for(&mut self.tree, version, ticket);
         enter(&mut self.journal, Step::Lease { version, count }, 1);
         Ok(())
+    }
+
+    // A lease that is not refused; answers what went out, and the job that carries it.
+    pub(crate) fn lend(
+        &mut self,
+        alloc: Global,
+        version: u64,
+        count: u32,
+    ) -> Result<(Lent, Job), Memory>
+        requires passes { refused self.old (s.Lease version count) ≡ None }
+        ensures ok { OnOk result (self.new ≡ after self.old (s.Lease version count)) }
+        ensures lent { IfOk result (λ pair. IsLent self.old version count pair.0) }
+        ensures job { IfOk result (λ pair. IsLeased self.old version count pair.1) }
+        ensures events { IfOk result (λ pair. length pair.1.events ≡ pair.0.count) }
+        ensures err { OnErr result (self.new ≡ self.old) }
+    {
+        let lent = self.lent(alloc, version, count)?;
+        let job = self.job(alloc, &lent, count)?;
+        let told = lent.copy(alloc)?;
+        self.put_out(alloc, lent, count)?;
+        Ok((told, job))
     }
 
     /// The next unread events of a version's window, at most `count`, 1 to 1,024, go out for reading, and the

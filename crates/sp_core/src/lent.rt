@@ -1,9 +1,11 @@
-ghost use Rattle.std.specs.Prelude.{◌≡◌, map, option_copied};
+ghost use Rattle.std.specs.Prelude.{◌≡◌, IfOk, map, option_copied};
 ghost use Rattle.std.specs.Option.{option_map};
 ghost use Rattle.sp_group.specs.Machine.{ticket_at};
 ghost use Rattle.sp_core.specs.Carrying.{ticket_of};
 
+use crate::Memory;
 use sp_base::Numbers;
+use std::alloc::Global;
 
 /// What went out under a ticket.
 #[derive(Drop)]
@@ -20,6 +22,22 @@ pub struct Lent {
     pub snapshot: Numbers,
     /// Whether the window's closing was lent behind them.
     pub closes: bool,
+}
+
+impl Lent {
+    // The same once more.
+    pub(crate) fn copy(&self, alloc: Global) -> Result<Lent, Memory>
+        ensures { IfOk result (λ copy. ticket_of copy ≡ ticket_of self.now) }
+    {
+        Ok(Lent {
+            ticket: self.ticket,
+            version: self.version,
+            first: self.first,
+            count: self.count,
+            snapshot: self.snapshot.copy(alloc)?,
+            closes: self.closes,
+        })
+    }
 }
 
 // What went out under the ticket of a number; None exactly where it is not out.

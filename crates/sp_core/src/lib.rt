@@ -22,6 +22,7 @@ mod rolling;
 mod rooms;
 mod spawning;
 mod state;
+mod stepping;
 mod withheld;
 
 pub use answer::Answer;

@@ -151,7 +151,7 @@ fn settle(
 
 impl Core {
     // Where the ticket of that number stands.
-    fn place_of(&self, ticket: u64) -> Option<usize>
+    pub(crate) fn place_of(&self, ticket: u64) -> Option<usize>
         ensures some { IfSome result (IsPlaceOf self.now.machine.tickets ticket) }
         ensures none { IsNone result → ticket_at self.now.machine.tickets ticket ≡ None }
     {

@@ -9,7 +9,7 @@ use Rattle.sp_core.specs.Running.{Running, refused}
 use Rattle.sp_core.specs.Holding.{holding}
 use Rattle.sp_core.proofs.Journal.{reached}
 use Rattle.sp_core.proofs.Leased.{leases}
-use Rattle.sp_core.proofs.Lending.{is_fed, lendable, is_leased, part_of}
+use Rattle.sp_core.proofs.Lending.{all_lent, is_fed, lendable, is_leased, part_of}
 use Rattle.sp_core.proofs.machine.Core.job.Goals as goal
 
 pub slice_bounds-copies-end : goal.slice_bounds-copies-end
@@ -51,8 +51,8 @@ invariant_of-result c =
           c.in_ok-copy.field-0 c.of.result (c.in_ok-copy.ensures ∙ ap (λ (v : Version). v.matcher) value) (c.of.ensures ∙ events);
     }
 
-pub returns : goal.returns
-returns c =
+pub returns-clause-job : goal.returns-clause-job
+returns-clause-job c =
     let h = holding c.self.inside in
     let lent = c.args.lent.now in
     let n = c.args.count in
@@ -66,3 +66,16 @@ returns c =
     rw (← c.self.view_is)
     (is_leased h lent n a (reached c.every_schedule.ensures h c.self.invariant) (c.compiled_plans_are_lawful.ensures h.plan c.self.invariant.compiled)
     _ refl refl refl (c.in_ok-copy.ensures ∙ ap (λ (v : Version). v.matcher) value) (c.of.ensures ∙ events) c.in_ok-copy-2.ensures refl)
+
+pub returns-clause-events : goal.returns-clause-events
+returns-clause-events c =
+    let h = holding c.self.inside in
+    let lent = c.args.lent.now in
+    let n = c.args.count in
+    let is = subst (λ (r : Running). IsLent r lent.version n lent) (sym c.self.view_is) c.requires.lent in
+    let passes = subst (λ (r : Running). refused r (s.Lease lent.version n) ≡ None) (sym c.self.view_is) c.requires.passes in
+    let a = leases h lent n c.self.invariant is passes in
+    let events : c.in_ok-events.events.items ≡ lent_events h.events (ticket_of lent) =
+    c.in_ok-events.ensures ∙ part_of c.deref.result.now h.events (lent.first - 1) lent.count c.deref.ensures.value in
+    ap length (c.of.ensures ∙ events)
+    ∙ all_lent h lent n a (reached c.every_schedule.ensures h c.self.invariant) (c.compiled_plans_are_lawful.ensures h.plan c.self.invariant.compiled)

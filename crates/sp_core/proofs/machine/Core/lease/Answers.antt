@@ -46,4 +46,4 @@ returns-clause-done c = (
 )
 
 pub returns-clause-job : goal.returns-clause-job
-returns-clause-job c = subst (λ (id : ℕ). IsLeased c.args.self.now id c.args.count c.in_ok-job.job) c.in_ok-lent.ensures.version c.in_ok-job.ensures
+returns-clause-job c = subst (λ (id : ℕ). IsLeased c.args.self.now id c.args.count c.in_ok-job.job) c.in_ok-lent.ensures.version c.in_ok-job.ensures.job
