@@ -1,0 +1,5 @@
+mod Totals
+mod Cells
+mod Whole
+mod Counting
+mod Columns
