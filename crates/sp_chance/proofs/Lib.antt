@@ -3,3 +3,5 @@ mod Cells
 mod Whole
 mod Counting
 mod Columns
+mod Rings
+mod Worked

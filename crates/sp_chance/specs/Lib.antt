@@ -1,2 +1,3 @@
 pub mod Matrices
 pub mod Counted
+pub mod Learned
