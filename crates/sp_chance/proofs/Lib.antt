@@ -5,3 +5,4 @@ mod Counting
 mod Columns
 mod Rings
 mod Worked
+mod Ordered

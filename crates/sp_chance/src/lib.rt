@@ -1,6 +1,7 @@
 //! Predictors: how likely it is that so many wanted events come while so many events pass.
 #![tactic(auto)]
 
+mod chances;
 mod even;
 mod laws;
 mod markov;
@@ -10,6 +11,7 @@ mod powers;
 mod predictor;
 mod steady;
 
+pub use chances::{Chance, Chances};
 pub use even::Even;
 pub use laws::rows_are_whole;
 pub use markov::Markov;
