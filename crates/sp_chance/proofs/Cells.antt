@@ -110,6 +110,11 @@ pub at-settled : (f : ℕ → ℕ → ℕ) (i j : ℕ) → i < 33 → j < 33 →
 unfolding settled
 at-settled f i j row column = at-matrix (settled_at f) i j row column
 
+pub settled-off : (f : ℕ → ℕ → ℕ) (i j : ℕ) → i < j → j < 33 → at (settled f) i j ≡ f i j
+settled-off f i j up column =
+    at-settled f i j (omega arith) column
+    ∙ ap (λ b. cond b (65536 - total 33 (others f i)) (f i j)) (eqb_not j i (omega arith))
+
 -- nothing on the diagonal, and the number there, are the whole row
 pub others-and-it : (f : ℕ → ℕ → ℕ) (i : ℕ) → i < 33 → total 33 (others f i) ≤ total 33 (f i)
 others-and-it f i row = total-le 33 (others f i) (f i) (λ j below. choice_le (j == i) (f i j))

@@ -101,3 +101,17 @@ total-once (suc n) p r once =
     (λ (not_here : p n ≡ false).
     omega (arith, total-suc n (λ j. cond (p j) r 0), ap (λ b. cond b r 0) not_here, total-once n p r once))
     (true_or_false (p n))
+
+-- what is nothing adds nothing
+pub total-nothing : (n : ℕ) (f : ℕ → ℕ) → ((k : ℕ) → k < n → f k ≡ 0) → total n f ≡ 0
+total-nothing n f nothing = total-same n f (λ _. 0) nothing ∙ total-zeros n
+
+-- nor does what is nothing behind the first states
+pub total-first : (m n : ℕ) (f : ℕ → ℕ) → m ≤ n → ((k : ℕ) → m ≤ k → k < n → f k ≡ 0) → total n f ≡ total m f
+total-first m zero f less nothing = let none : m ≡ 0 = omega arith in ap (λ k. total k f) (sym none)
+total-first m (suc n) f less nothing =
+    ⊎_elim
+    (λ (all : m ≡ suc n). ap (λ k. total k f) (sym all))
+    (λ (fewer : m < suc n).
+    omega (arith, total-suc n f, nothing n (omega arith) (omega arith), total-first m n f (omega arith) (λ k from below. nothing k from (omega arith))))
+    (eq-or-lt_of_le less)

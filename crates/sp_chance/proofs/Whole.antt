@@ -1,12 +1,14 @@
 -- Every row of every matrix sums up to 65,536.
-use Rattle.std.proofs.Common.{◌≡◌, ℕ, zero, suc, ◌+◌, ◌*◌, ◌/◌, ◌%◌, ◌<◌, ◌≤◌, Bool, true, false, cond, ◌&&◌, ◌==◌, List, [], ◌∷◌, get_or, refl, sym, ap, ◌∙◌, arith}
-use Rattle.std.proofs.Math.Nat.{le_of_mul-le-mul_right, mul-le-mul_left}
-use Rattle.std.proofs.lemmas.Bool.{eqb-true}
+use Rattle.std.proofs.Common.{◌≡◌, ℕ, zero, suc, ◌+◌, ◌*◌, ◌/◌, ◌%◌, ◌<◌, ◌≤◌, ⊎_elim, Bool, true, false, cond, ◌&&◌, ◌==◌, List, [], ◌∷◌, All, get_or, refl, sym, ap, ◌∙◌, arith}
+use Rattle.std.proofs.Math.Nat.{le_of_mul-le-mul_right, mul-le-mul_left, mul-zero, zero-mul, zero-div}
+use Rattle.std.proofs.lemmas.Bool.{eqb-true, cases_lt}
+use Rattle.std.proofs.lemmas.Bool.Decides.{nat_tests}
+use Rattle.std.proofs.lemmas.List.Elements.{All-tail}
 use Rattle.std.proofs.lemmas.List.Sums.{sum_by-cons}
 use Rattle.sp_chance.specs.Matrices.{total, at, AreWhole, others, settled, count, leaving, moved, transitions, joined, product, first, power, RowsAreWhole}
-use Rattle.sp_chance.specs.Counted.{IsMatrix, AreCounted, moved_by}
-use Rattle.sp_chance.proofs.Totals.{total-same, total-le, total-plus, total-times, total-zeros, total-turned, total-rounded, total-once, part-le-total}
-use Rattle.sp_chance.proofs.Cells.{others-and-it, settled-whole, length-settled, settled-same, others-same, at-written}
+use Rattle.sp_chance.specs.Counted.{IsMatrix, IsMove, AreCounted, moved_by}
+use Rattle.sp_chance.proofs.Totals.{total-same, total-le, total-plus, total-times, total-zeros, total-turned, total-rounded, total-once, total-nothing, part-le-total}
+use Rattle.sp_chance.proofs.Cells.{eqb_not, others-and-it, settled-off, settled-whole, length-settled, settled-same, others-same, at-written}
 use Rattle.sp_chance.proofs.Counting.{moved-counted}
 
 -- one row of a product, before it is rounded
@@ -41,9 +43,31 @@ pub product-whole : (a b : List ℕ) → AreWhole a → AreWhole b → AreWhole 
 unfolding product
 product-whole a b left right i row = settled-whole (joined a b) i row (joined-most a b left right i row)
 
-pub product-matrix : (a b : List ℕ) → AreWhole a → AreWhole b → IsMatrix (product a b)
+-- the products of row i and column j are nothing before j and behind i, where no move leads up
+pub nothing-before : (a b : List ℕ) → IsMatrix b → (i j k : ℕ) → k < j → j < 33 → at a i k * at b k j ≡ 0
+nothing-before a b right i j k before column = ap (λ x. at a i k * x) (right.falls k j before column) ∙ mul-zero (at a i k)
+
+pub nothing-behind : (a b : List ℕ) → IsMatrix a → (i j k : ℕ) → i < k → k < 33 → at a i k * at b k j ≡ 0
+nothing-behind a b left i j k behind below = ap (λ x. x * at b k j) (left.falls i k behind below) ∙ zero-mul (at b k j)
+
+no_way_up : (a b : List ℕ) → IsMatrix a → IsMatrix b → (i j : ℕ) → i < j → j < 33 → (k : ℕ) → k < 33 → at a i k * at b k j ≡ 0
+no_way_up a b left right i j up column k below =
+    ⊎_elim
+    (λ (before : k < j). nothing-before a b right i j k before column)
+    (λ (behind : j ≤ k). nothing-behind a b left i j k (omega arith) below)
+    (cases_lt k j)
+
+joined-falls : (a b : List ℕ) → IsMatrix a → IsMatrix b → (i j : ℕ) → i < j → j < 33 → joined a b i j ≡ 0
+joined-falls a b left right i j up column =
+    ap (λ x. x / 65536) (total-nothing 33 (λ k. at a i k * at b k j) (no_way_up a b left right i j up column))
+
+pub product-matrix : (a b : List ℕ) → IsMatrix a → IsMatrix b → IsMatrix (product a b)
 unfolding product
-product-matrix a b left right = record { size = length-settled (joined a b); whole = product-whole a b left right }
+product-matrix a b left right = record {
+  size = length-settled (joined a b);
+  whole = product-whole a b left.whole right.whole;
+  falls = λ i j up column. settled-off (joined a b) i j up column ∙ joined-falls a b left right i j up column;
+}
 
 pub product-written : (a b m : List ℕ) → ((n : ℕ) → n < 1089 → get_or m n 0 ≡ joined a b (n / 33) (n % 33)) → settled (at m) ≡ product a b
 unfolding product
@@ -95,9 +119,32 @@ pub transitions-whole : (pairs : List (ℕ × ℕ)) → AreWhole (transitions pa
 unfolding transitions
 transitions-whole pairs i row = settled-whole (moved pairs) i row (moved-most pairs i row)
 
-pub transitions-matrix : (pairs : List (ℕ × ℕ)) → IsMatrix (transitions pairs)
+none_up : (i j : ℕ) (p : ℕ × ℕ) → IsMove p → i < j → ((p.0 == i) && (p.1 == j)) ≡ false
+none_up i j p move up = let falls : p.1 ≤ p.0 = move.falls in grind (arith, nat_tests)
+
+count-up : (pairs : List (ℕ × ℕ)) → All IsMove pairs → (i j : ℕ) → i < j → count i j pairs ≡ 0
+count-up [] moves i j up = refl
+count-up (p ∷ ps) moves i j up =
+    let one : Bool → ℕ = λ b. cond b 1 0 in
+    omega (arith, sum_by-cons (λ q. cond ((q.0 == i) && (q.1 == j)) 1 0) p ps, ap one (none_up i j p (moves 0 p (omega arith)) up), count-up ps (All-tail IsMove p ps moves) i j up)
+
+not_down : (b c : Bool) (x : ℕ) → c ≡ false → x ≡ 0 → cond b (cond c 32768 0) x ≡ 0
+not_down true true x no_step none = absurd (cc)
+not_down true false x no_step none = refl
+not_down false c x no_step none = none
+
+moved-falls : (pairs : List (ℕ × ℕ)) → All IsMove pairs → (i j : ℕ) → i < j → moved pairs i j ≡ 0
+moved-falls pairs moves i j up =
+    not_down (leaving i pairs == 0) (j + 1 == i) (count i j pairs * 65536 / leaving i pairs) (eqb_not (j + 1) i (omega arith))
+    (ap (λ n. n * 65536 / leaving i pairs) (count-up pairs moves i j up) ∙ zero-div (leaving i pairs))
+
+pub transitions-matrix : (pairs : List (ℕ × ℕ)) → All IsMove pairs → IsMatrix (transitions pairs)
 unfolding transitions
-transitions-matrix pairs = record { size = length-settled (moved pairs); whole = transitions-whole pairs }
+transitions-matrix pairs moves = record {
+  size = length-settled (moved pairs);
+  whole = transitions-whole pairs;
+  falls = λ i j up column. settled-off (moved pairs) i j up column ∙ moved-falls pairs moves i j up;
+}
 
 pub transitions-written : (pairs : List (ℕ × ℕ)) (counts m : List ℕ) → AreCounted pairs counts
     → ((n : ℕ) → n < 1089 → get_or m n 0 ≡ moved_by counts (n / 33) (n % 33)) → settled (at m) ≡ transitions pairs
@@ -116,23 +163,28 @@ written-most pairs counts m counted written i row =
           at-written (moved_by counts) m written i j row column ∙ moved-counted pairs counts counted i j row column off),
     )
 
-pub first-matrix : (pairs : List (ℕ × ℕ)) → IsMatrix (first pairs)
+first-whole : (pairs : List (ℕ × ℕ)) → AreWhole (first pairs)
 unfolding first
-first-matrix pairs =
-    let one = product-matrix (transitions pairs) (transitions pairs) (transitions-whole pairs) (transitions-whole pairs) in
-    let two = product-matrix _ _ one.whole one.whole in
-    let four = product-matrix _ _ two.whole two.whole in
-    product-matrix _ _ four.whole four.whole
+first-whole pairs =
+    let one = product-whole (transitions pairs) (transitions pairs) (transitions-whole pairs) (transitions-whole pairs) in
+    let two = product-whole _ _ one one in
+    let four = product-whole _ _ two two in
+    product-whole _ _ four four
+
+power-whole : (one : List ℕ) → AreWhole one → (n : ℕ) → AreWhole (power one n)
+unfolding power
+power-whole one is zero = is
+power-whole one is (suc n) = product-whole (power one n) one (power-whole one is n) is
 
 pub power-matrix : (one : List ℕ) → IsMatrix one → (n : ℕ) → IsMatrix (power one n)
 unfolding power
 power-matrix one is zero = is
-power-matrix one is (suc n) = product-matrix (power one n) one (power-matrix one is n).whole is.whole
+power-matrix one is (suc n) = product-matrix (power one n) one (power-matrix one is n) is
 
 pub rows-are-whole : RowsAreWhole
 rows-are-whole = record {
   steps = transitions-whole;
   products = product-whole;
-  sixteen = λ pairs. (first-matrix pairs).whole;
-  powers = λ pairs n. (power-matrix (first pairs) (first-matrix pairs) n).whole;
+  sixteen = first-whole;
+  powers = λ pairs n. power-whole (first pairs) (first-whole pairs) n;
 }

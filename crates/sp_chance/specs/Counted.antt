@@ -3,10 +3,11 @@ use Rattle.std.specs.Prelude.{◌≡◌, ℕ, ◌+◌, ◌*◌, ◌/◌, ◌%◌
 use Rattle.std.specs.List.{count_by, range_with_len}
 use Rattle.sp_chance.specs.Matrices.{at, AreWhole, power}
 
--- 33 rows of 33 numbers, and each row's sum is 65,536
+-- 33 rows of 33 numbers, each row's sum 65,536, and nothing where more events would be wanted than before
 pub record IsMatrix (m : List ℕ) : Type 0 where
   pub size : length m ≡ 1089
   pub whole : AreWhole m
+  pub falls : (i j : ℕ) → i < j → j < 33 → at m i j ≡ 0
 
 -- a pair that is learned: from 1 to 32 wanted events to as many or fewer
 pub record IsMove (p : ℕ × ℕ) : Type 0 where

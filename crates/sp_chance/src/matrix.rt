@@ -26,7 +26,8 @@ pub(crate) fn multiply(left: &[u32], right: &[u32], target: &mut [u32])
     settle(target);
 }
 
-// Each number is at most the whole, so that the sum is far below 2 to the power of 64.
+// The products before the column and behind the row are 0, since no step leads up. Each number is at most
+// the whole, so that the sum is far below 2 to the power of 64.
 fn sum_of_products(left: &[u32], right: &[u32], row: usize, column: usize) -> u64
     requires left { IsMatrix left.now }
     requires right { IsMatrix right.now }
@@ -35,7 +36,7 @@ fn sum_of_products(left: &[u32], right: &[u32], row: usize, column: usize) -> u6
     ensures { result ≡ total 33 (λ k. at left.now row k * at right.now k column) }
 {
     let mut sum = 0;
-    for between in 0..STATES {
+    for between in column..row + 1 {
         let one = u64::from(left[row * STATES + between]);
         let other = u64::from(right[between * STATES + column]);
         sum += one * other;

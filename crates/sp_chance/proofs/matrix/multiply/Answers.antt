@@ -23,4 +23,4 @@ returns-clause-value c =
 pub returns-clause-matrix : goal.returns-clause-matrix
 returns-clause-matrix c =
     let value = c.settle.ensures ∙ product-written _ _ c.loop-cell.target (λ n below. c.loop-cell.invariant n (omega arith)) in
-    subst IsMatrix (sym value) (product-matrix _ _ c.requires.left.whole c.requires.right.whole)
+    subst IsMatrix (sym value) (product-matrix _ _ c.requires.left c.requires.right)

@@ -25,4 +25,4 @@ returns-clause-value c =
 pub returns-clause-matrix : goal.returns-clause-matrix
 returns-clause-matrix c =
     let value = c.settle.ensures ∙ transitions-written c.args.pairs.now.items _ c.loop-cell.target c.count.ensures (λ n below. c.loop-cell.invariant n (omega arith)) in
-    subst IsMatrix (sym value) (transitions-matrix c.args.pairs.now.items)
+    subst IsMatrix (sym value) (transitions-matrix c.args.pairs.now.items c.requires.moves)
