@@ -1,0 +1,52 @@
+-- What a predictor has learned, and how likely it holds a completion to be.
+use Rattle.std.specs.Prelude.{◌≡◌, ℕ, ◌+◌, ◌-◌, ◌/◌, ◌<◌, ◌≤◌, Bool, List, [], ◌∷◌, ◌++◌, min, All, length, nat_le, ◌==◌, ◌&&◌, if◌then◌else◌}
+use Rattle.circular_buffer.specs.Buffer.{Buffer, keep_last}
+use Rattle.sp_chance.specs.Matrices.{at, first, power}
+use Rattle.sp_chance.specs.Counted.{IsMove, first_columns}
+
+-- the last pairs, how many were learned since matrices were built, and of which pairs these were built
+pub record Learned : Type 0 where
+  pub ring : List (ℕ × ℕ)
+  pub since : ℕ
+  pub built : List (ℕ × ℕ)
+
+-- of nothing yet
+abbrev pub fresh : Learned
+fresh = record { ring = []; since = 0; built = [] }
+
+-- a pair that counts: from 1 to 32 wanted events to as many or fewer
+abbrev pub is_move : ℕ → ℕ → Bool
+is_move from to = nat_le 1 from && nat_le from 32 && nat_le to from
+
+-- the last 256 pairs, with one more
+abbrev pub with_pair : List (ℕ × ℕ) → ℕ → ℕ → List (ℕ × ℕ)
+with_pair ring from to = keep_last 256 (ring ++ (from, to) ∷ [])
+
+-- one pair more: each 1,024th builds the matrices anew, and what doesn't count changes nothing
+abbrev pub learned : Learned → ℕ → ℕ → Learned
+learned m from to =
+    let ring = with_pair m.ring from to in
+    if is_move from to then
+    if m.since + 1 == 1024 then record { ring = ring; since = 0; built = ring }
+    else record { ring = ring; since = m.since + 1; built = m.built }
+    else m
+
+-- how many times sixteen events begin, at most 16
+abbrev pub sixteens : ℕ → ℕ
+sixteens events = min ((events + 15) / 16) 16
+
+-- how likely so many wanted events come while so many events pass, in 65,536ths
+abbrev pub chance_of : List (ℕ × ℕ) → ℕ → ℕ → ℕ
+chance_of pairs left events =
+    if left == 0 then 65536
+    else if events == 0 then 0
+    else at (power (first pairs) (sixteens events - 1)) (min left 32) 0
+
+-- the numbers at hand are those of the pairs that they were built from
+pub record IsSound (recent : Buffer (ℕ × ℕ)) (since : ℕ) (built : Buffer (ℕ × ℕ)) (columns : List ℕ) : Type 0 where
+  pub room : recent.capacity ≡ 256
+  pub few : length recent.items ≤ 256
+  pub moves : All IsMove recent.items
+  pub due : since < 1024
+  pub copy : built.capacity ≡ 256
+  pub kept : columns ≡ first_columns (first built.items)

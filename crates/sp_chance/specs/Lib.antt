@@ -1,0 +1,4 @@
+pub mod Matrices
+pub mod Counted
+pub mod Learned
+pub mod Shares

@@ -1,0 +1,19 @@
+//! Predictors: how likely it is that so many wanted events come while so many events pass.
+#![tactic(auto)]
+
+mod chances;
+mod even;
+mod laws;
+mod markov;
+mod matrix;
+mod moves;
+mod powers;
+mod predictor;
+mod steady;
+
+pub use chances::{Chance, Chances};
+pub use even::Even;
+pub use laws::rows_are_whole;
+pub use markov::Markov;
+pub use predictor::Predictor;
+pub use steady::Steady;

@@ -1,0 +1,24 @@
+ghost use Rattle.std.specs.Prelude.{◌≡◌, ℕ, List};
+
+/// Tells how likely it is that an open group completes. Nothing rests on its numbers but the choice of the
+/// work that is done first.
+pub trait Predictor: Drop + Send {
+    /// Its name.
+    ghost named: { Self → List ℕ };
+
+    /// What `chance` answers for each pair of numbers.
+    ghost means: { Self → ℕ → ℕ → ℕ };
+
+    /// The name by which it is chosen.
+    fn name(&self) -> &str
+        ensures { result.now ≡ named self.now };
+
+    /// A group that wanted `from` events wants `to` after one more. The name stays; nothing is promised of
+    /// the numbers.
+    fn learn(&mut self, from: u32, to: u32)
+        ensures { named self.new ≡ named self.old };
+
+    /// How likely `left` wanted events come among the next `events`, in 65,536ths; more counts as the whole.
+    fn chance(&self, left: u32, events: u32) -> u32
+        ensures { result ≡ means self.now left events };
+}
