@@ -1,1 +1,4 @@
+pub mod Standing
+pub mod Climbing
+pub mod Searched
 mod Worked

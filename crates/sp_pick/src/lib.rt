@@ -3,3 +3,6 @@
 #![tactic(auto)]
 
 mod key;
+mod surviving;
+
+pub use surviving::{survival, survival_with};
