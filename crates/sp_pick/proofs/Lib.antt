@@ -1,4 +1,5 @@
 pub mod Standing
 pub mod Climbing
 pub mod Searched
+pub mod Sorting
 mod Worked

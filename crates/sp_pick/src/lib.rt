@@ -3,6 +3,12 @@
 #![tactic(auto)]
 
 mod key;
+mod picking;
 mod surviving;
 
+pub use picking::pick;
+use std::alloc::AllocError;
 pub use surviving::{survival, survival_with};
+
+/// Want of memory. Any call that allocates may answer it.
+pub type Memory = AllocError;
