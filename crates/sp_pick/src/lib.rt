@@ -3,9 +3,11 @@
 #![tactic(auto)]
 
 mod key;
+mod labelling;
 mod picking;
 mod surviving;
 
+pub use labelling::next_label;
 pub use picking::pick;
 use std::alloc::AllocError;
 pub use surviving::{survival, survival_with};
