@@ -1,0 +1,20 @@
+use Rattle.std.proofs.Common.{arith, ◌≡◌, ℕ, ◌+◌, ◌<◌, List, Option, ap, ◌∙◌, get_or, set, length, length-set, unwrap_or, inl, inr}
+use Rattle.std.proofs.lemmas.Bool.{cases_eq}
+use Rattle.std.proofs.lemmas.Grind.{common_steps}
+use Rattle.sp_pick.specs.Paths.{climbed}
+use Rattle.sp_pick.proofs.Climbing.{climb_step}
+use Rattle.sp_pick.proofs.surviving.path_up.Goals as goal
+
+written : (items : List ℕ) (i v : ℕ) (f : ℕ → ℕ) → i < length items → ((k : ℕ) → k < i → get_or items k 0 ≡ f k) → v ≡ f i → (k : ℕ) → k < i + 1 → get_or (set items i v) k 0 ≡ f k
+written items i v f within before is k low = elim (cases_eq k i) [ inl same ↦ grind (arith, common_steps, is, same) | inr other ↦ let h = before k (omega arith) in grind (arith, common_steps, h) ]
+
+pub loop-slot-preserved : goal.loop-slot-preserved
+loop-slot-preserved g c = (
+  climb_step c.args.tree.now.entries c.loop-slot.at c.loop-slot.slot-index c.args.id c.unwrap_or-at.result c.loop-slot.invariant.0
+      (c.unwrap_or-at.ensures ∙ ap (λ (o : Option ℕ). unwrap_or o c.loop-slot.at) c.parent.ensures),
+  length-set c.loop-slot.slot-items c.loop-slot.slot-index _ ∙ c.loop-slot.invariant.1,
+  written c.loop-slot.slot-items c.loop-slot.slot-index _ (λ k. climbed c.args.tree.now.entries k c.args.id) (within (length c.loop-slot.slot-items) c.loop-slot.slot-index c.loop-slot.invariant.1 c.loop-slot-test.true) c.loop-slot.invariant.2 c.loop-slot.invariant.0,
+)
+  where
+    within : (long i : ℕ) → long ≡ 64 → i < 64 → i < long
+    within long i is low = omega arith
