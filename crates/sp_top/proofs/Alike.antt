@@ -23,8 +23,8 @@ use Rattle.sp_plan.specs.Sequential.{Progress, match_of, visible, after_window, 
 use Rattle.sp_rows.specs.Rows.{RowsRead, ColumnAt, nothing, place_of, columns_at, is_place, header_or_fault, event_or_fault, first_fault, row_of_cells, by_cells}
 use Rattle.sp_rows.specs.Cells.{RowCells, blank, one, several, row_cells}
 use Rattle.sp_top.specs.Alike.{Alike, NamesAlike, OpeningsAlike}
-use Rattle.sp_top.specs.Reading.{Reading, start, with_result, with_row, stopped_by, take_row, read}
-use Rattle.sp_top.specs.declared.input.Failure.TheVariants.{Limit}
+use Rattle.sp_intake.specs.Reading.{Reading, start, with_result, with_row, stopped_by, take_row, read}
+use Rattle.sp_intake.specs.declared.input.Failure.TheVariants.{Limit}
 
 module _ (q p : Plan) (alike : Alike q p) where
   -- ---- rows

@@ -1,7 +1,8 @@
 -- Words that are a command, and words that are none.
 use Rattle.std.proofs.Common.{◌≡◌, ℕ, List, [], ◌∷◌, sym, subst}
 use Rattle.std.specs.Prelude.{codes}
-use Rattle.sp_top.specs.Commands.{Place, word, file, IsRun, IsCommand, with_text, with_file, IsNoCommand}
+use Rattle.sp_load.specs.Places.{Place, word, file}
+use Rattle.sp_top.specs.Commands.{IsRun, IsCommand, with_text, with_file, IsNoCommand}
 
 module _ (words : List (List ℕ)) (first option rest : List ℕ) (are : words ≡ first ∷ option ∷ rest ∷ []) where
   pub text_command : IsRun first → option ≡ codes "-q" → IsCommand words (word rest)

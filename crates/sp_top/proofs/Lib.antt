@@ -1,15 +1,8 @@
 mod Alike
-mod Answered
-mod Answering
 mod Commands
 mod Completing
-mod FewEvents
-mod Leading
 mod LinesOf
 mod OneOutcome
 mod OneRun
-mod ReadSoFar
-mod Refusals
-mod FitReading
-mod Told
+mod Running
 mod Words

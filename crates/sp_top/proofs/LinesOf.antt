@@ -7,7 +7,7 @@ use Rattle.sp_io.specs.Outside.{Told, Grew, GrewWithin}
 use Rattle.sp_plan.specs.declared.plan.Plan.{Plan}
 use Rattle.sp_plan.specs.declared.found.Match.{Match}
 use Rattle.sp_plan.specs.Lines.{line, text}
-use Rattle.sp_top.proofs.Told.{grew_more, within_all, within_more}
+use Rattle.sp_answer.proofs.Grew.{grew_more, within_all, within_more}
 
 module _ (q : Plan) (ms : List Match) (i : ℕ) where
   split : text q ms ≡ text q (take i ms) ++ text q (drop i ms)

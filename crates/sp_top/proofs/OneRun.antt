@@ -23,8 +23,10 @@ use Rattle.sp_compile.specs.Scopes.{Scope, PatternName, pattern_names}
 use Rattle.sp_compile.specs.Stands.{Literals, none, some, literal_of, all_trees, StandsForDefinition, StandForNames, StandsForOpening, Stands, definition_of}
 use Rattle.sp_compile.specs.Told.{IsPlanOf}
 use Rattle.sp_top.specs.Alike.{Alike, HoldAlike, NamesAlike, OpeningsAlike}
-use Rattle.sp_top.specs.Outcome.{Outcome, run_outcome, status_of, is_end, windows_text}
-use Rattle.sp_top.specs.Reading.{Reading, read, stop_of}
+use Rattle.sp_answer.specs.Outcome.{Outcome, outcome}
+use Rattle.sp_top.specs.Ends.{status_of}
+use Rattle.sp_top.specs.Run.{run_outcome, windows_text}
+use Rattle.sp_intake.specs.Reading.{Reading, read, stop_of, is_end}
 use Rattle.sp_top.proofs.Alike.{read_same, whole_same, lines_same}
 
 -- trees have one list of texts
@@ -95,7 +97,7 @@ module _ (truth : OneTruth) (query : Query) (x y : Plan) (first : Stands x query
 -- alike plans have one outcome
 module _ (x y : Plan) (alike : Alike x y) where
   abbrev of_reading : Bool → Reading → Outcome
-  of_reading ended r = record { status = status_of (stop_of r ended); text = windows_text x r.events (stop_of r ended) }
+  of_reading ended r = outcome (status_of (stop_of r ended)) (windows_text x r.events (stop_of r ended))
 
   text_same : (events : List Event) (ended : Bool) → text x (whole x events ended).matches ≡ text y (whole y events ended).matches
   text_same events ended = lines_same x y alike (whole x events ended).matches ∙ ap (λ (w : Progress). text y w.matches) (whole_same x y alike events ended)
@@ -104,7 +106,7 @@ module _ (x y : Plan) (alike : Alike x y) where
   outcome_same bytes ended =
       let r = read y bytes ended in
       ap (of_reading ended) (read_same x y alike bytes ended)
-      ∙ (λ i. record { status = status_of (stop_of r ended); text = text_same r.events (is_end (stop_of r ended)) i })
+      ∙ ap (outcome (status_of (stop_of r ended))) (text_same r.events (is_end (stop_of r ended)))
 
 pub plans_run_alike : OneTruth → (query : Query) (x y : Plan) → IsPlanOf x query → IsPlanOf y query → (bytes : List ℕ) (ended : Bool) → run_outcome x bytes ended ≡ run_outcome y bytes ended
 plans_run_alike truth query x y first second = outcome_same x y (stand_alike truth query x y first.stands second.stands)

@@ -1,12 +1,6 @@
--- Which words are a command, and where its query stands.
+-- Which words are a command, where its query stands, and which files it names.
 use Rattle.std.specs.Prelude.{◌≡◌, ◌⊎◌, ℕ, List, [], ◌∷◌, codes}
-use Rattle.sp_top.specs.declared.command.Place.{Place as FoundPlace}
-use Rattle.sp_top.specs.declared.command.Place.TheVariants.{Word, File}
-
--- a query stands in a word of the command, or in the file of a name
-pub data Place : Type 0 where
-  word : (text : List ℕ) → Place
-  file : (name : List ℕ) → Place
+use Rattle.sp_load.specs.Places.{Place, word, file}
 
 -- the commands that run a query over the input
 abbrev pub IsRun : List ℕ → Type 0
@@ -21,7 +15,11 @@ pub data IsCommand : List (List ℕ) → Place → Type 0 where
 abbrev pub IsNoCommand : List (List ℕ) → Type 0
 IsNoCommand words = (place : Place) → IsCommand words place → ⊥
 
--- the place that was found
-abbrev pub place_of : FoundPlace → Place
-place_of (Word text) = word text.now
-place_of (File name) = file name.now
+-- the file of a query, where it stands in one
+abbrev pub files_at : Place → List (List ℕ)
+files_at (word text) = []
+files_at (file name) = name ∷ []
+
+-- the words give these names of files, in this order
+abbrev pub GivesFiles : List (List ℕ) → List (List ℕ) → Type 0
+GivesFiles words names = (IsNoCommand words × (names ≡ [])) ⊎ ((place : Place) × IsCommand words place × (names ≡ files_at place))

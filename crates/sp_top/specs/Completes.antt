@@ -1,17 +1,18 @@
 -- Where nothing stands in the way, a call answers done or want of memory.
 use Rattle.std.specs.Prelude.{◌≡◌, ◌⊎◌, ◌≤◌, ℕ, true, List, [], length, Some}
-use Rattle.sp_cut.specs.CutRows.{without_mark}
-use Rattle.sp_io.specs.Outside.{SourceState, SinkState, ToldFiles, Grew, Rose, first_file}
+use Rattle.sp_io.specs.Outside.{SourceState, SinkState, ToldFiles, Grew, first_file}
 use Rattle.sp_plan.specs.declared.event.Event.{Event}
 use Rattle.sp_plan.specs.declared.plan.Plan.{Plan}
 use Rattle.sp_plan.specs.Lines.{text}
 use Rattle.sp_plan.specs.Sequential.{whole}
-use Rattle.sp_top.specs.declared.input.Stop.TheVariants.{End}
-use Rattle.sp_top.specs.Answer.{Outside, Filed, Promise}
-use Rattle.sp_top.specs.Commands.{Place, word, file, IsCommand}
-use Rattle.sp_top.specs.Outcome.{longest_query}
-use Rattle.sp_top.specs.Queries.{IsPlanFor}
-use Rattle.sp_top.specs.Reading.{read, stop_of}
+use Rattle.sp_intake.specs.declared.input.Stop.TheVariants.{End}
+use Rattle.sp_intake.specs.Reading.{read, stop_of}
+use Rattle.sp_load.specs.Places.{Place, word, file, longest_query, without_mark}
+use Rattle.sp_load.specs.Queries.{IsPlanFor}
+use Rattle.sp_answer.specs.Ran.{Outside}
+use Rattle.sp_answer.specs.Promise.{Filed, NoFaultRose}
+use Rattle.sp_top.specs.Commands.{IsCommand, GivesFiles}
+use Rattle.sp_top.specs.Outcome.{Promise}
 
 -- The query's text stands there and is within its limit; of a file the bytes are told.
 pub data StandsAt (files : ToldFiles) : Place → List ℕ → Type 0 where
@@ -32,11 +33,9 @@ pub record ReadsToEnd (q : Plan) (input : SourceState) (bytes : List ℕ) : Type
   pub told : input.left ≡ Some bytes
   pub stop : stop_of (read q bytes true) true ≡ End
 
--- No count of faults rose: not that of the input, nor of the output, nor of the query's file where the words give one.
-pub record NoFaultRose (words : List (List ℕ)) (before after : Filed) (old new : Outside) : Type 0 where
-  pub input : Rose old.input.faults new.input.faults → ⊥
-  pub out : Rose old.out.faults new.out.faults → ⊥
-  pub query_file : (name : List ℕ) → IsCommand words (file name) → Rose (before.faults name) (after.faults name) → ⊥
+-- No count of faults rose: not that of the input, nor of the output, nor of a file that the words give.
+abbrev pub NoneRose : List (List ℕ) → Filed → Filed → Outside → Outside → Type 0
+NoneRose words before after old new = (names : List (List ℕ)) → GivesFiles words names → NoFaultRose names before after old new
 
 -- the text of the matches of all windows of these events
 abbrev pub whole_text : Plan → List Event → List ℕ
@@ -52,5 +51,5 @@ pub record IsDone (q : Plan) (bytes : List ℕ) (old new : Outside) (result : �
 abbrev pub Completes : Type 0
 Completes = (words : List (List ℕ)) (before after : Filed) (old new : Outside) (err_old err_new : SinkState) (result : ℕ) (q : Plan) (bytes : List ℕ)
     → Promise words before after old new err_old err_new result
-    → AsksFor words before.held q → ReadsToEnd q old.input bytes → NoFaultRose words before after old new
+    → AsksFor words before.held q → ReadsToEnd q old.input bytes → NoneRose words before after old new
     → IsDone q bytes old new result ⊎ (result ≡ 1)

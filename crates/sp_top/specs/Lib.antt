@@ -1,10 +1,7 @@
 pub mod Commands
-pub mod Reading
-pub mod Kept
-pub mod Coming
+pub mod Ends
+pub mod Run
 pub mod Outcome
-pub mod Answer
-pub mod Queries
 pub mod Alike
 pub mod OneOutcome
 pub mod Completes

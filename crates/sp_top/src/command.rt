@@ -1,13 +1,9 @@
 // Which words are a command, and where its query stands.
 ghost use Rattle.std.specs.Prelude.{◌↔◌, map, IsTrue, IfSome, IfNone, string_bytes};
-ghost use Rattle.sp_top.specs.Commands.{place_of, IsRun, IsCommand, IsNoCommand};
+ghost use Rattle.sp_load.specs.Places.{place_of};
+ghost use Rattle.sp_top.specs.Commands.{IsRun, IsCommand, IsNoCommand};
 
-/// Where the query of a command stands: in a word, or in the file of this name.
-#[derive(Clone, Copy, Drop)]
-pub(crate) enum Place<'a> {
-    Word(&'a str),
-    File(&'a str),
-}
+use sp_load::Place;
 
 // Whether it is the first word of a run.
 fn is_run(first: &str) -> bool

@@ -3,9 +3,9 @@ ghost use Rattle.sp_top.specs.Alike.{PlansRunAlike};
 ghost use Rattle.sp_top.specs.OneOutcome.{OneOutcome};
 ghost use Rattle.sp_top.specs.Completes.{Completes};
 
-use sp_compile::{one_truth, one_verdict};
+use sp_compile::one_truth;
 use sp_cut::rows_stay;
-use sp_parse::{one_fault, one_query};
+use sp_load::{one_reading, one_text};
 
 /// Law: plans that stand for one query have one outcome over all bytes, status and text.
 pub fn plans_run_alike()
@@ -15,14 +15,13 @@ pub fn plans_run_alike()
     one_truth();
 }
 
-/// Law: words, files that are told and bytes have at most one outcome: one status and one text.
+/// Law: words, files that are told and bytes have at most one outcome: one status, one line and one text.
 pub fn one_outcome()
     ensures { OneOutcome }
 {
-    // laws: what a text is, what refuses it, and what its predicates mean is one thing each
-    one_query();
-    one_fault();
-    one_verdict();
+    // laws: what stands at a place, what its text comes to, and what its predicates mean is one thing each
+    one_text();
+    one_reading();
     one_truth();
 }
 
@@ -33,9 +32,7 @@ pub fn completes()
     ensures { Completes }
 {
     // laws: what a query's text comes to is one thing, and a row stays a row whatever comes behind
-    one_query();
-    one_fault();
-    one_verdict();
+    one_reading();
     one_truth();
     rows_stay();
 }
