@@ -13,3 +13,5 @@ pub mod Showing
 pub mod Spawning
 pub mod Suppressing
 pub mod Withheld
+pub mod Benched
+pub mod OnBench

@@ -4,6 +4,8 @@
 //! `specs/Running.antt`.
 #![tactic(auto)]
 
+mod answer;
+mod bench;
 mod conflicts;
 mod emitted;
 mod fault;
@@ -21,6 +23,8 @@ mod rooms;
 mod spawning;
 mod withheld;
 
+pub use answer::Answer;
+pub use bench::Bench;
 pub use emitted::Emitted;
 pub use fault::CoreFault;
 pub use given::Given;

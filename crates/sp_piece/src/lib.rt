@@ -7,8 +7,6 @@ mod job;
 mod laws;
 mod piece;
 mod stepped;
-#[cfg(test)]
-mod tests;
 
 pub use job::Job;
 pub use laws::{readings_tell_matches, same_plans_read_alike};

@@ -54,7 +54,7 @@ rises_window : (r : ℕ) (v v' : Version) → Promoted r v v' → v'.window ≡ 
 rises_window r v v' (up n p e) = ap (λ (z : Version). z.window) e
 rises_window r v v' (idle_one n p e) = ap (λ (z : Version). z.window) e
 
-rises_inner : (q : Plan) (E : List Event) (r : ℕ) (v v' : Version) → Promoted r v v' → inner q E v' ≡ inner q E v
+pub rises_inner : (q : Plan) (E : List Event) (r : ℕ) (v v' : Version) → Promoted r v v' → inner q E v' ≡ inner q E v
 rises_inner q E r v v' (up n p e) = ap (inner q E) e
 rises_inner q E r v v' (idle_one n p e) = ap (inner q E) e
 

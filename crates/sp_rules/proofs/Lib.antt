@@ -24,3 +24,4 @@ pub mod Returning
 pub mod ComingHome
 pub mod ByGroups
 pub mod Adding
+pub mod Lasting

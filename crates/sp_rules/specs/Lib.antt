@@ -4,3 +4,4 @@ pub mod Schedules
 pub mod Returning
 pub mod ComingHome
 pub mod ByGroups
+pub mod StayingLent

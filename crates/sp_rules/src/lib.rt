@@ -10,6 +10,7 @@ ghost use Rattle.sp_rules.specs.ComingHome.{PiecesComeHome};
 ghost use Rattle.sp_rules.specs.Lawful.{Lawful};
 ghost use Rattle.sp_rules.specs.Returning.{ReadingsAndReturn};
 ghost use Rattle.sp_rules.specs.Schedules.{EverySchedule};
+ghost use Rattle.sp_rules.specs.StayingLent.{LentStays};
 
 use sp_match::{
     abandonments_are_told, closing_ends_runs, completions_are_matches, handling_is_lawful,
@@ -87,6 +88,14 @@ pub fn returns_by_groups()
 /// used an event, and had not before, are those of these matches that did.
 pub fn coming_home_adds_matches()
     ensures { ComingHomeAddsMatches }
+{
+    compiled_plans_are_lawful();
+}
+
+/// Law: what a ticket lends stays lent, whatever step is taken: as long as it is out, and its version
+/// live, the events that it lends and the runs from which they are read on are the same.
+pub fn lent_stays()
+    ensures { LentStays }
 {
     compiled_plans_are_lawful();
 }

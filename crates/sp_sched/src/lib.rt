@@ -2,11 +2,13 @@
 #![tactic(auto)]
 
 mod fault;
+mod law;
 mod print;
 mod read;
 mod step;
 
 pub use fault::SchedFault;
+pub use law::one_schedule;
 pub use print::print_schedule;
 pub use read::read_schedule;
 use std::alloc::AllocError;

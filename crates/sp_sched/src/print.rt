@@ -1,9 +1,82 @@
-ghost use Rattle.std.specs.Prelude.{◌≡◌, string_bytes, IfOk};
-ghost use Rattle.std.specs.List.{All};
-ghost use Rattle.sp_sched.specs.Schedules.{CanStand, IsSchedule, schedule_text};
+ghost use Rattle.std.specs.Prelude.{◌≡◌, ◌++◌, codes, string_bytes, IfOk, OnOk};
+ghost use Rattle.std.specs.Fmt.{decimal};
+ghost use Rattle.std.specs.List.{All, flat_map};
+ghost use Rattle.sp_plan.specs.Lines.{commas};
+ghost use Rattle.sp_sched.specs.Schedules.{CanStand, IsSchedule, label_text, schedule_text, step_text};
 
 use crate::{Memory, TraceStep};
-use std::alloc::{AllocError, Global};
+use sp_group::Label;
+use std::alloc::Global;
+use std::fmt::Write;
+
+// Room for a step and its line feed; one with long numbers or a long label takes more.
+const STEP_ROOM: usize = 16;
+
+// Adds a number.
+fn push_number(out: &mut String, number: u32) -> Result<(), Memory>
+    ensures { OnOk result (string_bytes out.new ≡ string_bytes out.old ++ decimal number) }
+{
+    write!(out, "{number}")?;
+    Ok(())
+}
+
+// Adds numbers, each after a comma.
+fn push_more(out: &mut String, numbers: &[u32]) -> Result<(), Memory>
+    ensures { OnOk result (string_bytes out.new ≡ string_bytes out.old ++ flat_map (λ n. codes "," ++ decimal n) numbers.now) }
+{
+    for number in numbers {
+        out.push_str(",")?;
+        push_number(out, *number)?;
+    }
+    Ok(())
+}
+
+// Adds numbers joined by commas.
+fn push_commas(out: &mut String, numbers: &[u32]) -> Result<(), Memory>
+    ensures { OnOk result (string_bytes out.new ≡ string_bytes out.old ++ commas numbers.now) }
+{
+    if let [first, rest @ ..] = numbers {
+        push_number(out, *first)?;
+        push_more(out, rest)?;
+    }
+    Ok(())
+}
+
+// Adds the runs of a label, or a dash where there are none.
+fn push_label(out: &mut String, label: &Label) -> Result<(), Memory>
+    ensures { OnOk result (string_bytes out.new ≡ string_bytes out.old ++ label_text label.now) }
+{
+    if label.runs().is_empty() {
+        out.push_str("-")?;
+        return Ok(());
+    }
+    push_commas(out, label.runs())
+}
+
+// Adds the text of a step.
+fn push_step(out: &mut String, step: &TraceStep) -> Result<(), Memory>
+    ensures { OnOk result (string_bytes out.new ≡ string_bytes out.old ++ step_text step.now) }
+{
+    match step {
+        TraceStep::Feed => out.push_str("feed")?,
+        TraceStep::End => out.push_str("end")?,
+        TraceStep::Spawn { parent: None, .. } => out.push_str("spawn root")?,
+        TraceStep::Spawn {
+            parent: Some(parent),
+            label,
+        } => {
+            write!(out, "spawn {parent} ")?;
+            push_label(out, label)?;
+        }
+        TraceStep::Lease { version, count } => write!(out, "lease {version} {count}")?,
+        TraceStep::Event { ticket } => write!(out, "event {ticket}")?,
+        TraceStep::Return { ticket } => write!(out, "return {ticket}")?,
+        TraceStep::Roll { version } => write!(out, "roll {version}")?,
+        TraceStep::Finish => out.push_str("finish")?,
+        TraceStep::State => out.push_str("state")?,
+    }
+    Ok(())
+}
 
 /// Steps as a text, each on a line of its own, which is read back as the same steps.
 pub fn print_schedule(alloc: Global, steps: &[TraceStep]) -> Result<String, Memory>
@@ -11,7 +84,10 @@ pub fn print_schedule(alloc: Global, steps: &[TraceStep]) -> Result<String, Memo
     ensures text { IfOk result (λ text. string_bytes text ≡ schedule_text steps.now) }
     ensures back { IfOk result (λ text. IsSchedule (string_bytes text) steps.now) }
 {
-    let _ = alloc;
-    let _ = steps;
-    Err(AllocError)
+    let mut out = String::with_capacity(alloc, steps.len().saturating_mul(STEP_ROOM))?;
+    for step in steps {
+        push_step(&mut out, step)?;
+        out.push_str("\n")?;
+    }
+    Ok(out)
 }

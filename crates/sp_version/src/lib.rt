@@ -4,8 +4,6 @@
 
 mod laws;
 mod search;
-#[cfg(test)]
-mod tests;
 mod version;
 
 pub use laws::reads_alike;

@@ -1,0 +1,4 @@
+mod Bytes
+mod Words
+mod Lines
+mod Alone
