@@ -2,7 +2,7 @@
 use Rattle.std.proofs.Common.{◌⊎◌, ◌≡◌, inl, inr, ℕ, Bool, false, List, refl, sym, subst}
 use Rattle.sp_io.specs.Outside.{ToldFiles, Gave, GrewWithin}
 use Rattle.sp_answer.specs.declared.status.Status.{Status}
-use Rattle.sp_answer.specs.declared.status.Status.TheVariants.{Done, Memory, Usage, Query, Input, Read, Write, Limited}
+use Rattle.sp_answer.specs.declared.status.Status.TheVariants.{Done, Memory, Usage, Query, Input, Read, Write, Limited, Schedule}
 use Rattle.sp_answer.specs.Outcome.{Outcome, Ending, ending}
 use Rattle.sp_answer.specs.Ran.{Outside, ReadsNoFurther, Ran}
 use Rattle.sp_answer.specs.Promise.{Filed, FileTold, Answered, by_memory, by_file, by_refusal, by_run, Served}
@@ -65,6 +65,7 @@ begins P old new line (Query code place) r = grew_whole _ _ _ (r.exact (λ e. cc
 begins P old new line (Input code row column) r = grew_whole _ _ _ (r.exact (λ e. cc) (λ e. cc)).1
 begins P old new line Read r = grew_whole _ _ _ (r.exact (λ e. cc) (λ e. cc)).1
 begins P old new line (Limited limit) r = grew_whole _ _ _ (r.exact (λ e. cc) (λ e. cc)).1
+begins P old new line (Schedule at) r = grew_whole _ _ _ (r.exact (λ e. cc) (λ e. cc)).1
 
 -- want of memory may take the place of any other end of a run
 ran_short : (P : List ℕ → Bool → Outcome → Type 0) (old new : Outside) (end : Ending) → Ran P old new end → Ran P old new (ending Memory)
@@ -94,7 +95,7 @@ module _ (names : List (List ℕ)) (before after : Filed) (old new : Outside) wh
     answered_short end (by_refusal refusal) = by_memory refl refusal.same
     answered_short end (by_run run) = by_run (ran_short P old new end run)
 
-    answered_weaker : (Q : List ℕ → Bool → Outcome → Type 0) (end : Ending) → ((b : List ℕ) (e : Bool) (o : Outcome) → P b e o → Q b e o) → Answered names P before after old new end → Answered names Q before after old new end
+    pub answered_weaker : (Q : List ℕ → Bool → Outcome → Type 0) (end : Ending) → ((b : List ℕ) (e : Bool) (o : Outcome) → P b e o → Q b e o) → Answered names P before after old new end → Answered names Q before after old new end
     answered_weaker Q end weaker (by_memory memory same) = by_memory memory same
     answered_weaker Q end weaker (by_file fault) = by_file fault
     answered_weaker Q end weaker (by_refusal refusal) = by_refusal (record { is = λ b e. weaker b e _ (refusal.is b e); line = refusal.line; same = refusal.same })

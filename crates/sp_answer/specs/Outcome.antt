@@ -2,7 +2,7 @@
 use Rattle.std.specs.Prelude.{ℕ, List, [], ◌++◌, codes}
 use Rattle.std.specs.Fmt.{decimal}
 use Rattle.sp_answer.specs.declared.status.Status.{Status}
-use Rattle.sp_answer.specs.declared.status.Status.TheVariants.{Done, Memory, Usage, Query, Input, Read, Write, Limited}
+use Rattle.sp_answer.specs.declared.status.Status.TheVariants.{Done, Memory, Usage, Query, Input, Read, Write, Limited, Schedule}
 
 pub record Outcome : Type 0 where
   pub status : Status
@@ -27,6 +27,7 @@ number_of (Input code row column) = 4
 number_of Read = 5
 number_of Write = 6
 number_of (Limited limit) = 7
+number_of (Schedule line) = 8
 
 -- the line of a status
 abbrev pub line_of : Status → List ℕ
@@ -39,6 +40,7 @@ line_of (Input code row column) =
 line_of Read = codes "read fault\n"
 line_of Write = codes "write fault\n"
 line_of (Limited limit) = codes "limit " ++ (decimal limit ++ codes "\n")
+line_of (Schedule line) = codes "schedule line " ++ (decimal line ++ codes "\n")
 
 -- a status that is told by its own line
 abbrev pub ending : Status → Ending

@@ -17,8 +17,10 @@ pub enum Status {
     Input { code: u8, row: u32, column: u32 },
     Read,
     Write,
-    /// The input has more rows or more events than this, or the query more bytes.
+    /// The input has more rows or more events than this, or the query or the schedule more bytes.
     Limited { limit: u32 },
+    /// This line of a schedule, from 1, is the first that is neither blank nor a step.
+    Schedule { line: u32 },
 }
 
 impl Status {
@@ -39,6 +41,7 @@ impl Status {
             Status::Read => 5,
             Status::Write => 6,
             Status::Limited { limit: _ } => 7,
+            Status::Schedule { line: _ } => 8,
         }
     }
 
@@ -57,6 +60,7 @@ impl Status {
             Status::Read => String::from_str(alloc, "read fault\n"),
             Status::Write => String::from_str(alloc, "write fault\n"),
             Status::Limited { limit } => format!(in alloc; "limit {limit}\n"),
+            Status::Schedule { line } => format!(in alloc; "schedule line {line}\n"),
         }
     }
 }

@@ -1,8 +1,12 @@
 mod Alike
+mod AlikeTraces
+mod Asked
 mod Commands
 mod Completing
 mod LinesOf
+mod OneCommand
 mod OneOutcome
 mod OneRun
 mod Running
+mod Tracing
 mod Words

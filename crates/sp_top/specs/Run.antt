@@ -5,13 +5,13 @@ use Rattle.sp_plan.specs.declared.event.Event.{Event}
 use Rattle.sp_plan.specs.declared.plan.Plan.{Plan}
 use Rattle.sp_plan.specs.Sequential.{whole}
 use Rattle.sp_plan.specs.Lines.{text}
-use Rattle.sp_intake.specs.Reading.{read, stop_of, is_end}
+use Rattle.sp_intake.specs.Reading.{is_end}
 use Rattle.sp_intake.specs.declared.input.Stop.{Stop}
 use Rattle.sp_load.specs.Places.{Place, longest_query, IsLonger}
 use Rattle.sp_load.specs.Queries.{IsPlanAt, IsFaultyAt}
-use Rattle.sp_answer.specs.Outcome.{Outcome, outcome, nothing_for}
+use Rattle.sp_answer.specs.Outcome.{Outcome, nothing_for}
 use Rattle.sp_answer.specs.declared.status.Status.TheVariants.{Query, Limited}
-use Rattle.sp_top.specs.Ends.{status_of}
+use Rattle.sp_top.specs.Ends.{reading_outcome}
 
 -- the text of the windows that these events have closed
 abbrev pub windows_text : Plan → List Event → Stop → List ℕ
@@ -19,9 +19,7 @@ windows_text q events stop = text q (whole q events (is_end stop)).matches
 
 -- what a run of a plan over these bytes comes to
 abbrev pub run_outcome : Plan → List ℕ → Bool → Outcome
-run_outcome q bytes ended =
-    let stop = stop_of (read q bytes ended) ended in
-    outcome (status_of stop) (windows_text q (read q bytes ended).events stop)
+run_outcome q bytes ended = reading_outcome q (windows_text q) bytes ended
 
 -- the outcome of a plan
 abbrev pub IsPlanRun : Plan → List ℕ → Bool → Outcome → Type 0

@@ -8,6 +8,7 @@ mod law;
 mod output;
 mod run;
 mod top;
+mod trace;
 
 pub use law::{completes, one_outcome, plans_run_alike};
 pub use top::spectre;

@@ -1,6 +1,8 @@
-// The way of the lines of matches to the output.
+// The way of lines to the output.
+ghost use Rattle.std.specs.Prelude.{map, string_bytes, Ok};
 ghost use Rattle.sp_answer.specs.Written.{WritesText};
 ghost use Rattle.sp_plan.specs.Lines.{text};
+ghost use Rattle.sp_trace.specs.Traced.{joined};
 
 use sp_answer::Written;
 use sp_emit::match_line;
@@ -25,4 +27,31 @@ pub(crate) fn write_lines<K: Sink>(
         }
     }
     Ok(Written::All)
+}
+
+// Writes a line by one call, and an empty one by none.
+fn write_one<K: Sink>(line: &str, out: &mut K) -> Written
+    ensures { WritesText line.now (K.state out.old) (K.state out.new) (Ok result) }
+{
+    if line.is_empty() {
+        return Written::All;
+    }
+    match out.write_all(line.as_bytes()) {
+        Ok(()) => Written::All,
+        Err(_) => Written::Failed,
+    }
+}
+
+/// Writes each line by one call.
+pub(crate) fn write_texts<K: Sink>(lines: &[String], out: &mut K) -> Written
+    ensures { let text = joined (map string_bytes lines.now) in
+        WritesText text (K.state out.old) (K.state out.new) (Ok result) }
+{
+    for line in lines {
+        match write_one(line.as_str(), out) {
+            Written::All => {}
+            Written::Failed => return Written::Failed,
+        }
+    }
+    Written::All
 }

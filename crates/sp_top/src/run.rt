@@ -22,8 +22,8 @@ use sp_seq::plain;
 use std::alloc::Global;
 use std::sync::Arc;
 
-// The plan, to be held by several owners.
-fn shared(alloc: Global, plan: Plan) -> Result<Arc<Plan>, Memory>
+/// The plan, to be held by several owners.
+pub(crate) fn shared(alloc: Global, plan: Plan) -> Result<Arc<Plan>, Memory>
     ensures { IfOk result (λ arc. arc_value arc ≡ plan) }
 {
     Ok(Arc::new(alloc, plan)?)

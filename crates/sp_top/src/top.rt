@@ -4,8 +4,9 @@ ghost use Rattle.sp_answer.specs.Promise.{filed};
 ghost use Rattle.sp_answer.specs.Ran.{outside};
 ghost use Rattle.sp_top.specs.Outcome.{Answers, Promise};
 
-use crate::command::command;
+use crate::command::{Command, asked};
 use crate::run::run;
+use crate::trace::trace;
 use sp_answer::{Status, tell};
 use sp_io::{Files, Sink, Source};
 use std::alloc::Global;
@@ -26,8 +27,9 @@ fn answer<S: Source, F: Files, K: Sink>(
         (outside (S.state input.new) (K.state out.new))
         result }
 {
-    match command(words) {
-        Some(place) => run(alloc, place, input, files, out),
+    match asked(words) {
+        Some(Command::Run(place)) => run(alloc, place, input, files, out),
+        Some(Command::Trace(one)) => trace(alloc, one, input, files, out),
         None => Status::Usage,
     }
 }

@@ -5,5 +5,6 @@ pub returns : goal.returns
 returns c = one_outcome (record {
   text = c.one_text.ensures;
   reading = c.one_reading.ensures;
+  schedule = c.one_schedule.ensures;
   truth = c.one_truth.ensures.truth;
 })

@@ -11,7 +11,7 @@ returns-in-Ok g c =
     let after : Filed = filed (g.F.Files.held c.plan_at.new.files) (g.F.Files.faults c.plan_at.new.files) in
     let old : Outside = outside (g.S.Source.state c.args.input.now) (g.K.Sink.state c.args.out.now) in
     let new : Outside = outside (g.S.Source.state c.run_plan.new.input) (g.K.Sink.state c.run_plan.new.out) in
-    ran_served (place_of c.args.place) before after old new c.plan_at.ensures.held c.in-Ok.plan c.run_plan.result c.in-Ok.ensures.plan (c.in-Ok.ensures.no_fault (λ e. cc)) c.run_plan.ensures
+    ran_served (place_of c.args.place) before after old c.plan_at.ensures.held new c.in-Ok.plan c.run_plan.result c.in-Ok.ensures.plan (c.in-Ok.ensures.no_fault (λ e. cc)) c.run_plan.ensures
 
 pub returns-in-Err : goal.returns-in-Err
 returns-in-Err g c =
