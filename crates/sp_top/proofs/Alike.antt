@@ -23,8 +23,8 @@ use Rattle.sp_plan.specs.Sequential.{Progress, match_of, visible, after_window, 
 use Rattle.sp_rows.specs.Rows.{RowsRead, ColumnAt, nothing, place_of, columns_at, is_place, header_or_fault, event_or_fault, first_fault, row_of_cells, by_cells}
 use Rattle.sp_rows.specs.Cells.{RowCells, blank, one, several, row_cells}
 use Rattle.sp_top.specs.Alike.{Alike, NamesAlike, OpeningsAlike}
-use Rattle.sp_top.specs.Reading.{Reading, start, with_result, with_row, stopped_by, take_row, read}
-use Rattle.sp_top.specs.declared.input.Failure.TheVariants.{Limit}
+use Rattle.sp_intake.specs.Reading.{Reading, start, with_result, with_row, stopped_by, take_row, read}
+use Rattle.sp_intake.specs.declared.input.Failure.TheVariants.{Limit}
 
 module _ (q p : Plan) (alike : Alike q p) where
   -- ---- rows
@@ -89,7 +89,7 @@ module _ (q p : Plan) (alike : Alike q p) where
   takes_same : (r : Run) (e : Event) → takes q r e ≡ takes p r e
   takes_same r e = λ i. find (λ (name : ℕ). fits_same (slice_get q.names name) (slice_get p.names name) (alike.names name) r e i) (unbound r (find (λ element. not (is_filled r element)) (alike.elements i)) ++ again (alike.elements i) (last_or None r))
 
-  used_same : (r : Run) → used q r ≡ used p r
+  pub used_same : (r : Run) → used q r ≡ used p r
   used_same r = λ i. map (λ (pair : Pair). pair.number) (filter (λ (pair : Pair). consumed_same (slice_get q.names pair.name) (slice_get p.names pair.name) (alike.names pair.name) i) r)
 
   complete_same : (r : Run) → is_complete q r ≡ is_complete p r
@@ -134,7 +134,7 @@ module _ (q p : Plan) (alike : Alike q p) where
       let may : may_start q.select q s h x ≡ may_start p.select p s h x = may_same q.select s h x ∙ ap (λ (select : Select). may_start select p s h x) alike.select in
       started_same x h s.started _ ∙ (λ i. started_with p x h s.started (if may i then takes_same [] x.1 i else None))
 
-  handle_same : (s : State) (x : Numbered) → handle q s x ≡ handle p s x
+  pub handle_same : (s : State) (x : Numbered) → handle q s x ≡ handle p s x
   handle_same s x =
       let begin : Handling = record { kept = []; matched = s.matched; taken = [] } in
       begun_same s x (fold (handle_run q x) begin s.open_runs)
@@ -152,10 +152,10 @@ module _ (q p : Plan) (alike : Alike q p) where
   opening_same (EveryEvents n) y l events ended same = ap (λ (o : Opening). windows_by o l events ended) same
   opening_same (EveryTime s) y l events ended same = ap (λ (o : Opening). windows_by o l events ended) same
 
-  windows_same : (events : List Event) (ended : Bool) → windows q events ended ≡ windows p events ended
+  pub windows_same : (events : List Event) (ended : Bool) → windows q events ended ≡ windows p events ended
   windows_same events ended = opening_same q.opening p.opening q.length events ended alike.opening ∙ ap (λ (l : Length). windows_by p.opening l events ended) alike.length_is
 
-  match_same : (window : ℕ) (run : ℕ × Run) → match_of q window run ≡ match_of p window run
+  pub match_same : (window : ℕ) (run : ℕ × Run) → match_of q window run ≡ match_of p window run
   match_same window run = λ i. record { window = window; number = run.0; bound = map (λ (name : ℕ). (name, numbers_under run.1 name)) (range_with_len 0 (alike.count i)); used = used_same run.1 i }
 
   after_same : (window : ℕ) (before : Progress) (runs : List Run) → after_window q window before runs ≡ after_window p window before runs
@@ -175,7 +175,7 @@ module _ (q p : Plan) (alike : Alike q p) where
 
   -- ---- lines
 
-  line_same : (m : Match) → line q m ≡ line p m
+  pub line_same : (m : Match) → line q m ≡ line p m
   line_same m = λ i.
       codes "w=" ++ decimal m.window ++ codes " m=" ++ decimal m.number
       ++ flat_map (λ (pair : ℕ × List ℕ). codes " " ++ text_same (slice_get q.names pair.0) (slice_get p.names pair.0) (alike.names pair.0) i ++ codes "=" ++ commas pair.1) m.bound

@@ -4,23 +4,37 @@ use Rattle.std.proofs.lemmas.List.{append-nil}
 use Rattle.std.proofs.lemmas.List.Sums.{fold-append}
 use Rattle.std.specs.Prelude.{is_some}
 use Rattle.std.specs.List.{fold}
-use Rattle.sp_cut.specs.CutRows.{rows, without_mark}
+use Rattle.sp_cut.specs.CutRows.{rows}
 use Rattle.sp_cut.specs.Growth.{RowsStay}
 use Rattle.sp_io.specs.Outside.{Told, ToldFiles, Gave, Grew, IsUsedUp, HoldsFile, HoldsLonger, first_file}
+use Rattle.sp_plan.specs.declared.event.Event.{Event}
 use Rattle.sp_plan.specs.declared.plan.Plan.{Plan}
-use Rattle.sp_top.specs.declared.input.Failure.{Failure}
-use Rattle.sp_top.specs.declared.input.Stop.{Stop}
-use Rattle.sp_top.specs.declared.input.Stop.TheVariants.{End, Failed}
-use Rattle.sp_top.specs.declared.status.Status.{Status}
-use Rattle.sp_top.specs.declared.status.Status.TheVariants.{Done, Memory, Usage, Query, Input, Read, Write, Limited}
-use Rattle.sp_top.specs.Answer.{Outside, Filed, Answered, by_memory, by_file, by_refusal, by_run, Refused, Ran}
-use Rattle.sp_top.specs.Commands.{Place}
-use Rattle.sp_top.specs.Completes.{StandsAt, in_word, in_file, AsksFor, ReadsToEnd, NoFaultRose, whole_text, IsDone, Completes}
-use Rattle.sp_top.specs.Outcome.{Outcome, TextOutcome, run, QueryOutcome, long_text, of_text, long_file, of_file, IsOutcome, run_outcome, windows_text, status_of, number_of, nothing_for, longest_query}
-use Rattle.sp_top.specs.Queries.{IsPlanFor}
-use Rattle.sp_top.specs.Reading.{Reading, start, take_row, read, stop_of, stop_or}
-use Rattle.sp_top.proofs.Leading.{stopped_stays}
-use Rattle.sp_top.proofs.OneOutcome.{TextLaws, one_place, one_text, not_longer}
+use Rattle.sp_sched.specs.Schedules.{OneSchedule}
+use Rattle.sp_sched.specs.declared.step.TraceStep.{TraceStep}
+use Rattle.sp_intake.specs.declared.input.Failure.{Failure}
+use Rattle.sp_intake.specs.declared.input.Stop.{Stop}
+use Rattle.sp_intake.specs.declared.input.Stop.TheVariants.{End, Failed}
+use Rattle.sp_intake.specs.Reading.{Reading, start, take_row, read, stop_of, stop_or}
+use Rattle.sp_intake.proofs.Leading.{stopped_stays}
+use Rattle.sp_load.specs.Places.{Place, without_mark, longest_query, HasText, IsLonger, long_word, long_file}
+use Rattle.sp_load.specs.Places as places
+use Rattle.sp_load.specs.Queries.{IsPlanFor, IsFaulty}
+use Rattle.sp_load.specs.Laws.{OneReading}
+use Rattle.sp_load.proofs.OneTextLaws.{not_longer}
+use Rattle.sp_answer.specs.declared.status.Status.{Status}
+use Rattle.sp_answer.specs.declared.status.Status.TheVariants.{Done, Memory, Usage, Query, Input, Read, Write, Limited, Schedule}
+use Rattle.sp_answer.specs.Outcome.{Outcome, Ending, number_of, outcome}
+use Rattle.sp_answer.specs.Ran.{Outside, Ran}
+use Rattle.sp_answer.specs.Promise.{Filed, Answered, by_memory, by_file, by_refusal, by_run, Refused, NoFaultRose}
+use Rattle.sp_top.specs.Commands.{Command, run, trace, IsCommand}
+use Rattle.sp_top.specs.Completes.{StandsAt, in_word, in_file, TellsSchedule, for_run, for_trace, ReadsToEnd, IsDone, Completes}
+use Rattle.sp_top.specs.Ends.{status_of, reading_outcome}
+use Rattle.sp_top.specs.Outcome.{IsOutcome, CommandOutcome}
+use Rattle.sp_top.specs.Run.{run_outcome, windows_text, RunOutcome, too_long, faulty, runs}
+use Rattle.sp_top.specs.Trace.{trace_text, trace_outcome, longest_schedule, HasSchedule, TextsOutcome, traces, TraceOutcome, long_query, long_schedule, of_texts}
+use Rattle.sp_top.proofs.OneCommand.{one_command}
+use Rattle.sp_top.proofs.OneOutcome.{one_run, one_texts}
+use Rattle.sp_top.proofs.OneRun.{OneTruth}
 
 -- ---- the reading
 
@@ -58,26 +72,58 @@ gave_all bytes taken None gave used_up = absurd gave
 
 -- ---- the one outcome
 
-module _ (laws : TextLaws) (files : ToldFiles) (q : Plan) (bytes : List ℕ) (ended : Bool) where
-  run_of : (query_text : List ℕ) (o : Outcome) → IsPlanFor query_text q → TextOutcome query_text bytes ended o → o ≡ run_outcome q bytes ended
-  run_of query_text o compiles is = one_text laws bytes ended query_text o (run_outcome q bytes ended) is (run compiles.query q compiles.utf8 compiles.is_query compiles.is_plan)
+-- what stands there is within the limit
+within_limit : (files : ToldFiles) (place : Place) (text : List ℕ) → StandsAt files place text → IsLonger files longest_query place → ⊥
+within_limit _ _ _ (in_word text short) (long_word _ long) = omega (arith, long, short)
+within_limit files _ _ (in_file told name content are holds short) (long_file _ long) =
+    not_longer told name content longest_query holds short (subst (λ (fs : ToldFiles). HoldsLonger fs name longest_query) are long)
 
-  run_at : (place : Place) (query_text : List ℕ) (o : Outcome) → IsPlanFor query_text q → StandsAt files place query_text → QueryOutcome files bytes ended place o → o ≡ run_outcome q bytes ended
-  run_at _ _ _ compiles (in_word query_text short) (long_text _ long) = absurd (omega (arith, long, short))
-  run_at _ _ _ compiles (in_word query_text short) (of_text _ o short' is) = run_of query_text o compiles is
-  run_at _ _ _ compiles (in_file told name content are holds short) (long_file _ long) =
-      absurd (not_longer told name content holds short (subst (λ (fs : ToldFiles). HoldsLonger fs name longest_query) are long))
-  run_at _ _ _ compiles (in_file told name content are holds short) (of_file _ other o holds' short' is) =
-      let there : first_file told name ≡ Some other = subst (λ (fs : ToldFiles). HoldsFile fs name other) are holds' in
-      let both : Some other ≡ Some content = sym there ∙ holds in
-      let same : other ≡ content = cc both in
-      run_of (without_mark content) o compiles (subst (λ (c : List ℕ). TextOutcome (without_mark c) bytes ended o) same is)
+-- and is one text
+text_there : (files : ToldFiles) (place : Place) (text other : List ℕ) → StandsAt files place text → HasText files place other → other ≡ text
+text_there _ _ _ _ (in_word text short) (places.in_word _ short') = refl
+text_there files _ _ _ (in_file told name content are holds short) (places.in_file _ other holds' short') =
+    let there : first_file told name ≡ Some other = subst (λ (fs : ToldFiles). HoldsFile fs name other) are holds' in
+    let both : Some other ≡ Some content = sym there ∙ holds in
+    let same : other ≡ content = cc both in
+    ap without_mark same
 
-  -- words that ask for a run of the plan have no other outcome
-  run_only : (words : List (List ℕ)) (o : Outcome) → AsksFor words files q → IsOutcome words files bytes ended o → o ≡ run_outcome q bytes ended
-  run_only words o asks (inl none) = absurd (none.0 asks.place asks.command)
-  run_only words o asks (inr at) =
-      run_at asks.place asks.query_text o asks.compiles asks.stands (subst (λ (p : Place). QueryOutcome files bytes ended p o) (one_place words at.0 asks.place at.1 asks.command) at.2)
+module _ (reading : OneReading) (truth : OneTruth) (files : ToldFiles) (q : Plan) (place : Place) (text : List ℕ) (compiles : IsPlanFor text q) (stands : StandsAt files place text) (bytes : List ℕ) (ended : Bool) where
+  -- a query that compiles has no other outcome than its run
+  run_at : (o : Outcome) → RunOutcome place files bytes ended o → o ≡ run_outcome q bytes ended
+  run_at _ (too_long long) = absurd (within_limit files place text stands long)
+  run_at _ (faulty code at fault) =
+      absurd (reading.apart text q code at compiles (subst (λ (t : List ℕ). IsFaulty t code at) (text_there files place text fault.0 stands fault.1) fault.2))
+  run_at _ (runs p plan) =
+      one_run reading truth text p q (subst (λ (t : List ℕ). IsPlanFor t p) (text_there files place text plan.0 stands plan.1) plan.2) compiles bytes ended
+
+  module _ (sched : OneSchedule) (name : List ℕ) (bound : ℕ) (steps : List TraceStep) (tells : TellsSchedule files name steps) where
+    -- what the schedule's file holds is told
+    one_content : (content : List ℕ) → HasSchedule files name content → content ≡ tells.content
+    one_content content holds =
+        let there : first_file tells.told name ≡ Some content = subst (λ (fs : ToldFiles). HoldsFile fs name content) tells.are holds.0 in
+        let both : Some content ≡ Some tells.content = sym there ∙ tells.holds in
+        cc both
+
+    -- and with a schedule no other than the trace by it
+    trace_at : (o : Outcome) → TraceOutcome place name bound files bytes ended o → o ≡ trace_outcome q bound steps bytes ended
+    trace_at _ (long_query long) = absurd (within_limit files place text stands long)
+    trace_at _ (long_schedule other has longer) =
+        absurd (not_longer tells.told name tells.content longest_schedule tells.holds tells.short (subst (λ (fs : ToldFiles). HoldsLonger fs name longest_schedule) tells.are longer))
+    trace_at o (of_texts other content _ has holds is) =
+        one_texts reading sched truth text tells.content bound bytes ended o (trace_outcome q bound steps bytes ended)
+        (subst (λ (c : List ℕ). TextsOutcome text c bound bytes ended o) (one_content content holds) (subst (λ (t : List ℕ). TextsOutcome t content bound bytes ended o) (text_there files place text other stands has) is))
+        (traces q steps compiles tells.is)
+
+-- the words have no other outcome than a reading with this text
+abbrev IsOnly : List (List ℕ) → ToldFiles → Plan → (List Event → Stop → List ℕ) → Type 0
+IsOnly words files q T = (bytes : List ℕ) (ended : Bool) (o : Outcome) → IsOutcome words files bytes ended o → o ≡ reading_outcome q T bytes ended
+
+-- words that are a command have its outcomes alone
+only_by : (words : List (List ℕ)) (files : ToldFiles) (q : Plan) (T : List Event → Stop → List ℕ) (command : Command) → IsCommand words command
+    → ((bytes : List ℕ) (ended : Bool) (o : Outcome) → CommandOutcome command files bytes ended o → o ≡ reading_outcome q T bytes ended) → IsOnly words files q T
+only_by words files q T command is only bytes ended o (inl none) = absurd (none.0 command is)
+only_by words files q T command is only bytes ended o (inr at) =
+    only bytes ended o (subst (λ (c : Command). CommandOutcome c files bytes ended o) (one_command words at.0 command at.1 is) at.2)
 
 -- ---- the answer
 
@@ -91,71 +137,84 @@ cut_by (Query code place) = inr (inr ((λ e. cc), (λ e. cc)))
 cut_by (Input code row column) = inr (inr ((λ e. cc), (λ e. cc)))
 cut_by Read = inr (inr ((λ e. cc), (λ e. cc)))
 cut_by (Limited limit) = inr (inr ((λ e. cc), (λ e. cc)))
+cut_by (Schedule line) = inr (inr ((λ e. cc), (λ e. cc)))
 
--- a run of the whole input
-abbrev whole_run : Plan → List ℕ → Outcome
-whole_run q bytes = record { status = Done; text = whole_text q (read q bytes true).events }
+module _ (stay : RowsStay) (words names : List (List ℕ)) (before after : Filed) (old new : Outside) (q : Plan) (bytes : List ℕ) (T : List Event → Stop → List ℕ) (only : IsOnly words before.held q T)
+    (reads : ReadsToEnd q old.input bytes) (quiet : NoFaultRose names before after old new) (used_up : new.input.ended ≡ true → IsUsedUp new.input.left) where
+  -- a reading of the whole input
+  abbrev whole_reading : Outcome
+  whole_reading = outcome Done (T (read q bytes true).events End)
 
-module _ (laws : TextLaws) (stay : RowsStay) (words : List (List ℕ)) (before after : Filed) (old new : Outside) (q : Plan) (bytes : List ℕ)
-    (asks : AsksFor words before.held q) (reads : ReadsToEnd q old.input bytes) (quiet : NoFaultRose words before after old new) (used_up : new.input.ended ≡ true → IsUsedUp new.input.left) where
-  whole_is : run_outcome q bytes true ≡ whole_run q bytes
-  whole_is = ap (λ (stop : Stop). record { status = status_of stop; text = windows_text q (read q bytes true).events stop }) reads.stop
+  whole_is : reading_outcome q T bytes true ≡ whole_reading
+  whole_is = ap (λ (stop : Stop). outcome (status_of stop) (T (read q bytes true).events stop)) reads.stop
 
-  -- a query that compiles is not refused: with no bytes its input would lack a header
-  not_refused : (s : Status) → Refused words before old new s → ⊥
-  not_refused s refused =
-      let done : s ≡ Done = ap (λ (o : Outcome). o.status) (run_only laws before.held q bytes true words (nothing_for s) asks (refused.is bytes true) ∙ whole_is) in
-      let faulty : s ≡ Input 1 0 0 = ap (λ (o : Outcome). o.status) (run_only laws before.held q [] true words (nothing_for s) asks (refused.is [] true)) in
+  -- a command that asks for a text is not refused: with no bytes its input would lack a header
+  not_refused : (end : Ending) → Refused (IsOutcome words before.held) old new end → ⊥
+  not_refused end refused =
+      let done : end.status ≡ Done = ap (λ (o : Outcome). o.status) (only bytes true _ (refused.is bytes true) ∙ whole_is) in
+      let faulty : end.status ≡ Input 1 0 0 = ap (λ (o : Outcome). o.status) (only [] true _ (refused.is [] true)) in
       let clash : Done ≡ Input 1 0 0 = sym done ∙ faulty in
       absurd (cc clash)
 
-  module _ (s : Status) (ran : Ran (IsOutcome words before.held) old new s) where
+  module _ (end : Ending) (ran : Ran (IsOutcome words before.held) old new end) where
     gave : Gave (Some bytes) ran.taken new.input.left
     gave = subst (λ (t : Told). Gave t ran.taken new.input.left) reads.told ran.gave
 
-    outcome_is : ran.outcome ≡ run_outcome q ran.taken new.input.ended
-    outcome_is = run_only laws before.held q ran.taken new.input.ended words ran.outcome asks ran.is
+    outcome_is : ran.outcome ≡ reading_outcome q T ran.taken new.input.ended
+    outcome_is = only ran.taken new.input.ended ran.outcome ran.is
 
     -- where the input has not ended, only its fault could have stopped the reading
-    stopped_open : new.input.ended ≡ false → s ≡ ran.outcome.status → ⊥
+    stopped_open : new.input.ended ≡ false → end.status ≡ ran.outcome.status → ⊥
     stopped_open open_ exact =
         let first = gave_first bytes ran.taken new.input.left gave in
         let going = goes_on stay q ran.taken first.0 (subst (λ (b : List ℕ). stop_of (read q b true) true ≡ End) first.1 reads.stop) in
-        let open_run = outcome_is ∙ ap (run_outcome q ran.taken) open_ in
+        let open_run = outcome_is ∙ ap (reading_outcome q T ran.taken) open_ in
         let here : ran.outcome.status ≡ status_of (stop_of (read q ran.taken false) false) = ap (λ (o : Outcome). o.status) open_run in
-        let read_fault : s ≡ Read = exact ∙ here ∙ ap (λ (o : Option Failure). status_of (stop_or (read q ran.taken false) false o)) going in
+        let read_fault : end.status ≡ Read = exact ∙ here ∙ ap (λ (o : Option Failure). status_of (stop_or (read q ran.taken false) false o)) going in
         quiet.input (ran.read_fault read_fault)
 
     -- where it has ended, all of it was taken
-    ended_done : new.input.ended ≡ true → (s ≡ ran.outcome.status) × Grew old.out.held ran.outcome.text new.out.held → IsDone q bytes old new (number_of s)
-    ended_done ended exact =
+    ended_done : new.input.ended ≡ true → end.status ≡ ran.outcome.status → Grew old.out.held ran.outcome.text new.out.held → IsDone (λ events. T events End) q bytes old new (number_of end.status)
+    ended_done ended exact grew =
         let all = gave_all bytes ran.taken new.input.left gave (used_up ended) in
-        let is : ran.outcome ≡ whole_run q bytes = outcome_is ∙ ap (run_outcome q ran.taken) ended ∙ ap (λ (b : List ℕ). run_outcome q b true) all.0 ∙ whole_is in
+        let is : ran.outcome ≡ whole_reading = outcome_is ∙ ap (reading_outcome q T ran.taken) ended ∙ ap (λ (b : List ℕ). reading_outcome q T b true) all.0 ∙ whole_is in
         record {
-          number = ap number_of (exact.0 ∙ ap (λ (o : Outcome). o.status) is);
+          number = ap number_of (exact ∙ ap (λ (o : Outcome). o.status) is);
           nothing_left = all.1;
-          text = subst (λ (o : Outcome). Grew old.out.held o.text new.out.held) is exact.1;
+          text = subst (λ (o : Outcome). Grew old.out.held o.text new.out.held) is grew;
         }
 
-    ran_done : IsDone q bytes old new (number_of s) ⊎ (s ≡ Memory)
-    ran_done = by (cut_by s) new.input.ended refl
+    ran_done : IsDone (λ events. T events End) q bytes old new (number_of end.status) ⊎ (end.status ≡ Memory)
+    ran_done = by (cut_by end.status) new.input.ended refl
       where
-        by : (s ≡ Memory) ⊎ ((s ≡ Write) ⊎ ((s ≢ Memory) × (s ≢ Write))) → (ended : Bool) → new.input.ended ≡ ended → IsDone q bytes old new (number_of s) ⊎ (s ≡ Memory)
+        by : (end.status ≡ Memory) ⊎ ((end.status ≡ Write) ⊎ ((end.status ≢ Memory) × (end.status ≢ Write))) → (ended : Bool) → new.input.ended ≡ ended → IsDone (λ events. T events End) q bytes old new (number_of end.status) ⊎ (end.status ≡ Memory)
         by (inl memory) ended is = inr memory
         by (inr (inl write)) ended is = absurd (quiet.out (ran.write_fault write).0)
-        by (inr (inr neither)) true is = inl (ended_done is (ran.exact neither.0 neither.1))
-        by (inr (inr neither)) false is = absurd (stopped_open is (ran.exact neither.0 neither.1).0)
+        by (inr (inr neither)) true is =
+            let exact = ran.exact neither.0 neither.1 in
+            inl (ended_done is (ap (λ (e : Ending). e.status) exact.0) exact.1)
+        by (inr (inr neither)) false is = absurd (stopped_open is (ap (λ (e : Ending). e.status) (ran.exact neither.0 neither.1).0))
 
-  answered_done : (s : Status) → Answered words before after old new s → IsDone q bytes old new (number_of s) ⊎ (s ≡ Memory)
-  answered_done s (by_memory memory same) = inr memory
-  answered_done s (by_file fault) = absurd (quiet.query_file fault.name fault.command fault.rose)
-  answered_done s (by_refusal refused) = absurd (not_refused s refused)
-  answered_done s (by_run ran) = ran_done s ran
+  answered_done : (end : Ending) → Answered names (IsOutcome words before.held) before after old new end → IsDone (λ events. T events End) q bytes old new (number_of end.status) ⊎ (end.status ≡ Memory)
+  answered_done end (by_memory memory same) = inr (ap (λ (e : Ending). e.status) memory)
+  answered_done end (by_file fault) = absurd (quiet.files fault.name fault.own fault.rose)
+  answered_done end (by_refusal refused) = absurd (not_refused end refused)
+  answered_done end (by_run ran) = ran_done end ran
 
--- the law of completeness, from those of texts and of rows
-pub completes : TextLaws → RowsStay → Completes
-completes laws stay words before after old new err_old err_new result q bytes promise asks reads quiet =
-    elim (answered_done laws stay words before after old new q bytes asks reads quiet promise.used_up promise.status promise.answered) [
-      | inl done ↦ inl (subst (IsDone q bytes old new) (sym promise.number) done)
-      | inr memory ↦ inr (promise.number ∙ ap number_of memory)
-    ]
+  -- the same of the number that the program ends with
+  number_done : (end : Ending) (result : ℕ) → result ≡ number_of end.status → Answered names (IsOutcome words before.held) before after old new end → IsDone (λ events. T events End) q bytes old new result ⊎ (result ≡ 1)
+  number_done end result number answered = elim (answered_done end answered) [
+    | inl done ↦ inl (subst (IsDone (λ events. T events End) q bytes old new) (sym number) done)
+    | inr memory ↦ inr (number ∙ ap number_of memory)
+  ]
+
+-- the law of completeness, from those of texts, of schedules and of rows
+pub completes : OneReading → OneSchedule → OneTruth → RowsStay → Completes
+completes reading sched truth stay words before after old new err_old err_new result q bytes _ promise (for_run place text command stands compiles) reads quiet =
+    number_done stay words promise.names before after old new q bytes (windows_text q)
+    (only_by words before.held q (windows_text q) (run place) command (λ b e o. run_at reading truth before.held q place text compiles stands b e o))
+    reads (quiet promise.names promise.given) promise.used_up promise.end result promise.number promise.served.answered
+completes reading sched truth stay words before after old new err_old err_new result q bytes _ promise (for_trace place text name bound steps command stands compiles tells) reads quiet =
+    number_done stay words promise.names before after old new q bytes (trace_text bound steps q)
+    (only_by words before.held q (trace_text bound steps q) (trace place name bound) command (λ b e o. trace_at reading truth before.held q place text compiles stands b e sched name bound steps tells o))
+    reads (quiet promise.names promise.given) promise.used_up promise.end result promise.number promise.served.answered

@@ -1,118 +1,117 @@
--- Words, told files and bytes have one outcome, since a text has one verdict and alike plans run alike.
-use Rattle.std.proofs.Common.{◌≡◌, ◌≢◌, inl, inr, ℕ, ◌<◌, ◌≤◌, Bool, List, [], length, get_or, Option, Some, None, refl, sym, ◌∙◌, ap, subst, arith}
-use Rattle.std.specs.Prelude.{IsSomeAnd}
-use Rattle.sp_cut.specs.CutRows.{without_mark}
-use Rattle.sp_io.specs.Outside.{first_file}
-use Rattle.sp_query.specs.declared.query.Query.{Query as QueryTree}
-use Rattle.sp_query.specs.Queries.{IsQuery}
-use Rattle.sp_parse.specs.declared.fault.ParseFault.{ParseFault}
-use Rattle.sp_parse.specs.declared.fault.ParseFault.TheVariants as parse_fault
-use Rattle.sp_parse.specs.Parses as parses
-use Rattle.sp_parse.specs.Codes as parse_codes
-use Rattle.sp_compile.specs.declared.fault.CompileFault.{CompileFault}
-use Rattle.sp_compile.specs.declared.fault.CompileFault.TheVariants as f
-use Rattle.sp_compile.specs.Checks.{Checks}
-use Rattle.sp_compile.specs.Told as told
-use Rattle.sp_compile.specs.Told.{IsPlanOf}
-use Rattle.sp_compile.specs.Codes as compile_codes
-use Rattle.sp_top.specs.declared.status.Status.TheVariants.{Query}
-use Rattle.sp_top.specs.Commands.{Place, word, file, IsCommand, with_text, with_file}
-use Rattle.sp_top.specs.Outcome.{Outcome, TextOutcome, no_text, no_query, no_plan, run, QueryOutcome, long_text, of_text, long_file, of_file, IsOutcome, nothing_for, longest_query}
-use Rattle.sp_top.proofs.OneRun.{OneTruth, plans_run_alike}
+-- Words, told files and bytes have one outcome, since texts have one reading and alike plans run and trace alike.
+use Rattle.std.proofs.Common.{◌≡◌, inl, inr, ℕ, Bool, List, [], Some, refl, sym, ◌∙◌, ap, subst}
+use Rattle.std.specs.Prelude.{if◌then◌else◌}
+use Rattle.sp_io.specs.Outside.{HoldsLonger}
+use Rattle.sp_plan.specs.declared.event.Event.{Event}
+use Rattle.sp_plan.specs.declared.plan.Plan.{Plan}
+use Rattle.sp_sched.specs.Schedules.{OneSchedule}
+use Rattle.sp_sched.specs.declared.step.TraceStep.{TraceStep}
+use Rattle.sp_intake.specs.Reading.{is_end}
+use Rattle.sp_intake.specs.declared.input.Stop.{Stop}
+use Rattle.sp_load.specs.Places.{Place}
+use Rattle.sp_load.specs.Queries.{IsPlanFor, IsFaulty, IsPlanAt, IsFaultyAt}
+use Rattle.sp_load.specs.Laws.{OneReading, OneText}
+use Rattle.sp_load.proofs.OneTextLaws.{not_longer}
+use Rattle.sp_answer.specs.Outcome.{Outcome, nothing_for}
+use Rattle.sp_answer.specs.declared.status.Status.TheVariants.{Query, Schedule}
+use Rattle.sp_top.specs.Commands.{Command, run, trace}
+use Rattle.sp_top.specs.OneOutcome.{OneOutcome}
+use Rattle.sp_top.specs.Outcome.{CommandOutcome}
+use Rattle.sp_top.specs.Run.{run_outcome, RunOutcome, too_long, faulty, runs}
+use Rattle.sp_top.specs.Trace.{trace_text, trace_outcome, longest_schedule, HasSchedule, TextsOutcome, faulty as faulty_query, bad_line, traces, TraceOutcome, long_query, long_schedule, of_texts}
+use Rattle.sp_top.proofs.AlikeTraces.{traced_same}
+use Rattle.sp_top.proofs.OneCommand.{one_command}
+use Rattle.sp_top.proofs.OneRun.{OneTruth, plans_run_alike, stand_alike, outcome_by}
 
--- ---- places
-
--- the second letter of the second word
-abbrev option_mark : List (List ℕ) → ℕ
-option_mark words = get_or (get_or words 1 []) 1 0
-
-one_place_by : (words others : List (List ℕ)) (p r : Place) → IsCommand words p → IsCommand others r → words ≡ others → p ≡ r
-one_place_by _ _ _ _ (with_text first text by) (with_text other words so) is = let same : text ≡ words = cc is in ap word same
-one_place_by _ _ _ _ (with_text first text by) (with_file other name so) is = let clash : 113 ≡ 102 = ap option_mark is in absurd (omega (arith, clash))
-one_place_by _ _ _ _ (with_file first name by) (with_text other text so) is = let clash : 102 ≡ 113 = ap option_mark is in absurd (omega (arith, clash))
-one_place_by _ _ _ _ (with_file first name by) (with_file other same_name so) is = let same : name ≡ same_name = cc is in ap file same
-
-pub one_place : (words : List (List ℕ)) (p r : Place) → IsCommand words p → IsCommand words r → p ≡ r
-one_place words p r first second = one_place_by words words p r first second refl
-
--- ---- files
-
--- a file within the limit is none that is longer
-pub not_longer : (files : List (List ℕ × List ℕ)) (name content : List ℕ) → first_file files name ≡ Some content → length content ≤ longest_query → IsSomeAnd (first_file files name) (λ held. longest_query < length held) → ⊥
-not_longer files name content holds short longer =
-    let over = subst (λ (o : Option (List ℕ)). IsSomeAnd o (λ held. longest_query < length held)) holds longer in
-    absurd (omega (arith, short, over))
-
--- ---- texts
-
--- what refuses a query is what its checks find
-checks_of : (query : QueryTree) (fault : CompileFault) → fault ≢ f.Memory → told.Refuses query fault → Checks query (Some fault)
-checks_of query f.Memory other refuses = absurd (other refl)
-checks_of query (f.Unknown span) other refuses = refuses
-checks_of query (f.Twice span) other refuses = refuses
-checks_of query (f.WrongKind span) other refuses = refuses
-checks_of query (f.PlusLast span) other refuses = refuses
-checks_of query (f.LateReference span) other refuses = refuses
-checks_of query (f.TooWide span) other refuses = refuses
-checks_of query (f.BadWindow span) other refuses = refuses
-checks_of query (f.TooMany span) other refuses = refuses
-
--- the laws of texts and queries
-pub record TextLaws : Type 0 where
+-- the laws of places, of texts, of schedules and of predicates
+pub record RunLaws : Type 0 where
+  pub text : OneText
+  pub reading : OneReading
+  pub schedule : OneSchedule
   pub truth : OneTruth
-  pub query : (text : List ℕ) (query other : QueryTree) → IsQuery text query → IsQuery text other → query ≡ other
-  pub fault : (text : List ℕ) (one other : ParseFault) → one ≢ parse_fault.Memory → other ≢ parse_fault.Memory → parses.Refuses text one → parses.Refuses text other → one ≡ other
-  pub apart : (text : List ℕ) (query : QueryTree) (fault : ParseFault) → fault ≢ parse_fault.Memory → IsQuery text query → parses.Refuses text fault → ⊥
-  pub verdict : (query : QueryTree) (one other : Option CompileFault) → Checks query one → Checks query other → one ≡ other
 
-module _ (laws : TextLaws) (bytes : List ℕ) (ended : Bool) where
-  one_verdict : (text : List ℕ) (query other : QueryTree) (found given : Option CompileFault) → IsQuery text query → IsQuery text other → Checks query found → Checks other given → found ≡ given
-  one_verdict text query other found given is so finds gives = laws.verdict other found given (subst (λ (q : QueryTree). Checks q found) (laws.query text query other is so) finds) gives
+-- plans of one text run alike
+pub one_run : OneReading → OneTruth → (text : List ℕ) (x y : Plan) → IsPlanFor text x → IsPlanFor text y → (bytes : List ℕ) (ended : Bool) → run_outcome x bytes ended ≡ run_outcome y bytes ended
+one_run reading truth text x y one other bytes ended =
+    let both = reading.plans text x y one other in
+    plans_run_alike truth both.0 x y both.1 both.2 bytes ended
 
-  pub one_text : (text : List ℕ) (a b : Outcome) → TextOutcome text bytes ended a → TextOutcome text bytes ended b → a ≡ b
-  one_text text _ _ (no_text none) (no_text other) = refl
-  one_text text _ _ (no_text none) (no_query fault utf8 refuses no_memory) = absurd (none utf8)
-  one_text text _ _ (no_text none) (no_plan query fault utf8 is refuses no_memory) = absurd (none utf8)
-  one_text text _ _ (no_text none) (run query q utf8 is plan) = absurd (none utf8)
-  one_text text _ _ (no_query fault utf8 refuses no_memory) (no_text none) = absurd (none utf8)
-  one_text text _ _ (no_query fault utf8 refuses no_memory) (no_query other utf8' refuses' no_memory') =
-      ap (λ (x : ParseFault). nothing_for (Query (parse_codes.code_of x) (parse_codes.place_of x))) (laws.fault text fault other no_memory no_memory' refuses refuses')
-  one_text text _ _ (no_query fault utf8 refuses no_memory) (no_plan query other utf8' is refuses' no_memory') = absurd (laws.apart text query fault no_memory is refuses)
-  one_text text _ _ (no_query fault utf8 refuses no_memory) (run query q utf8' is plan) = absurd (laws.apart text query fault no_memory is refuses)
-  one_text text _ _ (no_plan query fault utf8 is refuses no_memory) (no_text none) = absurd (none utf8)
-  one_text text _ _ (no_plan query fault utf8 is refuses no_memory) (no_query other utf8' refuses' no_memory') = absurd (laws.apart text query other no_memory' is refuses')
-  one_text text _ _ (no_plan query fault utf8 is refuses no_memory) (no_plan query' other utf8' is' refuses' no_memory') =
-      let found = one_verdict text query query' (Some fault) (Some other) is is' (checks_of query fault no_memory refuses) (checks_of query' other no_memory' refuses') in
-      let same : fault ≡ other = cc found in
-      ap (λ (x : CompileFault). nothing_for (Query (compile_codes.code_of x) (compile_codes.place_of x))) same
-  one_text text _ _ (no_plan query fault utf8 is refuses no_memory) (run query' q utf8' is' plan) =
-      absurd (cc (one_verdict text query query' (Some fault) None is is' (checks_of query fault no_memory refuses) plan.checks))
-  one_text text _ _ (run query q utf8 is plan) (no_text none) = absurd (none utf8)
-  one_text text _ _ (run query q utf8 is plan) (no_query other utf8' refuses' no_memory') = absurd (laws.apart text query other no_memory' is refuses')
-  one_text text _ _ (run query q utf8 is plan) (no_plan query' other utf8' is' refuses' no_memory') =
-      absurd (cc (one_verdict text query query' None (Some other) is is' plan.checks (checks_of query' other no_memory' refuses')))
-  one_text text _ _ (run query q utf8 is plan) (run query' p utf8' is' plan') =
-      plans_run_alike laws.truth query' q p (subst (IsPlanOf q) (laws.query text query query' is is') plan) plan' bytes ended
+-- and trace alike
+pub one_trace : OneReading → OneTruth → (text : List ℕ) (x y : Plan) → IsPlanFor text x → IsPlanFor text y → (bound : ℕ) (steps : List TraceStep) (bytes : List ℕ) (ended : Bool) → trace_outcome x bound steps bytes ended ≡ trace_outcome y bound steps bytes ended
+one_trace reading truth text x y one other bound steps bytes ended =
+    let both = reading.plans text x y one other in
+    let alike = stand_alike truth both.0 x y both.1.stands both.2.stands in
+    outcome_by x y alike (trace_text bound steps) (λ (events : List Event) (stop : Stop). λ i. if is_end stop then traced_same x y alike bound events steps i else []) bytes ended
 
-  -- ---- places in words and in files
+-- ---- a run
 
-  module _ (files : List (List ℕ × List ℕ)) where
-    one_at : (place : Place) (a b : Outcome) → QueryOutcome (Some files) bytes ended place a → QueryOutcome (Some files) bytes ended place b → a ≡ b
-    one_at _ _ _ (long_text text long) (long_text _ other) = refl
-    one_at _ _ _ (long_text text long) (of_text _ o short is) = absurd (omega (arith, long, short))
-    one_at _ _ _ (of_text text o short is) (long_text _ long) = absurd (omega (arith, long, short))
-    one_at _ _ _ (of_text text o short is) (of_text _ u short' is') = one_text text o u is is'
-    one_at _ _ _ (long_file name long) (long_file _ other) = refl
-    one_at _ _ _ (long_file name long) (of_file _ content o holds short is) = absurd (not_longer files name content holds short long)
-    one_at _ _ _ (of_file name content o holds short is) (long_file _ long) = absurd (not_longer files name content holds short long)
-    one_at _ _ _ (of_file name content o holds short is) (of_file _ other u holds' short' is') =
-        let both : Some content ≡ Some other = sym holds ∙ holds' in
-        let same : content ≡ other = cc both in
-        one_text (without_mark other) o u (subst (λ (c : List ℕ). TextOutcome (without_mark c) bytes ended o) same is) is'
+module _ (laws : RunLaws) (files : List (List ℕ × List ℕ)) (place : Place) where
+  -- what stands there has a plan, or a fault
+  apart : (q : Plan) (code at : ℕ) → IsPlanAt (Some files) place q → IsFaultyAt (Some files) place code at → ⊥
+  apart q code at plan fault = laws.reading.apart fault.0 q code at (subst (λ (t : List ℕ). IsPlanFor t q) (laws.text.texts files place plan.0 fault.0 plan.1 fault.1) plan.2) fault.2
 
-pub one_outcome : TextLaws → (words : List (List ℕ)) (files : List (List ℕ × List ℕ)) (bytes : List ℕ) (ended : Bool) (one other : Outcome) → IsOutcome words (Some files) bytes ended one → IsOutcome words (Some files) bytes ended other → one ≡ other
+  module _ (bytes : List ℕ) (ended : Bool) where
+    one_run_outcome : (a b : Outcome) → RunOutcome place (Some files) bytes ended a → RunOutcome place (Some files) bytes ended b → a ≡ b
+    one_run_outcome _ _ (too_long long) (too_long other) = refl
+    one_run_outcome _ _ (too_long long) (faulty code at fault) = absurd (laws.text.apart files place fault.0 fault.1 long)
+    one_run_outcome _ _ (too_long long) (runs q plan) = absurd (laws.text.apart files place plan.0 plan.1 long)
+    one_run_outcome _ _ (faulty code at fault) (too_long long) = absurd (laws.text.apart files place fault.0 fault.1 long)
+    one_run_outcome _ _ (faulty code at fault) (faulty code' at' other) =
+        let same = laws.reading.faults other.0 code at code' at' (subst (λ (t : List ℕ). IsFaulty t code at) (laws.text.texts files place fault.0 other.0 fault.1 other.1) fault.2) other.2 in
+        λ i. nothing_for (Query (same.0 i) (same.1 i))
+    one_run_outcome _ _ (faulty code at fault) (runs q plan) = absurd (apart q code at plan fault)
+    one_run_outcome _ _ (runs q plan) (too_long long) = absurd (laws.text.apart files place plan.0 plan.1 long)
+    one_run_outcome _ _ (runs q plan) (faulty code at fault) = absurd (apart q code at plan fault)
+    one_run_outcome _ _ (runs q plan) (runs p other) =
+        one_run laws.reading laws.truth other.0 q p (subst (λ (t : List ℕ). IsPlanFor t q) (laws.text.texts files place plan.0 other.0 plan.1 other.1) plan.2) other.2 bytes ended
+
+-- ---- a trace
+
+-- texts have one outcome
+pub one_texts : OneReading → OneSchedule → OneTruth → (query schedule : List ℕ) (bound : ℕ) (bytes : List ℕ) (ended : Bool) (a b : Outcome) → TextsOutcome query schedule bound bytes ended a → TextsOutcome query schedule bound bytes ended b → a ≡ b
+one_texts reading sched truth query schedule bound bytes ended _ _ (faulty_query code at fault) (faulty_query code' at' other) =
+    let same = reading.faults query code at code' at' fault other in
+    λ i. nothing_for (Query (same.0 i) (same.1 i))
+one_texts reading sched truth query schedule bound bytes ended _ _ (faulty_query code at fault) (bad_line q line plan bad) = absurd (reading.apart query q code at plan fault)
+one_texts reading sched truth query schedule bound bytes ended _ _ (faulty_query code at fault) (traces q steps plan is) = absurd (reading.apart query q code at plan fault)
+one_texts reading sched truth query schedule bound bytes ended _ _ (bad_line q line plan bad) (faulty_query code at fault) = absurd (reading.apart query q code at plan fault)
+one_texts reading sched truth query schedule bound bytes ended _ _ (bad_line q line plan bad) (bad_line p other also worse) = ap (λ (n : ℕ). nothing_for (Schedule n)) (sched.bad schedule line other bad worse)
+one_texts reading sched truth query schedule bound bytes ended _ _ (bad_line q line plan bad) (traces p steps also is) = absurd (sched.apart schedule steps line is bad)
+one_texts reading sched truth query schedule bound bytes ended _ _ (traces q steps plan is) (faulty_query code at fault) = absurd (reading.apart query q code at plan fault)
+one_texts reading sched truth query schedule bound bytes ended _ _ (traces q steps plan is) (bad_line p line also bad) = absurd (sched.apart schedule steps line is bad)
+one_texts reading sched truth query schedule bound bytes ended _ _ (traces q steps plan is) (traces p others also so) =
+    ap (λ (xs : List TraceStep). trace_outcome q bound xs bytes ended) (sched.steps schedule steps others is so) ∙ one_trace reading truth query q p plan also bound others bytes ended
+
+module _ (laws : RunLaws) (files : List (List ℕ × List ℕ)) (place : Place) (name : List ℕ) (bound : ℕ) (bytes : List ℕ) (ended : Bool) where
+  -- a schedule within the limit is none that is longer
+  within : (content : List ℕ) → HasSchedule (Some files) name content → HoldsLonger (Some files) name longest_schedule → ⊥
+  within content holds longer = not_longer files name content longest_schedule holds.0 holds.1 longer
+
+  one_trace_outcome : (a b : Outcome) → TraceOutcome place name bound (Some files) bytes ended a → TraceOutcome place name bound (Some files) bytes ended b → a ≡ b
+  one_trace_outcome _ _ (long_query long) (long_query other) = refl
+  one_trace_outcome _ _ (long_query long) (long_schedule text has longer) = absurd (laws.text.apart files place text has long)
+  one_trace_outcome _ _ (long_query long) (of_texts text content o has holds is) = absurd (laws.text.apart files place text has long)
+  one_trace_outcome _ _ (long_schedule text has longer) (long_query long) = absurd (laws.text.apart files place text has long)
+  one_trace_outcome _ _ (long_schedule text has longer) (long_schedule other also more) = refl
+  one_trace_outcome _ _ (long_schedule text has longer) (of_texts other content o also holds is) = absurd (within content holds longer)
+  one_trace_outcome _ _ (of_texts text content o has holds is) (long_query long) = absurd (laws.text.apart files place text has long)
+  one_trace_outcome _ _ (of_texts text content o has holds is) (long_schedule other also longer) = absurd (within content holds longer)
+  one_trace_outcome _ _ (of_texts text content o has holds is) (of_texts other also u there keeps so) =
+      let same-text = laws.text.texts files place text other has there in
+      let both : Some content ≡ Some also = sym holds.0 ∙ keeps.0 in
+      let same-content : content ≡ also = cc both in
+      one_texts laws.reading laws.schedule laws.truth other also bound bytes ended o u
+      (subst (λ (c : List ℕ). TextsOutcome other c bound bytes ended o) same-content (subst (λ (t : List ℕ). TextsOutcome t content bound bytes ended o) same-text is)) so
+
+-- ---- all words
+
+one_of : RunLaws → (files : List (List ℕ × List ℕ)) (command : Command) (bytes : List ℕ) (ended : Bool) (a b : Outcome) → CommandOutcome command (Some files) bytes ended a → CommandOutcome command (Some files) bytes ended b → a ≡ b
+one_of laws files (run place) bytes ended a b one other = one_run_outcome laws files place bytes ended a b one other
+one_of laws files (trace place name bound) bytes ended a b one other = one_trace_outcome laws files place name bound bytes ended a b one other
+
+pub one_outcome : RunLaws → OneOutcome
 one_outcome laws words files bytes ended one other (inl none) (inl so) = none.1 ∙ sym so.1
 one_outcome laws words files bytes ended one other (inl none) (inr at) = absurd (none.0 at.0 at.1)
 one_outcome laws words files bytes ended one other (inr at) (inl none) = absurd (none.0 at.0 at.1)
 one_outcome laws words files bytes ended one other (inr at) (inr so) =
-    one_at laws bytes ended files so.0 one other (subst (λ (p : Place). QueryOutcome (Some files) bytes ended p one) (one_place words at.0 so.0 at.1 so.1) at.2) so.2
+    one_of laws files so.0 bytes ended one other (subst (λ (c : Command). CommandOutcome c (Some files) bytes ended one) (one_command words at.0 so.0 at.1 so.1) at.2) so.2

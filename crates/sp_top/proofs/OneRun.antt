@@ -9,6 +9,7 @@ use Rattle.sp_plan.specs.declared.plan.Pred.{Pred}
 use Rattle.sp_plan.specs.declared.plan.Opening.{Opening}
 use Rattle.sp_plan.specs.declared.plan.Opening.TheVariants.{EveryEvents, EveryTime, When}
 use Rattle.sp_plan.specs.Lines.{text}
+use Rattle.sp_intake.specs.declared.input.Stop.{Stop}
 use Rattle.sp_plan.specs.Sequential.{Progress, whole}
 use Rattle.sp_plan.specs.Texts.{with_text}
 use Rattle.sp_plan.specs.Values.{BoundEvents, holds}
@@ -23,8 +24,10 @@ use Rattle.sp_compile.specs.Scopes.{Scope, PatternName, pattern_names}
 use Rattle.sp_compile.specs.Stands.{Literals, none, some, literal_of, all_trees, StandsForDefinition, StandForNames, StandsForOpening, Stands, definition_of}
 use Rattle.sp_compile.specs.Told.{IsPlanOf}
 use Rattle.sp_top.specs.Alike.{Alike, HoldAlike, NamesAlike, OpeningsAlike}
-use Rattle.sp_top.specs.Outcome.{Outcome, run_outcome, status_of, is_end, windows_text}
-use Rattle.sp_top.specs.Reading.{Reading, read, stop_of}
+use Rattle.sp_answer.specs.Outcome.{outcome}
+use Rattle.sp_top.specs.Ends.{status_of, reading_outcome}
+use Rattle.sp_top.specs.Run.{run_outcome, windows_text}
+use Rattle.sp_intake.specs.Reading.{Reading, read, stop_of, is_end}
 use Rattle.sp_top.proofs.Alike.{read_same, whole_same, lines_same}
 
 -- trees have one list of texts
@@ -77,7 +80,7 @@ module _ (truth : OneTruth) (query : Query) (x y : Plan) (first : Stands x query
   texts_alike : x.texts ≡ y.texts
   texts_alike = first.texts ∙ ap (fold with_text []) (one_literals (all_trees query) first.literals second.literals first.of_trees second.of_trees) ∙ sym second.texts
 
-  stand_alike : Alike x y
+  pub stand_alike : Alike x y
   stand_alike =
       let names = subst (λ (texts : List (List ℕ)). StandForNames query texts (pattern_names query) y.names) (sym texts_alike) second.names in
       let opening = subst (λ (texts : List (List ℕ)). StandsForOpening query texts query.opening y.opening) (sym texts_alike) second.opening in
@@ -92,19 +95,19 @@ module _ (truth : OneTruth) (query : Query) (x y : Plan) (first : Stands x query
         opening = openings_alike truth query x.texts query.opening x.opening y.opening first.opening opening;
       }
 
--- alike plans have one outcome
+-- alike plans have one outcome, where their texts are one
 module _ (x y : Plan) (alike : Alike x y) where
-  abbrev of_reading : Bool → Reading → Outcome
-  of_reading ended r = record { status = status_of (stop_of r ended); text = windows_text x r.events (stop_of r ended) }
-
-  text_same : (events : List Event) (ended : Bool) → text x (whole x events ended).matches ≡ text y (whole y events ended).matches
-  text_same events ended = lines_same x y alike (whole x events ended).matches ∙ ap (λ (w : Progress). text y w.matches) (whole_same x y alike events ended)
-
-  outcome_same : (bytes : List ℕ) (ended : Bool) → run_outcome x bytes ended ≡ run_outcome y bytes ended
-  outcome_same bytes ended =
+  pub outcome_by : (T : Plan → List Event → Stop → List ℕ) → ((events : List Event) (stop : Stop) → T x events stop ≡ T y events stop)
+      → (bytes : List ℕ) (ended : Bool) → reading_outcome x (T x) bytes ended ≡ reading_outcome y (T y) bytes ended
+  outcome_by T same bytes ended =
       let r = read y bytes ended in
-      ap (of_reading ended) (read_same x y alike bytes ended)
-      ∙ (λ i. record { status = status_of (stop_of r ended); text = text_same r.events (is_end (stop_of r ended)) i })
+      ap (λ (one : Reading). outcome (status_of (stop_of one ended)) (T x one.events (stop_of one ended))) (read_same x y alike bytes ended)
+      ∙ ap (outcome (status_of (stop_of r ended))) (same r.events (stop_of r ended))
+
+  text_same : (events : List Event) (stop : Stop) → windows_text x events stop ≡ windows_text y events stop
+  text_same events stop = lines_same x y alike (whole x events (is_end stop)).matches ∙ ap (λ (w : Progress). text y w.matches) (whole_same x y alike events (is_end stop))
 
 pub plans_run_alike : OneTruth → (query : Query) (x y : Plan) → IsPlanOf x query → IsPlanOf y query → (bytes : List ℕ) (ended : Bool) → run_outcome x bytes ended ≡ run_outcome y bytes ended
-plans_run_alike truth query x y first second = outcome_same x y (stand_alike truth query x y first.stands second.stands)
+plans_run_alike truth query x y first second =
+    let alike = stand_alike truth query x y first.stands second.stands in
+    outcome_by x y alike windows_text (text_same x y alike)

@@ -9,7 +9,7 @@ use Rattle.sp_plan.specs.declared.plan.Opening.TheVariants.{When}
 use Rattle.sp_plan.specs.Values.{BoundEvents, holds}
 use Rattle.sp_query.specs.declared.query.Query.{Query}
 use Rattle.sp_compile.specs.Told.{IsPlanOf}
-use Rattle.sp_top.specs.Outcome.{run_outcome}
+use Rattle.sp_top.specs.Run.{run_outcome}
 
 -- the predicates hold alike
 abbrev pub HoldAlike : Pred → Pred → Type 0

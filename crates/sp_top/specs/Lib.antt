@@ -1,10 +1,8 @@
 pub mod Commands
-pub mod Reading
-pub mod Kept
-pub mod Coming
+pub mod Ends
+pub mod Run
+pub mod Trace
 pub mod Outcome
-pub mod Answer
-pub mod Queries
 pub mod Alike
 pub mod OneOutcome
 pub mod Completes

@@ -1,6 +1,7 @@
 -- What words, told files and bytes come to is one thing.
 use Rattle.std.specs.Prelude.{◌≡◌, ℕ, Bool, List, Some}
-use Rattle.sp_top.specs.Outcome.{Outcome, IsOutcome}
+use Rattle.sp_answer.specs.Outcome.{Outcome}
+use Rattle.sp_top.specs.Outcome.{IsOutcome}
 
 -- For words, files that are told and bytes there is at most one outcome: one status and one text.
 abbrev pub OneOutcome : Type 0

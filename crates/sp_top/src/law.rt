@@ -3,9 +3,10 @@ ghost use Rattle.sp_top.specs.Alike.{PlansRunAlike};
 ghost use Rattle.sp_top.specs.OneOutcome.{OneOutcome};
 ghost use Rattle.sp_top.specs.Completes.{Completes};
 
-use sp_compile::{one_truth, one_verdict};
+use sp_compile::one_truth;
 use sp_cut::rows_stay;
-use sp_parse::{one_fault, one_query};
+use sp_load::{one_reading, one_text};
+use sp_sched::one_schedule;
 
 /// Law: plans that stand for one query have one outcome over all bytes, status and text.
 pub fn plans_run_alike()
@@ -15,27 +16,28 @@ pub fn plans_run_alike()
     one_truth();
 }
 
-/// Law: words, files that are told and bytes have at most one outcome: one status and one text.
+/// Law: words, files that are told and bytes have at most one outcome: one status, one line and one text.
 pub fn one_outcome()
     ensures { OneOutcome }
 {
-    // laws: what a text is, what refuses it, and what its predicates mean is one thing each
-    one_query();
-    one_fault();
-    one_verdict();
+    // laws: what stands at a place, what its text comes to, what its predicates mean, and what a
+    // schedule is is one thing each
+    one_text();
+    one_reading();
     one_truth();
+    one_schedule();
 }
 
-/// Law: words that give a command, a text or file within its limit, a query that compiles, input whose
-/// reading stops at its end, and no count of faults that rose give status 0 and the whole text, or
-/// status 1 for want of memory.
+/// Law: words that give a command, a text or file within its limit, a query that compiles, a schedule
+/// without a bad line where one is named, input whose reading stops at its end, and no count of faults
+/// that rose give status 0 and the whole text, or status 1 for want of memory.
 pub fn completes()
     ensures { Completes }
 {
-    // laws: what a query's text comes to is one thing, and a row stays a row whatever comes behind
-    one_query();
-    one_fault();
-    one_verdict();
+    // laws: what texts of queries and schedules come to is one thing, and a row stays a row whatever
+    // comes behind
+    one_reading();
+    one_schedule();
     one_truth();
     rows_stay();
 }

@@ -1,31 +1,23 @@
-// The way of the lines of matches to the output.
-ghost use Rattle.std.specs.Prelude.{◌≡◌, ◌≢◌, []};
-ghost use Rattle.sp_io.specs.Outside.{Grew, GrewWithin, Rose};
+// The way of lines to the output.
+ghost use Rattle.std.specs.Prelude.{map, string_bytes, Ok};
+ghost use Rattle.sp_answer.specs.Written.{WritesText};
 ghost use Rattle.sp_plan.specs.Lines.{text};
+ghost use Rattle.sp_trace.specs.Traced.{joined};
 
+use sp_answer::Written;
 use sp_emit::match_line;
 use sp_io::Sink;
 use sp_plan::{Match, Memory, Plan};
 use std::alloc::Global;
 
-// Whether all lines were written, or the output failed before.
-#[derive(Clone, Copy, Drop, PartialEq, Eq)]
-pub(crate) enum Written {
-    All,
-    Failed,
-}
-
-// Writes the line of each match by one call. Whatever it answers, what was written begins their text.
+/// Writes the line of each match by one call. Whatever it answers, what was written begins their text.
 pub(crate) fn write_lines<K: Sink>(
     alloc: Global,
     plan: &Plan,
     matches: &[Match],
     out: &mut K,
 ) -> Result<Written, Memory>
-    ensures all { result ≡ Ok Written.All → Grew (K.state out.old).held (text plan.now matches.now) (K.state out.new).held }
-    ensures within { GrewWithin (K.state out.old).held (text plan.now matches.now) (K.state out.new).held }
-    ensures failed { result ≡ Ok Written.Failed → Rose (K.state out.old).faults (K.state out.new).faults × (text plan.now matches.now ≢ []) }
-    ensures not_failed { result ≢ Ok Written.Failed → (K.state out.new).faults ≡ (K.state out.old).faults }
+    ensures { WritesText (text plan.now matches.now) (K.state out.old) (K.state out.new) result }
 {
     for found in matches {
         let one = match_line(alloc, plan, found)?;
@@ -35,4 +27,31 @@ pub(crate) fn write_lines<K: Sink>(
         }
     }
     Ok(Written::All)
+}
+
+// Writes a line by one call, and an empty one by none.
+fn write_one<K: Sink>(line: &str, out: &mut K) -> Written
+    ensures { WritesText line.now (K.state out.old) (K.state out.new) (Ok result) }
+{
+    if line.is_empty() {
+        return Written::All;
+    }
+    match out.write_all(line.as_bytes()) {
+        Ok(()) => Written::All,
+        Err(_) => Written::Failed,
+    }
+}
+
+/// Writes each line by one call.
+pub(crate) fn write_texts<K: Sink>(lines: &[String], out: &mut K) -> Written
+    ensures { let text = joined (map string_bytes lines.now) in
+        WritesText text (K.state out.old) (K.state out.new) (Ok result) }
+{
+    for line in lines {
+        match write_one(line.as_str(), out) {
+            Written::All => {}
+            Written::Failed => return Written::Failed,
+        }
+    }
+    Written::All
 }

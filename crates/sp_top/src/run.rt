@@ -1,42 +1,29 @@
-// A plan over the input.
-ghost use Rattle.std.specs.Prelude.{◌≡◌, ◌≢◌, ◌≤◌, [], false, length, IfOk};
+// The commands `run` and `plain`: a query over the input, window by window.
+ghost use Rattle.std.specs.Prelude.{◌≡◌, ◌≤◌, false, length, IfOk};
 ghost use Rattle.std.specs.Arc.{arc_value};
-ghost use Rattle.sp_io.specs.Outside.{Grew, GrewWithin, Rose};
 ghost use Rattle.sp_plan.specs.Compiled.{IsCompiled};
 ghost use Rattle.sp_plan.specs.Events.{AllFit, NeverGoesBack};
-ghost use Rattle.sp_top.specs.Answer.{Ran, IsPlanRun};
-ghost use Rattle.sp_top.specs.Outcome;
-ghost use Rattle.sp_top.specs.Outcome.{windows_text};
+ghost use Rattle.sp_load.specs.Places.{place_of};
+ghost use Rattle.sp_answer.specs.Outcome.{ending};
+ghost use Rattle.sp_answer.specs.Promise.{filed, Served};
+ghost use Rattle.sp_answer.specs.Ran.{outside, Ran};
+ghost use Rattle.sp_answer.specs.Written.{WritesText};
+ghost use Rattle.sp_top.specs.Commands.{files_at};
+ghost use Rattle.sp_top.specs.Run.{windows_text, IsPlanRun, RunOutcome};
 
-use crate::input::{Failure, Given, Stop, read_input};
-use crate::output::{Written, write_lines};
-use crate::status::Status;
-use sp_io::{Sink, Source};
+use crate::ends::{status_of, status_of_refusal};
+use crate::output::write_lines;
+use sp_answer::{Status, Written};
+use sp_intake::{Given, read_input};
+use sp_io::{Files, Sink, Source};
+use sp_load::{Place, plan_at};
 use sp_plan::{Memory, Plan};
 use sp_seq::plain;
 use std::alloc::Global;
 use std::sync::Arc;
 
-// The status of a run whose lines were all written.
-fn status_of(stop: Stop) -> Status
-    ensures { result ≡ Outcome.status_of stop }
-{
-    match stop {
-        Stop::End => Status::Done,
-        Stop::Failed(Failure::Row { code, row, column }) => Status::Input { code, row, column },
-        Stop::Failed(Failure::Limit { limit }) => Status::Limited { limit },
-        Stop::Open => Status::Read,
-    }
-}
-
-fn is_end(stop: Stop) -> bool
-    ensures { result ≡ Outcome.is_end stop }
-{
-    matches!(stop, Stop::End)
-}
-
-// The plan, to be held by several owners.
-fn shared(alloc: Global, plan: Plan) -> Result<Arc<Plan>, Memory>
+/// The plan, to be held by several owners.
+pub(crate) fn shared(alloc: Global, plan: Plan) -> Result<Arc<Plan>, Memory>
     ensures { IfOk result (λ arc. arc_value arc ≡ plan) }
 {
     Ok(Arc::new(alloc, plan)?)
@@ -53,28 +40,21 @@ fn write_windows<K: Sink>(
     requires few { length given.now.events.items ≤ 1048576 }
     requires fit { AllFit (arc_value plan.now) given.now.events.items }
     requires ordered { NeverGoesBack given.now.events.items }
-    ensures all { result ≡ Ok Written.All → Grew (K.state out.old).held (windows_text (arc_value plan.now) given.now.events.items given.now.stop) (K.state out.new).held }
-    ensures within { GrewWithin (K.state out.old).held (windows_text (arc_value plan.now) given.now.events.items given.now.stop) (K.state out.new).held }
-    ensures failed { result ≡ Ok Written.Failed → Rose (K.state out.old).faults (K.state out.new).faults × (windows_text (arc_value plan.now) given.now.events.items given.now.stop ≢ []) }
-    ensures not_failed { result ≢ Ok Written.Failed → (K.state out.new).faults ≡ (K.state out.old).faults }
+    ensures { let text = windows_text (arc_value plan.now) given.now.events.items given.now.stop in
+        WritesText text (K.state out.old) (K.state out.new) result }
 {
-    let matches = plain(alloc, plan.clone()?, &given.events, is_end(given.stop))?;
+    let matches = plain(alloc, plan.clone()?, &given.events, given.stop.is_end())?;
     write_lines(alloc, plan, &matches, out)
 }
 
 // Runs a plan over the input.
-pub(crate) fn run_plan<S: Source, K: Sink>(
-    alloc: Global,
-    plan: Plan,
-    input: &mut S,
-    out: &mut K,
-) -> Status
+fn run_plan<S: Source, K: Sink>(alloc: Global, plan: Plan, input: &mut S, out: &mut K) -> Status
     requires compiled { IsCompiled plan }
     requires not_ended { (S.state input.old).ended ≡ false }
     ensures { Ran (IsPlanRun plan)
-        (record { input = S.state input.old; out = K.state out.old })
-        (record { input = S.state input.new; out = K.state out.new })
-        result }
+        (outside (S.state input.old) (K.state out.old))
+        (outside (S.state input.new) (K.state out.new))
+        (ending result) }
 {
     let Ok(plan) = shared(alloc, plan) else {
         return Status::Memory;
@@ -86,5 +66,27 @@ pub(crate) fn run_plan<S: Source, K: Sink>(
         Ok(Written::All) => status_of(given.stop),
         Ok(Written::Failed) => Status::Write,
         Err(_) => Status::Memory,
+    }
+}
+
+/// Runs the query that stands there over the input.
+pub(crate) fn run<S: Source, F: Files, K: Sink>(
+    alloc: Global,
+    place: Place,
+    input: &mut S,
+    files: &mut F,
+    out: &mut K,
+) -> Status
+    requires not_ended { (S.state input.old).ended ≡ false }
+    ensures { Served (files_at (place_of place.entry)) (RunOutcome (place_of place.entry))
+        (filed (F.held files.old) (F.faults files.old))
+        (filed (F.held files.new) (F.faults files.new))
+        (outside (S.state input.old) (K.state out.old))
+        (outside (S.state input.new) (K.state out.new))
+        (ending result) }
+{
+    match plan_at(alloc, place, files) {
+        Ok(plan) => run_plan(alloc, plan, input, out),
+        Err(refusal) => status_of_refusal(refusal),
     }
 }

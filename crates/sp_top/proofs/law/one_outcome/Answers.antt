@@ -3,9 +3,8 @@ use Rattle.sp_top.proofs.law.one_outcome.Goals as goal
 
 pub returns : goal.returns
 returns c = one_outcome (record {
+  text = c.one_text.ensures;
+  reading = c.one_reading.ensures;
+  schedule = c.one_schedule.ensures;
   truth = c.one_truth.ensures.truth;
-  query = c.one_query.ensures;
-  fault = c.one_fault.ensures.fault;
-  apart = c.one_fault.ensures.apart;
-  verdict = c.one_verdict.ensures.only;
 })

@@ -1,39 +1,49 @@
-use Rattle.std.proofs.Common.{inl, refl, map}
+use Rattle.std.proofs.Common.{inl, [], refl, map, subst, arith}
 use Rattle.std.specs.Prelude.{string_bytes}
-use Rattle.sp_top.specs.Commands.{place_of}
-use Rattle.sp_top.specs.Answer.{Outside, Filed, by_refusal}
-use Rattle.sp_top.proofs.Answering.{refused_at, ran_at, own_file}
+use Rattle.sp_load.specs.Places.{place_of}
+use Rattle.sp_answer.specs.Promise.{Filed, filed, by_refusal}
+use Rattle.sp_answer.specs.Ran.{Outside, outside}
+use Rattle.sp_top.specs.declared.command.Command.{Command}
+use Rattle.sp_top.specs.Commands.{run, trace_of, command_of, IsCommand}
+use Rattle.sp_top.proofs.Asked.{answers, bounded}
 use Rattle.sp_top.proofs.top.answer.Goals as goal
 
-pub returns-in_default-clause-answered : goal.returns-in_default-clause-answered
-returns-in_default-clause-answered g c = by_refusal (record { is = λ bytes ended. inl (c.in_default.ensures.none, refl); same = refl })
+pub trace-requires-clause-some : goal.trace-requires-clause-some
+trace-requires-clause-some g c κs within =
+    let words = map string_bytes c.args.words.now in
+    (bounded words (trace_of c.in-Some-Trace.one) (subst (λ (f : Command). IsCommand words (command_of f)) c.in-Some-Trace.field-0-is c.in-Some-Trace.ensures.some)).0
 
-pub returns-in_default-clause-counts : goal.returns-in_default-clause-counts
-returns-in_default-clause-counts g c = inl (λ name. refl)
+pub trace-requires-clause-most : goal.trace-requires-clause-most
+trace-requires-clause-most g c κs within =
+    let words = map string_bytes c.args.words.now in
+    (bounded words (trace_of c.in-Some-Trace.one) (subst (λ (f : Command). IsCommand words (command_of f)) c.in-Some-Trace.field-0-is c.in-Some-Trace.ensures.some)).1
 
-pub returns-in-Ok-clause-answered : goal.returns-in-Ok-clause-answered
-returns-in-Ok-clause-answered g c =
-    let before : Filed = record { held = g.F.Files.held c.args.files.now; faults = g.F.Files.faults c.args.files.now } in
-    let after : Filed = record { held = g.F.Files.held c.plan_at.new.files; faults = g.F.Files.faults c.plan_at.new.files } in
-    let old : Outside = record { input = g.S.Source.state c.args.input.now; out = g.K.Sink.state c.args.out.now } in
-    let new : Outside = record { input = g.S.Source.state c.run_plan.new.input; out = g.K.Sink.state c.run_plan.new.out } in
-    ran_at (map string_bytes c.args.words.now) before after old new (place_of c.in-Some.place) c.in-Ok.plan c.run_plan.result c.in-Some.ensures.some c.in-Ok.ensures.plan c.run_plan.ensures
+pub returns-in-Some-Run : goal.returns-in-Some-Run
+returns-in-Some-Run g c =
+    let words = map string_bytes c.args.words.now in
+    let before : Filed = filed (g.F.Files.held c.args.files.now) (g.F.Files.faults c.args.files.now) in
+    let after : Filed = filed (g.F.Files.held c.run.new.files) (g.F.Files.faults c.run.new.files) in
+    let old : Outside = outside (g.S.Source.state c.args.input.now) (g.K.Sink.state c.args.out.now) in
+    let new : Outside = outside (g.S.Source.state c.run.new.input) (g.K.Sink.state c.run.new.out) in
+    answers words (run (place_of c.in-Some-Run.place)) (subst (λ (f : Command). IsCommand words (command_of f)) c.in-Some-Run.field-0-is c.in-Some-Run.ensures.some) before after old new c.run.result c.run.ensures
 
-pub returns-in-Err-clause-answered : goal.returns-in-Err-clause-answered
-returns-in-Err-clause-answered g c =
-    let before : Filed = record { held = g.F.Files.held c.args.files.now; faults = g.F.Files.faults c.args.files.now } in
-    let after : Filed = record { held = g.F.Files.held c.plan_at.new.files; faults = g.F.Files.faults c.plan_at.new.files } in
-    let old : Outside = record { input = g.S.Source.state c.args.input.now; out = g.K.Sink.state c.args.out.now } in
-    refused_at (map string_bytes c.args.words.now) before after old (place_of c.in-Some.place) c.in-Err.status c.in-Some.ensures.some c.in-Err.ensures.refused
+pub returns-in-Some-Trace : goal.returns-in-Some-Trace
+returns-in-Some-Trace g c =
+    let words = map string_bytes c.args.words.now in
+    let before : Filed = filed (g.F.Files.held c.args.files.now) (g.F.Files.faults c.args.files.now) in
+    let after : Filed = filed (g.F.Files.held c.trace.new.files) (g.F.Files.faults c.trace.new.files) in
+    let old : Outside = outside (g.S.Source.state c.args.input.now) (g.K.Sink.state c.args.out.now) in
+    let new : Outside = outside (g.S.Source.state c.trace.new.input) (g.K.Sink.state c.trace.new.out) in
+    answers words (trace_of c.in-Some-Trace.one) (subst (λ (f : Command). IsCommand words (command_of f)) c.in-Some-Trace.field-0-is c.in-Some-Trace.ensures.some) before after old new c.trace.result c.trace.ensures
 
-pub returns-in-Ok-clause-counts : goal.returns-in-Ok-clause-counts
-returns-in-Ok-clause-counts g c =
-    let before : Filed = record { held = g.F.Files.held c.args.files.now; faults = g.F.Files.faults c.args.files.now } in
-    let after : Filed = record { held = g.F.Files.held c.plan_at.new.files; faults = g.F.Files.faults c.plan_at.new.files } in
-    own_file (map string_bytes c.args.words.now) before after (place_of c.in-Some.place) c.in-Some.ensures.some c.plan_at.ensures.counts
-
-pub returns-in-Err-clause-counts : goal.returns-in-Err-clause-counts
-returns-in-Err-clause-counts g c =
-    let before : Filed = record { held = g.F.Files.held c.args.files.now; faults = g.F.Files.faults c.args.files.now } in
-    let after : Filed = record { held = g.F.Files.held c.plan_at.new.files; faults = g.F.Files.faults c.plan_at.new.files } in
-    own_file (map string_bytes c.args.words.now) before after (place_of c.in-Some.place) c.in-Some.ensures.some c.plan_at.ensures.counts
+pub returns-in-None : goal.returns-in-None
+returns-in-None g c = (
+  [],
+  inl (c.in-None.ensures.none, refl),
+  record {
+    answered = by_refusal (record { is = λ bytes ended. inl (c.in-None.ensures.none, refl); line = refl; same = refl });
+    file_told = λ name own rose. absurd (omega (arith, own.1));
+    files = refl;
+    counts = inl (λ name. refl);
+  },
+)

@@ -1,0 +1,4 @@
+pub mod Outcome
+pub mod Written
+pub mod Ran
+pub mod Promise

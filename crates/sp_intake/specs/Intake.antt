@@ -1,0 +1,32 @@
+-- What a reading of the input takes from it, and what it answers.
+use Rattle.std.specs.Prelude.{◌≡◌, ◌<◌, ◌≤◌, ℕ, false, List, ◌++◌, length, None, Result, IfOk}
+use Rattle.std.specs.declared.alloc.AllocError.{AllocError}
+use Rattle.sp_io.specs.Outside.{SourceState, Gave, Rose}
+use Rattle.sp_plan.specs.Events.{AllFit, NeverGoesBack}
+use Rattle.sp_plan.specs.declared.plan.Plan.{Plan}
+use Rattle.sp_intake.specs.Reading.{read, stop_of}
+use Rattle.sp_intake.specs.declared.input.Given.{Given}
+use Rattle.sp_intake.specs.declared.input.Stop.TheVariants.{Open}
+
+-- Reading ends with the piece in which it stops: what was taken before the last piece had not stopped it.
+pub record TakesNoFurther (q : Plan) (taken : List ℕ) : Type 0 where
+  pub front : List ℕ
+  pub piece : List ℕ
+  pub are : taken ≡ front ++ piece
+  pub short : length piece ≤ 4096
+  pub goes_on : (read q front false).stopped ≡ None
+
+-- A reading of the input: the bytes that it took and, where memory did not run out, the events that they give and why it stopped.
+pub record ReadsInput (q : Plan) (old new : SourceState) (result : Result Given AllocError) : Type 0 where
+  pub taken : List ℕ
+  pub gave : Gave old.left taken new.left
+  pub no_further : TakesNoFurther q taken
+  pub events : IfOk result (λ given. given.events.items ≡ (read q taken new.ended).events)
+  pub stop : IfOk result (λ given. given.stop ≡ stop_of (read q taken new.ended) new.ended)
+  -- few events that fit the plan and never go back in time
+  pub few : IfOk result (λ given. length given.events.items ≤ 1048576)
+  pub fit : IfOk result (λ given. AllFit q given.events.items)
+  pub ordered : IfOk result (λ given. NeverGoesBack given.events.items)
+  -- the source failed exactly where the reading stops open
+  pub fault : IfOk result (λ given. given.stop ≡ Open → Rose old.faults new.faults)
+  pub told : IfOk result (λ given. old.faults < new.faults → given.stop ≡ Open)

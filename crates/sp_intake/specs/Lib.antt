@@ -1,0 +1,4 @@
+pub mod Reading
+pub mod Kept
+pub mod Coming
+pub mod Intake

@@ -1,0 +1,76 @@
+ghost use Rattle.std.specs.Prelude.{◌≡◌, false};
+ghost use Rattle.std.specs.Arc.{arc_value};
+ghost use Rattle.sp_plan.specs.Compiled.{IsCompiled};
+ghost use Rattle.sp_intake.specs.Intake.{ReadsInput};
+ghost use Rattle.sp_intake.specs.Reading;
+
+use crate::reader::Reader;
+use sp_io::Source;
+use sp_plan::{Event, Memory, Plan};
+use std::alloc::{AllocError, Global};
+use std::sync::Arc;
+
+/// Why no later row of the input counts.
+#[derive(Clone, Copy, Drop, PartialEq, Eq)]
+pub enum Failure {
+    /// A row was faulty, or the input had no header: the fault's code, the row from 1 and the cell's
+    /// place from 1, or 0 where there is none.
+    Row { code: u8, row: u32, column: u32 },
+    /// The input has more rows or more events than this.
+    Limit { limit: u32 },
+}
+
+/// Why the reading of the input stopped.
+#[derive(Clone, Copy, Drop, PartialEq, Eq)]
+pub enum Stop {
+    /// The input was read to its end.
+    End,
+    Failed(Failure),
+    /// The source failed.
+    Open,
+}
+
+impl Stop {
+    /// Whether the input was read to its end.
+    pub fn is_end(self) -> bool
+        ensures { result ≡ Reading.is_end self }
+    {
+        matches!(self, Stop::End)
+    }
+}
+
+/// The events that the rows gave, and why there are no more.
+#[derive(Drop)]
+pub struct Given {
+    pub events: Vec<Event>,
+    pub stop: Stop,
+}
+
+// How many bytes are asked for at a time.
+const PIECE: usize = 4096;
+
+/// Reads the rows of the input, up to its end, to the first one that fails or to a fault of the
+/// source. The events fit the plan, and their times never go back.
+pub fn read_input<S: Source>(
+    alloc: Global,
+    plan: &Arc<Plan>,
+    input: &mut S,
+) -> Result<Given, Memory>
+    requires compiled { IsCompiled (arc_value plan.now) }
+    requires not_ended { (S.state input.old).ended ≡ false }
+    ensures { ReadsInput (arc_value plan.now) (S.state input.old) (S.state input.new) result }
+{
+    let mut reader = Reader::new(alloc, Arc::try_clone(plan)?)?;
+    let mut piece = [0u8; PIECE];
+    for _ in 0..u64::MAX {
+        match input.read(&mut piece) {
+            Ok(0) => return reader.finish(alloc, true),
+            Ok(count) => reader.feed(alloc, &piece[..count])?,
+            Err(_) => return reader.finish(alloc, false),
+        }
+        if reader.has_stopped() {
+            return reader.finish(alloc, false);
+        }
+    }
+    Err(AllocError)
+}

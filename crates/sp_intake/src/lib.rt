@@ -1,0 +1,10 @@
+//! The reading of the input: rows from a source, piece by piece, up to its end, to the first row that fails, to a
+//! limit or to a fault of the source. What bytes give stands in `specs/Reading.antt`, what a reading took and left
+//! in `specs/Intake.antt`.
+#![tactic(auto)]
+
+mod input;
+mod kept;
+mod reader;
+
+pub use input::{Failure, Given, Stop, read_input};

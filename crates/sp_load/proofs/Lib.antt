@@ -1,0 +1,2 @@
+pub mod OneTextLaws
+mod Refusals

@@ -1,0 +1,4 @@
+pub mod Places
+pub mod Loads
+pub mod Queries
+pub mod Laws

@@ -1,0 +1,14 @@
+//! What a command names is loaded: files up to a limit; a query's text, from a word or a file, and its plan, or why
+//! there is none. What refuses a load stands in `specs/Loads.antt`, what refuses a text in `specs/Queries.antt`.
+#![tactic(auto)]
+
+mod law;
+mod load;
+mod place;
+mod query;
+mod refusal;
+
+pub use law::{one_reading, one_text};
+pub use load::load_file;
+pub use place::{Place, QueryText, plan_at, plan_of_text, text_at};
+pub use refusal::Refusal;

@@ -1,0 +1,32 @@
+-- What was answered to a command, as an answer to its words.
+use Rattle.std.proofs.Common.{◌≤◌, inr, ℕ, List, refl, arith}
+use Rattle.sp_answer.specs.Outcome.{ending}
+use Rattle.sp_answer.specs.Ran.{Outside}
+use Rattle.sp_answer.specs.Promise.{Filed, Served}
+use Rattle.sp_answer.specs.declared.status.Status.{Status}
+use Rattle.sp_answer.proofs.Answering.{served_weaker}
+use Rattle.sp_load.specs.Places.{Place}
+use Rattle.sp_top.specs.Commands.{Command, run, trace, AreTraceOptions, schedule_alone, bound_behind, bound_before, Asks, runs, traces, IsCommand, words_of, files_of}
+use Rattle.sp_top.specs.Outcome.{Answers, CommandOutcome, IsOutcome}
+
+pub answers : (words : List (List ℕ)) (command : Command) → IsCommand words command → (before after : Filed) (old new : Outside) (s : Status)
+    → Served (files_of command) (CommandOutcome command) before after old new (ending s) → Answers words before after old new s
+answers words command is before after old new s served =
+    (files_of command, inr (command, is, refl), served_weaker (files_of command) before after old new (CommandOutcome command) (IsOutcome words) (ending s) (λ b e o given. inr (command, is, given)) served)
+
+-- a trace has a bound from 1 to 4096
+abbrev IsBounded : Command → Type 0
+IsBounded (run place) = Unit {0}
+IsBounded (trace place schedule bound) = (1 ≤ bound) × (bound ≤ 4096)
+
+options_bounded : (options : List (List ℕ)) (schedule : List ℕ) (bound : ℕ) → AreTraceOptions options schedule bound → (1 ≤ bound) × (bound ≤ 4096)
+options_bounded _ _ _ (schedule_alone name) = (omega arith, omega arith)
+options_bounded _ _ _ (bound_behind name text bound ok) = (ok.least, ok.most)
+options_bounded _ _ _ (bound_before name text bound ok) = (ok.least, ok.most)
+
+asks_bounded : (place : Place) (first : List ℕ) (options : List (List ℕ)) (command : Command) → Asks place first options command → IsBounded command
+asks_bounded place _ _ _ (runs first is) = tt
+asks_bounded place _ _ _ (traces options schedule bound are) = options_bounded options schedule bound are
+
+pub bounded : (words : List (List ℕ)) (command : Command) → IsCommand words command → IsBounded command
+bounded _ _ (words_of first option rest options place command at asks) = asks_bounded place first options command asks
