@@ -46,7 +46,8 @@ fn with_readings(tickets: Listed<TicketLine>, pieces: &[Piece]) -> Listed<Ticket
 {
     let mut lines = tickets.into_vec();
     for i in 0..lines.len() {
-        lines[i].read = pieces[pieces.len() - 1 - i].read();
+        let place = pieces.len() - 1 - i;
+        lines[i].read = pieces[place].read();
     }
     Listed::of(lines)
 }

@@ -15,7 +15,7 @@ loop-i-preserved c =
     let many = same_many 0 first ps (none_written first ps (ap (map seen_ticket) c.into_vec-lines.ensures ∙ c.requires)) in
     let few : c.loop-i.i < length ps = omega (arith, c.loop-i-test.true, c.len-i-end.ensures, c.into_vec-lines.result.ok.0, many) in
     subst (λ n. AreWritten (c.loop-i.i + 1) (set lines c.loop-i.i (record line { read = n })) ps) (sym c.read.ensures.read)
-    (one_written lines ps c.loop-i.i line c.index-pieces-pieces.result c.loop-i.invariant few c.index_mut.ensures.value c.index-pieces-pieces.is)
+    (one_written lines ps c.loop-i.i line c.index-pieces-place.result c.loop-i.invariant few c.index_mut.ensures.value c.index-pieces-place.is)
 
 pub returns : goal.returns
 returns c =
