@@ -11,6 +11,14 @@ falls m =
     let eight = squared four in
     at m 1 0 ∷ at two 1 0 ∷ at four 1 0 ∷ at eight 1 0 ∷ at (squared eight) 1 0 ∷ []
 
+-- with no pair half of each state but 0 goes one down
+ends : List ℕ → List ℕ
+ends m = at m 0 0 ∷ at m 0 1 ∷ at m 5 3 ∷ at m 5 4 ∷ at m 5 5 ∷ at m 5 6 ∷ at m 32 31 ∷ at m 32 32 ∷ []
+
+rows_of_nothing : ends (transitions []) ≡ 65536 ∷ 0 ∷ 0 ∷ 32768 ∷ 32768 ∷ 0 ∷ 32768 ∷ 32768 ∷ []
+unfolding ends total matrix settled transitions
+rows_of_nothing = refl
+
 of_nothing : falls (transitions []) ≡ 32768 ∷ 49152 ∷ 61440 ∷ 65280 ∷ 65535 ∷ []
 unfolding falls total matrix settled transitions product
 of_nothing = refl

@@ -22,14 +22,15 @@ is_move from to = nat_le 1 from && nat_le from 32 && nat_le to from
 abbrev pub with_pair : List (ℕ × ℕ) → ℕ → ℕ → List (ℕ × ℕ)
 with_pair ring from to = keep_last 256 (ring ++ (from, to) ∷ [])
 
--- one pair more: each 1,024th builds the matrices anew, and what doesn't count changes nothing
-abbrev pub learned : Learned → ℕ → ℕ → Learned
-learned m from to =
-    let ring = with_pair m.ring from to in
-    if is_move from to then
+-- with this ring after one pair more: each 1,024th builds the matrices anew
+abbrev pub turned : Learned → List (ℕ × ℕ) → Learned
+turned m ring =
     if m.since + 1 == 1024 then record { ring = ring; since = 0; built = ring }
     else record { ring = ring; since = m.since + 1; built = m.built }
-    else m
+
+-- a pair more; one that doesn't count changes nothing
+abbrev pub learned : Learned → ℕ → ℕ → Learned
+learned m from to = if is_move from to then turned m (with_pair m.ring from to) else m
 
 -- how many times sixteen events begin, at most 16
 abbrev pub sixteens : ℕ → ℕ
