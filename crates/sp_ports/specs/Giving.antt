@@ -1,0 +1,19 @@
+-- What an intake gives: events that fit a plan and never go back in time, up to an end or a stop.
+use Rattle.std.specs.Prelude.{◌≤◌, List, [], ◌∷◌, length}
+use Rattle.sp_plan.specs.declared.event.Event.{Event}
+use Rattle.sp_plan.specs.declared.plan.Plan.{Plan}
+use Rattle.sp_plan.specs.WindowNumbers.{Good}
+use Rattle.sp_ports.specs.declared.intake.Next.{Next}
+use Rattle.sp_ports.specs.declared.intake.Next.TheVariants as next
+
+-- the event that an answer gives, if it gives one
+abbrev pub given_by : Next → List Event
+given_by (next.Event e) = e ∷ []
+given_by next.End = []
+given_by next.Stop = []
+given_by next.Memory = []
+
+-- events that an engine takes: they fit the plan, their times never go back, and there are at most 1,048,576
+pub record AreGood (q : Plan) (events : List Event) : Type 0 where
+  pub good : Good q events
+  pub few : length events ≤ 1048576

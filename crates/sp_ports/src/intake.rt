@@ -1,0 +1,55 @@
+ghost use Rattle.std.specs.Prelude.{◌≡◌, ◌≤◌, ℕ, Bool, true, List, [], ◌++◌};
+ghost use Rattle.sp_io.specs.Outside.{Rose};
+ghost use Rattle.sp_plan.specs.declared.event.Event as event;
+ghost use Rattle.sp_plan.specs.declared.plan.Plan.{Plan};
+ghost use Rattle.sp_ports.specs.Giving.{given_by, AreGood};
+
+use sp_plan::Event;
+use std::alloc::Global;
+use std::marker::Send;
+
+/// What an intake answers when it is asked for the next event.
+#[derive(Drop)]
+pub enum Next {
+    Event(Event),
+    /// There are no more events: the end of its input was reached.
+    End,
+    /// It gives no more, for a reason that it keeps; its count of stops rose.
+    Stop,
+    /// Out of memory. No event was taken, and no count rose.
+    Memory,
+}
+
+/// Gives events, one after another.
+pub trait Intake: Send + Drop {
+    /// The plan that its events fit.
+    ghost plan: { Self → Plan };
+
+    /// What no call changes, beside the plan: which intake it is.
+    ghost token: { Self → ℕ };
+
+    /// Whether the end of its input was reached.
+    ghost ended: { Self → Bool };
+
+    /// How often it stopped before the end of its input.
+    ghost stops: { Self → ℕ };
+
+    /// From one state on it gave these events, in their order, and came to another.
+    ghost gave: { Self → List event.Event → Self → Type 0 };
+
+    /// Where it was not asked it gave none.
+    ghost gave_none: { (intake : Self) → gave intake [] intake };
+
+    /// What it gives fits its plan, the times never go back, and there are at most 1,048,576 events.
+    ghost good: { (old : Self) (events : List event.Event) (new : Self) → gave old events new → AreGood (plan old) events };
+
+    /// The next event, or why there is none.
+    fn next(&mut self, alloc: Global) -> Next
+        ensures plan { plan self.new ≡ plan self.old }
+        ensures token { token self.new ≡ token self.old }
+        ensures given { (from : Self) (events : List event.Event) → gave from events self.old → gave from (events ++ given_by result) self.new }
+        ensures end { result ≡ Next.End → ended self.new ≡ true }
+        ensures stop { result ≡ Next.Stop → Rose (stops self.old) (stops self.new) }
+        ensures never_falls { stops self.old ≤ stops self.new }
+        ensures memory { result ≡ Next.Memory → stops self.new ≡ stops self.old };
+}

@@ -1,0 +1,9 @@
+//! The ways in and out of an engine: an intake, which gives events one after another, and an outlet, which takes
+//! matches. What they give and take stands in `specs/Giving.antt` and `specs/Taking.antt`.
+#![tactic(auto)]
+
+mod intake;
+mod outlet;
+
+pub use intake::{Intake, Next};
+pub use outlet::{OutFault, Outlet};
