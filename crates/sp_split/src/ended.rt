@@ -1,0 +1,22 @@
+use sp_core::Core;
+
+/// Why a run has ended.
+#[derive(Clone, Copy, Drop, PartialEq, Eq)]
+pub enum Why {
+    /// The intake reached the end of its input, and all windows are finished.
+    Whole,
+    /// The intake stopped before, and all windows that its events have closed are finished.
+    Stopped,
+    /// The outlet failed at a match.
+    Refused,
+    /// Out of memory.
+    Memory,
+}
+
+/// What a run ended with.
+#[derive(Drop)]
+pub struct Ended {
+    /// The core as it stands, with the journal of its steps.
+    pub core: Core,
+    pub why: Why,
+}
