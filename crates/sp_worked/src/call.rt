@@ -1,6 +1,5 @@
 ghost use Rattle.std.specs.Prelude.{◌≡◌, ◌<◌};
 
-use sp_calls::answer;
 use sp_io::{MemFiles, MemSink, MemSource};
 use sp_top::spectre;
 use std::alloc::{AllocError, Global};
@@ -65,13 +64,11 @@ impl Call {
     fn answered(self, alloc: Global) -> Result<Outcome, AllocError> {
         let mut files = MemFiles::new(self.files, self.load_fails);
         let single = self.single.as_str();
-        let answered = answer(
-            alloc,
-            single,
-            self.words.as_slice(),
-            &mut files,
-            &self.input,
-        );
+        let words = self.words.as_slice();
+        let answered = match single {
+            "predict" | "chances" | "guesses" => sp_guesses::answer(alloc, single, words),
+            _ => sp_calls::answer(alloc, single, words, &mut files, &self.input),
+        };
         drop(files);
         Ok(Outcome {
             status: 0,
