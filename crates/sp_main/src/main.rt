@@ -2,11 +2,15 @@
 //! call.
 #![tactic(auto)]
 
+use sp_chance::{Even, Markov, Predictor, Steady};
 use sp_io::{Sink, StdFiles, StdSink, StdSource};
 use sp_top::spectre;
 use std::alloc::AllocError;
 use std::process::ExitCode;
 use std::{env, io};
+
+// The share that the steady predictor holds for likely, in 65,536ths: three quarters.
+const STEADY: u32 = 49_152;
 
 // The command line without the program's name. Words that aren't UTF-8 are no words of a command, so
 // the list is then empty.
@@ -27,20 +31,31 @@ fn words(rt: HostRuntime) -> Result<Vec<String>, AllocError> {
     Ok(words)
 }
 
-fn main(rt: HostRuntime) -> ExitCode {
+// The status of the command line's words, by the predictors that they may choose.
+fn run(rt: HostRuntime, err: &mut StdSink) -> Result<u8, AllocError> {
+    let words = words(rt)?;
+    let mut predictors: Vec<Box<dyn Predictor>> = Vec::new(rt.alloc());
+    predictors.push(Box::new(rt.alloc(), Even::new())?)?;
+    predictors.push(Box::new(rt.alloc(), Steady::new(STEADY))?)?;
+    predictors.push(Box::new(rt.alloc(), Markov::new(rt.alloc())?)?)?;
     let mut input = StdSource::new(rt);
     let mut files = StdFiles::new(rt);
     let mut out = StdSink::new(rt, false);
+    Ok(spectre(
+        rt.alloc(),
+        &words,
+        &mut input,
+        &mut files,
+        &mut out,
+        err,
+        predictors,
+    ))
+}
+
+fn main(rt: HostRuntime) -> ExitCode {
     let mut err = StdSink::new(rt, true);
-    match words(rt) {
-        Ok(words) => ExitCode::from(spectre(
-            rt.alloc(),
-            &words,
-            &mut input,
-            &mut files,
-            &mut out,
-            &mut err,
-        )),
+    match run(rt, &mut err) {
+        Ok(status) => ExitCode::from(status),
         Err(_) => {
             let _ = err.write_all(b"memory\n");
             ExitCode::from(1)

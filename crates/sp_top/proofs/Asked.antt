@@ -1,22 +1,42 @@
 -- What was answered to a command, as an answer to its words.
-use Rattle.std.proofs.Common.{◌≤◌, inr, ℕ, List, refl, arith}
+use Rattle.std.proofs.Common.{◌≤◌, inl, inr, ℕ, List, [], refl, subst, arith}
 use Rattle.sp_answer.specs.Outcome.{ending}
 use Rattle.sp_answer.specs.Ran.{Outside}
-use Rattle.sp_answer.specs.Promise.{Filed, Served}
+use Rattle.sp_answer.specs.Promise.{Filed, Served, by_refusal}
 use Rattle.sp_answer.specs.declared.status.Status.{Status}
+use Rattle.sp_answer.specs.declared.status.Status.TheVariants.{Usage}
 use Rattle.sp_answer.proofs.Answering.{served_weaker}
 use Rattle.sp_load.specs.Places.{Place}
-use Rattle.sp_top.specs.Commands.{Command, run, trace, AreTraceOptions, schedule_alone, bound_behind, bound_before, Asks, runs, traces, IsCommand, words_of, files_of}
+use Rattle.sp_top.specs.Commands.{Command, run, plain, trace, AreTraceOptions, schedule_alone, bound_behind, bound_before, Asks, runs, plains, traces, IsCommand, HasPredictor, IsCall, IsNoCall, words_of, files_of}
 use Rattle.sp_top.specs.Outcome.{Answers, CommandOutcome, IsOutcome}
+use Rattle.sp_top.proofs.OneCommand.{one_command}
 
-pub answers : (words : List (List ℕ)) (command : Command) → IsCommand words command → (before after : Filed) (old new : Outside) (s : Status)
-    → Served (files_of command) (CommandOutcome command) before after old new (ending s) → Answers words before after old new s
-answers words command is before after old new s served =
-    (files_of command, inr (command, is, refl), served_weaker (files_of command) before after old new (CommandOutcome command) (IsOutcome words) (ending s) (λ b e o given. inr (command, is, given)) served)
+pub answers : (predictors words : List (List ℕ)) (command : Command) → IsCall predictors words command → (before after : Filed) (old new : Outside) (s : Status)
+    → Served (files_of command) (CommandOutcome command) before after old new (ending s) → Answers predictors words before after old new s
+answers predictors words command is before after old new s served =
+    (files_of command, inr (command, is, refl), served_weaker (files_of command) before after old new (CommandOutcome command) (IsOutcome predictors words) (ending s) (λ b e o given. inr (command, is, given)) served)
+
+-- a command whose predictor is not there is no call
+pub no_call : (predictors words : List (List ℕ)) (command : Command) → IsCommand words command → (HasPredictor predictors command → ⊥) → IsNoCall predictors words
+no_call predictors words command is none other call = none (subst (HasPredictor predictors) (one_command words other command call.0 is) call.1)
+
+-- words that are no call are refused
+pub refused : (predictors words : List (List ℕ)) → IsNoCall predictors words → (before : Filed) (old : Outside) → Answers predictors words before before old old Usage
+refused predictors words none before old = (
+  [],
+  inl (none, refl),
+  record {
+    answered = by_refusal (record { is = λ bytes ended. inl (none, refl); line = refl; same = refl });
+    file_told = λ name own rose. absurd (omega (arith, own.1));
+    files = refl;
+    counts = inl (λ name. refl);
+  },
+)
 
 -- a trace has a bound from 1 to 4096
 abbrev IsBounded : Command → Type 0
-IsBounded (run place) = Unit {0}
+IsBounded (run place speed) = Unit {0}
+IsBounded (plain place) = Unit {0}
 IsBounded (trace place schedule bound) = (1 ≤ bound) × (bound ≤ 4096)
 
 options_bounded : (options : List (List ℕ)) (schedule : List ℕ) (bound : ℕ) → AreTraceOptions options schedule bound → (1 ≤ bound) × (bound ≤ 4096)
@@ -25,7 +45,8 @@ options_bounded _ _ _ (bound_behind name text bound ok) = (ok.least, ok.most)
 options_bounded _ _ _ (bound_before name text bound ok) = (ok.least, ok.most)
 
 asks_bounded : (place : Place) (first : List ℕ) (options : List (List ℕ)) (command : Command) → Asks place first options command → IsBounded command
-asks_bounded place _ _ _ (runs first is) = tt
+asks_bounded place _ _ _ (runs options speed are) = tt
+asks_bounded place _ _ _ plains = tt
 asks_bounded place _ _ _ (traces options schedule bound are) = options_bounded options schedule bound are
 
 pub bounded : (words : List (List ℕ)) (command : Command) → IsCommand words command → IsBounded command

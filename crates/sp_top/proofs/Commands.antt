@@ -3,7 +3,8 @@ use Rattle.std.proofs.Common.{◌≡◌, ℕ, List, [], ◌∷◌, length, get_o
 use Rattle.std.specs.Prelude.{Option, Some, None, IfSome, IfNone, codes}
 use Rattle.sp_load.specs.Places.{Place, word, file}
 use Rattle.sp_top.specs.declared.command.Command.{Command as FoundCommand}
-use Rattle.sp_top.specs.Commands.{Command, run, trace, IsRun, IsAt, in_word, in_file, IsBound, AreTraceOptions, schedule_alone, bound_behind, bound_before, Asks, runs, traces, IsCommand, words_of, IsNoCommand, AsksNothing, command_of}
+use Rattle.sp_top.specs.Options.{IsBound}
+use Rattle.sp_top.specs.Commands.{Command, Speed, run, plain, trace, IsAt, in_word, in_file, AreRunOptions, AreNoRunOptions, AreTraceOptions, schedule_alone, bound_behind, bound_before, Asks, runs, plains, traces, IsCommand, words_of, IsNoCommand, AsksNothing, command_of}
 
 -- ---- where the query stands
 
@@ -24,7 +25,7 @@ one_at _ _ _ _ _ _ (in_file name) (in_file other) same-o same-r = ap file same-r
 
 module _ (first one second other : List ℕ) where
   -- what both options give, the bound behind the schedule
-  pub some_behind : (r : Option (Bor (List ℕ) × ℕ)) → first ≡ codes "--schedule" → second ≡ codes "--live" → IfSome r (λ found. (found.0.now ≡ one) × IsBound other found.1)
+  pub some_behind : (r : Option (Bor (List ℕ) × ℕ)) → first ≡ codes "--schedule" → second ≡ codes "--live" → IfSome r (λ found. (found.0.now ≡ one) × IsBound 4096 other found.1)
       → IfSome r (λ found. AreTraceOptions (first ∷ one ∷ second ∷ other ∷ []) found.0.now found.1)
   some_behind None is-1 is-2 found = tt
   some_behind (Some (name, bound)) is-1 is-2 found =
@@ -33,7 +34,7 @@ module _ (first one second other : List ℕ) where
       (subst (λ (n : List ℕ). AreTraceOptions (codes "--schedule" ∷ one ∷ codes "--live" ∷ other ∷ []) n bound) (sym found.0) (bound_behind one other bound found.1)))
 
   -- and before it
-  pub some_before : (r : Option (Bor (List ℕ) × ℕ)) → first ≡ codes "--live" → second ≡ codes "--schedule" → IfSome r (λ found. (found.0.now ≡ other) × IsBound one found.1)
+  pub some_before : (r : Option (Bor (List ℕ) × ℕ)) → first ≡ codes "--live" → second ≡ codes "--schedule" → IfSome r (λ found. (found.0.now ≡ other) × IsBound 4096 one found.1)
       → IfSome r (λ found. AreTraceOptions (first ∷ one ∷ second ∷ other ∷ []) found.0.now found.1)
   some_before None is-1 is-2 found = tt
   some_before (Some (name, bound)) is-1 is-2 found =
@@ -47,11 +48,23 @@ schedule_only option name is = subst (λ (o : List ℕ). AreTraceOptions (o ∷ 
 -- ---- commands
 
 module _ (place : Place) (first : List ℕ) (options : List (List ℕ)) where
-  pub asks_run : IsRun first → options ≡ [] → Asks place first options (run place)
-  asks_run is none = subst (λ (os : List (List ℕ)). Asks place first os (run place)) (sym none) (runs first is)
+  pub asks_run : (speed : Speed) → first ≡ codes "run" → AreRunOptions options speed → Asks place first options (run place speed)
+  asks_run speed is are = subst (λ (f : List ℕ). Asks place f options (run place speed)) (sym is) (runs options speed are)
+
+  pub asks_plain : first ≡ codes "plain" → options ≡ [] → Asks place first options (plain place)
+  asks_plain is none = subst (λ (f : List ℕ). Asks place f options (plain place)) (sym is) (subst (λ (os : List (List ℕ)). Asks place (codes "plain") os (plain place)) (sym none) plains)
 
   pub asks_trace : (schedule : List ℕ) (bound : ℕ) → first ≡ codes "trace" → AreTraceOptions options schedule bound → Asks place first options (trace place schedule bound)
   asks_trace schedule bound is are = subst (λ (f : List ℕ). Asks place f options (trace place schedule bound)) (sym is) (traces options schedule bound are)
+
+-- what asks for something behind the first word of a run are options of a run
+asks_options : (place : Place) (first : List ℕ) (options : List (List ℕ)) (command : Command) → Asks place first options command → first ≡ codes "run" → AreNoRunOptions options → ⊥
+asks_options place _ options _ (runs _ speed are) is none = none speed are
+asks_options place _ _ _ plains is none = let clash : 112 ≡ 114 = ap (λ (l : List ℕ). get_or l 0 0) is in absurd (omega (arith, clash))
+asks_options place _ _ _ (traces options schedule bound are) is none = let clash : 116 ≡ 114 = ap (λ (l : List ℕ). get_or l 0 0) is in absurd (omega (arith, clash))
+
+pub asks_no_run : (place : Place) (first : List ℕ) (options : List (List ℕ)) → first ≡ codes "run" → AreNoRunOptions options → AsksNothing place first options
+asks_no_run place first options is none command asks = asks_options place first options command asks is none
 
 module _ (words options : List (List ℕ)) (first option rest : List ℕ) (place : Place) (are : words ≡ first ∷ option ∷ rest ∷ options) (at : IsAt option rest place) where
   pub is_command : (command : Command) → Asks place first options command → IsCommand words command

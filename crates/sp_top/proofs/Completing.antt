@@ -26,8 +26,8 @@ use Rattle.sp_answer.specs.declared.status.Status.TheVariants.{Done, Memory, Usa
 use Rattle.sp_answer.specs.Outcome.{Outcome, Ending, number_of, outcome}
 use Rattle.sp_answer.specs.Ran.{Outside, Ran}
 use Rattle.sp_answer.specs.Promise.{Filed, Answered, by_memory, by_file, by_refusal, by_run, Refused, NoFaultRose}
-use Rattle.sp_top.specs.Commands.{Command, run, trace, IsCommand}
-use Rattle.sp_top.specs.Completes.{StandsAt, in_word, in_file, TellsSchedule, for_run, for_trace, ReadsToEnd, IsDone, Completes}
+use Rattle.sp_top.specs.Commands.{Command, run, plain, trace, IsCall}
+use Rattle.sp_top.specs.Completes.{StandsAt, in_word, in_file, TellsSchedule, for_run, for_plain, for_trace, ReadsToEnd, IsDone, Completes}
 use Rattle.sp_top.specs.Ends.{status_of, reading_outcome}
 use Rattle.sp_top.specs.Outcome.{IsOutcome, CommandOutcome}
 use Rattle.sp_top.specs.Run.{run_outcome, windows_text, RunOutcome, too_long, faulty, runs}
@@ -115,15 +115,15 @@ module _ (reading : OneReading) (truth : OneTruth) (files : ToldFiles) (q : Plan
         (traces q steps compiles tells.is)
 
 -- the words have no other outcome than a reading with this text
-abbrev IsOnly : List (List ℕ) → ToldFiles → Plan → (List Event → Stop → List ℕ) → Type 0
-IsOnly words files q T = (bytes : List ℕ) (ended : Bool) (o : Outcome) → IsOutcome words files bytes ended o → o ≡ reading_outcome q T bytes ended
+abbrev IsOnly : List (List ℕ) → List (List ℕ) → ToldFiles → Plan → (List Event → Stop → List ℕ) → Type 0
+IsOnly predictors words files q T = (bytes : List ℕ) (ended : Bool) (o : Outcome) → IsOutcome predictors words files bytes ended o → o ≡ reading_outcome q T bytes ended
 
 -- words that are a command have its outcomes alone
-only_by : (words : List (List ℕ)) (files : ToldFiles) (q : Plan) (T : List Event → Stop → List ℕ) (command : Command) → IsCommand words command
-    → ((bytes : List ℕ) (ended : Bool) (o : Outcome) → CommandOutcome command files bytes ended o → o ≡ reading_outcome q T bytes ended) → IsOnly words files q T
-only_by words files q T command is only bytes ended o (inl none) = absurd (none.0 command is)
-only_by words files q T command is only bytes ended o (inr at) =
-    only bytes ended o (subst (λ (c : Command). CommandOutcome c files bytes ended o) (one_command words at.0 command at.1 is) at.2)
+only_by : (predictors words : List (List ℕ)) (files : ToldFiles) (q : Plan) (T : List Event → Stop → List ℕ) (command : Command) → IsCall predictors words command
+    → ((bytes : List ℕ) (ended : Bool) (o : Outcome) → CommandOutcome command files bytes ended o → o ≡ reading_outcome q T bytes ended) → IsOnly predictors words files q T
+only_by predictors words files q T command is only bytes ended o (inl none) = absurd (none.0 command is)
+only_by predictors words files q T command is only bytes ended o (inr at) =
+    only bytes ended o (subst (λ (c : Command). CommandOutcome c files bytes ended o) (one_command words at.0 command at.1.0 is.0) at.2)
 
 -- ---- the answer
 
@@ -139,7 +139,7 @@ cut_by Read = inr (inr ((λ e. cc), (λ e. cc)))
 cut_by (Limited limit) = inr (inr ((λ e. cc), (λ e. cc)))
 cut_by (Schedule line) = inr (inr ((λ e. cc), (λ e. cc)))
 
-module _ (stay : RowsStay) (words names : List (List ℕ)) (before after : Filed) (old new : Outside) (q : Plan) (bytes : List ℕ) (T : List Event → Stop → List ℕ) (only : IsOnly words before.held q T)
+module _ (stay : RowsStay) (predictors words names : List (List ℕ)) (before after : Filed) (old new : Outside) (q : Plan) (bytes : List ℕ) (T : List Event → Stop → List ℕ) (only : IsOnly predictors words before.held q T)
     (reads : ReadsToEnd q old.input bytes) (quiet : NoFaultRose names before after old new) (used_up : new.input.ended ≡ true → IsUsedUp new.input.left) where
   -- a reading of the whole input
   abbrev whole_reading : Outcome
@@ -149,14 +149,14 @@ module _ (stay : RowsStay) (words names : List (List ℕ)) (before after : Filed
   whole_is = ap (λ (stop : Stop). outcome (status_of stop) (T (read q bytes true).events stop)) reads.stop
 
   -- a command that asks for a text is not refused: with no bytes its input would lack a header
-  not_refused : (end : Ending) → Refused (IsOutcome words before.held) old new end → ⊥
+  not_refused : (end : Ending) → Refused (IsOutcome predictors words before.held) old new end → ⊥
   not_refused end refused =
       let done : end.status ≡ Done = ap (λ (o : Outcome). o.status) (only bytes true _ (refused.is bytes true) ∙ whole_is) in
       let faulty : end.status ≡ Input 1 0 0 = ap (λ (o : Outcome). o.status) (only [] true _ (refused.is [] true)) in
       let clash : Done ≡ Input 1 0 0 = sym done ∙ faulty in
       absurd (cc clash)
 
-  module _ (end : Ending) (ran : Ran (IsOutcome words before.held) old new end) where
+  module _ (end : Ending) (ran : Ran (IsOutcome predictors words before.held) old new end) where
     gave : Gave (Some bytes) ran.taken new.input.left
     gave = subst (λ (t : Told). Gave t ran.taken new.input.left) reads.told ran.gave
 
@@ -195,14 +195,14 @@ module _ (stay : RowsStay) (words names : List (List ℕ)) (before after : Filed
             inl (ended_done is (ap (λ (e : Ending). e.status) exact.0) exact.1)
         by (inr (inr neither)) false is = absurd (stopped_open is (ap (λ (e : Ending). e.status) (ran.exact neither.0 neither.1).0))
 
-  answered_done : (end : Ending) → Answered names (IsOutcome words before.held) before after old new end → IsDone (λ events. T events End) q bytes old new (number_of end.status) ⊎ (end.status ≡ Memory)
+  answered_done : (end : Ending) → Answered names (IsOutcome predictors words before.held) before after old new end → IsDone (λ events. T events End) q bytes old new (number_of end.status) ⊎ (end.status ≡ Memory)
   answered_done end (by_memory memory same) = inr (ap (λ (e : Ending). e.status) memory)
   answered_done end (by_file fault) = absurd (quiet.files fault.name fault.own fault.rose)
   answered_done end (by_refusal refused) = absurd (not_refused end refused)
   answered_done end (by_run ran) = ran_done end ran
 
   -- the same of the number that the program ends with
-  number_done : (end : Ending) (result : ℕ) → result ≡ number_of end.status → Answered names (IsOutcome words before.held) before after old new end → IsDone (λ events. T events End) q bytes old new result ⊎ (result ≡ 1)
+  number_done : (end : Ending) (result : ℕ) → result ≡ number_of end.status → Answered names (IsOutcome predictors words before.held) before after old new end → IsDone (λ events. T events End) q bytes old new result ⊎ (result ≡ 1)
   number_done end result number answered = elim (answered_done end answered) [
     | inl done ↦ inl (subst (IsDone (λ events. T events End) q bytes old new) (sym number) done)
     | inr memory ↦ inr (number ∙ ap number_of memory)
@@ -210,11 +210,15 @@ module _ (stay : RowsStay) (words names : List (List ℕ)) (before after : Filed
 
 -- the law of completeness, from those of texts, of schedules and of rows
 pub completes : OneReading → OneSchedule → OneTruth → RowsStay → Completes
-completes reading sched truth stay words before after old new err_old err_new result q bytes _ promise (for_run place text command stands compiles) reads quiet =
-    number_done stay words promise.names before after old new q bytes (windows_text q)
-    (only_by words before.held q (windows_text q) (run place) command (λ b e o. run_at reading truth before.held q place text compiles stands b e o))
+completes reading sched truth stay predictors words before after old new err_old err_new result q bytes _ promise (for_run place speed text command stands compiles) reads quiet =
+    number_done stay predictors words promise.names before after old new q bytes (windows_text q)
+    (only_by predictors words before.held q (windows_text q) (run place speed) command (λ b e o. run_at reading truth before.held q place text compiles stands b e o))
     reads (quiet promise.names promise.given) promise.used_up promise.end result promise.number promise.served.answered
-completes reading sched truth stay words before after old new err_old err_new result q bytes _ promise (for_trace place text name bound steps command stands compiles tells) reads quiet =
-    number_done stay words promise.names before after old new q bytes (trace_text bound steps q)
-    (only_by words before.held q (trace_text bound steps q) (trace place name bound) command (λ b e o. trace_at reading truth before.held q place text compiles stands b e sched name bound steps tells o))
+completes reading sched truth stay predictors words before after old new err_old err_new result q bytes _ promise (for_plain place text command stands compiles) reads quiet =
+    number_done stay predictors words promise.names before after old new q bytes (windows_text q)
+    (only_by predictors words before.held q (windows_text q) (plain place) command (λ b e o. run_at reading truth before.held q place text compiles stands b e o))
+    reads (quiet promise.names promise.given) promise.used_up promise.end result promise.number promise.served.answered
+completes reading sched truth stay predictors words before after old new err_old err_new result q bytes _ promise (for_trace place text name bound steps command stands compiles tells) reads quiet =
+    number_done stay predictors words promise.names before after old new q bytes (trace_text bound steps q)
+    (only_by predictors words before.held q (trace_text bound steps q) (trace place name bound) command (λ b e o. trace_at reading truth before.held q place text compiles stands b e sched name bound steps tells o))
     reads (quiet promise.names promise.given) promise.used_up promise.end result promise.number promise.served.answered

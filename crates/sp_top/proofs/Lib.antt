@@ -1,12 +1,14 @@
 mod Alike
 mod AlikeTraces
 mod Asked
+mod Chosen
 mod Commands
 mod Completing
 mod LinesOf
 mod OneCommand
 mod OneOutcome
 mod OneRun
+mod Pairs
 mod Running
 mod Tracing
 mod Words

@@ -14,7 +14,7 @@ use Rattle.sp_load.specs.Laws.{OneReading, OneText}
 use Rattle.sp_load.proofs.OneTextLaws.{not_longer}
 use Rattle.sp_answer.specs.Outcome.{Outcome, nothing_for}
 use Rattle.sp_answer.specs.declared.status.Status.TheVariants.{Query, Schedule}
-use Rattle.sp_top.specs.Commands.{Command, run, trace}
+use Rattle.sp_top.specs.Commands.{Command, run, plain, trace}
 use Rattle.sp_top.specs.OneOutcome.{OneOutcome}
 use Rattle.sp_top.specs.Outcome.{CommandOutcome}
 use Rattle.sp_top.specs.Run.{run_outcome, RunOutcome, too_long, faulty, runs}
@@ -106,12 +106,13 @@ module _ (laws : RunLaws) (files : List (List ℕ × List ℕ)) (place : Place) 
 -- ---- all words
 
 one_of : RunLaws → (files : List (List ℕ × List ℕ)) (command : Command) (bytes : List ℕ) (ended : Bool) (a b : Outcome) → CommandOutcome command (Some files) bytes ended a → CommandOutcome command (Some files) bytes ended b → a ≡ b
-one_of laws files (run place) bytes ended a b one other = one_run_outcome laws files place bytes ended a b one other
+one_of laws files (run place speed) bytes ended a b one other = one_run_outcome laws files place bytes ended a b one other
+one_of laws files (plain place) bytes ended a b one other = one_run_outcome laws files place bytes ended a b one other
 one_of laws files (trace place name bound) bytes ended a b one other = one_trace_outcome laws files place name bound bytes ended a b one other
 
 pub one_outcome : RunLaws → OneOutcome
-one_outcome laws words files bytes ended one other (inl none) (inl so) = none.1 ∙ sym so.1
-one_outcome laws words files bytes ended one other (inl none) (inr at) = absurd (none.0 at.0 at.1)
-one_outcome laws words files bytes ended one other (inr at) (inl none) = absurd (none.0 at.0 at.1)
-one_outcome laws words files bytes ended one other (inr at) (inr so) =
-    one_of laws files so.0 bytes ended one other (subst (λ (c : Command). CommandOutcome c (Some files) bytes ended one) (one_command words at.0 so.0 at.1 so.1) at.2) so.2
+one_outcome laws predictors words files bytes ended one other (inl none) (inl so) = none.1 ∙ sym so.1
+one_outcome laws predictors words files bytes ended one other (inl none) (inr at) = absurd (none.0 at.0 at.1)
+one_outcome laws predictors words files bytes ended one other (inr at) (inl none) = absurd (none.0 at.0 at.1)
+one_outcome laws predictors words files bytes ended one other (inr at) (inr so) =
+    one_of laws files so.0 bytes ended one other (subst (λ (c : Command). CommandOutcome c (Some files) bytes ended one) (one_command words at.0 so.0 at.1.0 so.1.0) at.2) so.2

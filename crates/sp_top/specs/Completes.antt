@@ -14,7 +14,7 @@ use Rattle.sp_load.specs.Places.{Place, word, file, longest_query, without_mark}
 use Rattle.sp_load.specs.Queries.{IsPlanFor}
 use Rattle.sp_answer.specs.Ran.{Outside}
 use Rattle.sp_answer.specs.Promise.{Filed, NoFaultRose}
-use Rattle.sp_top.specs.Commands.{run, trace, IsCommand, GivesFiles}
+use Rattle.sp_top.specs.Commands.{Speed, run, plain, trace, IsCall, GivesFiles}
 use Rattle.sp_top.specs.Outcome.{Promise}
 use Rattle.sp_top.specs.Trace.{longest_schedule}
 
@@ -37,14 +37,16 @@ pub record TellsSchedule (files : ToldFiles) (name : List ℕ) (steps : List Tra
 abbrev pub whole_text : Plan → List Event → List ℕ
 whole_text q events = text q (whole q events true).matches
 
--- The words are a command whose query compiles, and where it is a trace the schedule has no bad line: this is a plan of the query, and
--- the text that the command gives for events that were read whole.
-pub data AsksFor (words : List (List ℕ)) (files : ToldFiles) (q : Plan) : (List Event → List ℕ) → Type 0 where
-  for_run : (place : Place) (query : List ℕ) → IsCommand words (run place) → StandsAt files place query → IsPlanFor query q
-      → AsksFor words files q (whole_text q)
-  for_trace : (place : Place) (query schedule : List ℕ) (bound : ℕ) (steps : List TraceStep) → IsCommand words (trace place schedule bound)
+-- The words are a command whose predictor is there and whose query compiles, and where it is a trace the schedule has no bad line: this is
+-- a plan of the query, and the text that the command gives for events that were read whole.
+pub data AsksFor (predictors words : List (List ℕ)) (files : ToldFiles) (q : Plan) : (List Event → List ℕ) → Type 0 where
+  for_run : (place : Place) (speed : Speed) (query : List ℕ) → IsCall predictors words (run place speed) → StandsAt files place query
+      → IsPlanFor query q → AsksFor predictors words files q (whole_text q)
+  for_plain : (place : Place) (query : List ℕ) → IsCall predictors words (plain place) → StandsAt files place query → IsPlanFor query q
+      → AsksFor predictors words files q (whole_text q)
+  for_trace : (place : Place) (query schedule : List ℕ) (bound : ℕ) (steps : List TraceStep) → IsCall predictors words (trace place schedule bound)
       → StandsAt files place query → IsPlanFor query q → TellsSchedule files schedule steps
-      → AsksFor words files q (λ events. traced q bound events steps)
+      → AsksFor predictors words files q (λ events. traced q bound events steps)
 
 -- The input has just these bytes, and the reading of all of them stops at their end, at no faulty row and at no limit.
 pub record ReadsToEnd (q : Plan) (input : SourceState) (bytes : List ℕ) : Type 0 where
@@ -52,8 +54,8 @@ pub record ReadsToEnd (q : Plan) (input : SourceState) (bytes : List ℕ) : Type
   pub stop : stop_of (read q bytes true) true ≡ End
 
 -- No count of faults rose: not that of the input, nor of the output, nor of a file that the words give.
-abbrev pub NoneRose : List (List ℕ) → Filed → Filed → Outside → Outside → Type 0
-NoneRose words before after old new = (names : List (List ℕ)) → GivesFiles words names → NoFaultRose names before after old new
+abbrev pub NoneRose : List (List ℕ) → List (List ℕ) → Filed → Filed → Outside → Outside → Type 0
+NoneRose predictors words before after old new = (names : List (List ℕ)) → GivesFiles predictors words names → NoFaultRose names before after old new
 
 -- The call is done: nothing of the input is left, and the output grew by the whole text for all its events.
 pub record IsDone (text_for : List Event → List ℕ) (q : Plan) (bytes : List ℕ) (old new : Outside) (result : ℕ) : Type 0 where
@@ -63,8 +65,8 @@ pub record IsDone (text_for : List Event → List ℕ) (q : Plan) (bytes : List 
 
 -- Words that ask for a text by a plan, input that is read to its end, and no fault: whatever call keeps the promise is done, or answers want of memory.
 abbrev pub Completes : Type 0
-Completes = (words : List (List ℕ)) (before after : Filed) (old new : Outside) (err_old err_new : SinkState) (result : ℕ) (q : Plan) (bytes : List ℕ)
+Completes = (predictors words : List (List ℕ)) (before after : Filed) (old new : Outside) (err_old err_new : SinkState) (result : ℕ) (q : Plan) (bytes : List ℕ)
     (text_for : List Event → List ℕ)
-    → Promise words before after old new err_old err_new result
-    → AsksFor words before.held q text_for → ReadsToEnd q old.input bytes → NoneRose words before after old new
+    → Promise predictors words before after old new err_old err_new result
+    → AsksFor predictors words before.held q text_for → ReadsToEnd q old.input bytes → NoneRose predictors words before after old new
     → IsDone text_for q bytes old new result ⊎ (result ≡ 1)

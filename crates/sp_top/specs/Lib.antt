@@ -1,5 +1,7 @@
+pub mod Options
 pub mod Commands
 pub mod Ends
+pub mod Predictors
 pub mod Run
 pub mod Trace
 pub mod Outcome

@@ -1,29 +1,38 @@
 // Which words are a command, where its query stands, and what its options are.
-ghost use Rattle.std.specs.Prelude.{◌≡◌, ◌↔◌, [], ◌∷◌, map, IsTrue, IfSome, IfNone, string_bytes};
+ghost use Rattle.std.specs.Prelude.{◌≡◌, [], ◌∷◌, map, IfSome, IfNone, string_bytes};
 ghost use Rattle.sp_load.specs.Places.{place_of};
+ghost use Rattle.sp_top.specs.Options.{IsBound, IsNoBound};
 ghost use Rattle.sp_top.specs.Commands.{
   command_of,
-  IsRun,
   IsAt,
-  IsBound,
   AreTraceOptions,
   Asks,
   IsCommand,
   IsNoCommand,
   IsNoPlace,
-  IsNoBound,
   AreNoTraceOptions,
   AsksNothing,
 };
 
+use crate::options::{LIVE, MOST_LIVE, Speed, bound_of, run_options};
 use sp_load::Place;
 
 /// What the words ask for.
 #[derive(Clone, Copy, Drop)]
 pub(crate) enum Command<'a> {
-    /// The query that stands there over the input.
-    Run(Place<'a>),
+    /// The query that stands there over the input, by the speculative engine.
+    Run(Run<'a>),
+    /// The same window by window.
+    Plain(Place<'a>),
     Trace(Trace<'a>),
+}
+
+/// A run of a query over the input.
+#[derive(Clone, Copy, Drop)]
+pub(crate) struct Run<'a> {
+    /// Where the query stands.
+    pub(crate) place: Place<'a>,
+    pub(crate) speed: Speed<'a>,
 }
 
 /// A run of the machine over a schedule.
@@ -35,21 +44,6 @@ pub(crate) struct Trace<'a> {
     pub(crate) schedule: &'a str,
     /// The most versions that may be live at a time.
     pub(crate) live: u32,
-}
-
-// The most live versions where no option says how many.
-const LIVE: u32 = 64;
-
-// The most live versions that an option may ask for, and the most digits that it may have.
-const MOST_LIVE: u32 = 4096;
-
-const DIGITS: usize = 10;
-
-// Whether it is the first word of a run.
-fn is_run(first: &str) -> bool
-    ensures { IsTrue result ↔ IsRun first.now }
-{
-    first == "run" || first == "plain"
 }
 
 // Where the query stands, if the two words say so.
@@ -64,27 +58,12 @@ fn place_at<'a>(option: &str, rest: &'a str) -> Option<Place<'a>>
     }
 }
 
-// The bound of live versions that the text is.
-fn live_bound(text: &str) -> Option<u32>
-    ensures some { IfSome result (IsBound text.now) }
-    ensures none { IfNone result (IsNoBound text.now) }
-{
-    // a sign is no digit, though a number may be read behind it
-    if text.len() > DIGITS || text.as_bytes().first() == Some(&b'+') {
-        return None;
-    }
-    match text.parse::<u32>() {
-        Ok(bound) if 1 <= bound && bound <= MOST_LIVE => Some(bound),
-        _ => None,
-    }
-}
-
 // The name with the bound that the text is.
 fn with_bound<'a>(name: &'a str, text: &str) -> Option<(&'a str, u32)>
-    ensures some { IfSome result (λ found. (found.0.now ≡ name.now) × IsBound text.now found.1) }
-    ensures none { IfNone result (IsNoBound text.now) }
+    ensures some { IfSome result (λ found. (found.0.now ≡ name.now) × IsBound 4096 text.now found.1) }
+    ensures none { IfNone result (IsNoBound 4096 text.now) }
 {
-    match live_bound(text) {
+    match bound_of(text, MOST_LIVE) {
         Some(live) => Some((name, live)),
         None => None,
     }
@@ -142,6 +121,12 @@ fn command_at<'a>(first: &str, place: Place<'a>, options: &'a [String]) -> Optio
     ensures some { IfSome result (λ found. Asks (place_of place.entry) first.now (map string_bytes options.now) (command_of found)) }
     ensures none { IfNone result (AsksNothing (place_of place.entry) first.now (map string_bytes options.now)) }
 {
+    if first == "run" {
+        return match run_options(options) {
+            Some(speed) => Some(Command::Run(Run { place, speed })),
+            None => None,
+        };
+    }
     if first == "trace" {
         return match trace_options(options) {
             Some((schedule, live)) => Some(Command::Trace(Trace {
@@ -152,8 +137,8 @@ fn command_at<'a>(first: &str, place: Place<'a>, options: &'a [String]) -> Optio
             None => None,
         };
     }
-    if is_run(first) && options.is_empty() {
-        return Some(Command::Run(place));
+    if first == "plain" && options.is_empty() {
+        return Some(Command::Plain(place));
     }
     None
 }

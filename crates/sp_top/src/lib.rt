@@ -2,10 +2,13 @@
 //! own. What it promises is `Promise` of `specs/Outcome.antt`, the contract of `spectre`.
 #![tactic(auto)]
 
+mod choosing;
 mod command;
 mod ends;
 mod law;
+mod options;
 mod output;
+mod plain;
 mod run;
 mod top;
 mod trace;

@@ -4,10 +4,13 @@ ghost use Rattle.sp_answer.specs.Promise.{filed};
 ghost use Rattle.sp_answer.specs.Ran.{outside};
 ghost use Rattle.sp_top.specs.Outcome.{Answers, Promise};
 
+use crate::choosing::choose;
 use crate::command::{Command, asked};
+use crate::plain::plain;
 use crate::run::run;
 use crate::trace::trace;
 use sp_answer::{Status, tell};
+use sp_chance::Predictor;
 use sp_io::{Files, Sink, Source};
 use std::alloc::Global;
 
@@ -18,9 +21,10 @@ fn answer<S: Source, F: Files, K: Sink>(
     input: &mut S,
     files: &mut F,
     out: &mut K,
+    predictors: Vec<Box<dyn Predictor>>,
 ) -> Status
     requires not_ended { (S.state input.old).ended ≡ false }
-    ensures { Answers (map string_bytes words.now)
+    ensures { Answers (map (λ one. named one) predictors.items) (map string_bytes words.now)
         (filed (F.held files.old) (F.faults files.old))
         (filed (F.held files.new) (F.faults files.new))
         (outside (S.state input.old) (K.state out.old))
@@ -28,7 +32,11 @@ fn answer<S: Source, F: Files, K: Sink>(
         result }
 {
     match asked(words) {
-        Some(Command::Run(place)) => run(alloc, place, input, files, out),
+        Some(Command::Run(one)) => match choose(predictors, one.speed.predictor) {
+            Some(predictor) => run(alloc, one, predictor, input, files, out),
+            None => Status::Usage,
+        },
+        Some(Command::Plain(place)) => plain(alloc, place, input, files, out),
         Some(Command::Trace(one)) => trace(alloc, one, input, files, out),
         None => Status::Usage,
     }
@@ -36,7 +44,8 @@ fn answer<S: Source, F: Files, K: Sink>(
 
 /// Runs the words, which are the command line without the program's name, over an input that has not
 /// ended yet, and answers the number of its status; docs/formats.md lists them. What the words name may
-/// stand in `files`. The text is written to `out`, one call a line, and the line of the status to `err`.
+/// stand in `files`, and a run has the first of the predictors of the name that its words choose. The text
+/// is written to `out`, one call a line, and the line of the status to `err`.
 /// What is promised of status, output and faults is `Promise` of `specs/Outcome.antt`; docs/statement.md
 /// says it in words.
 pub fn spectre<S: Source, F: Files, K: Sink, E: Sink>(
@@ -46,15 +55,16 @@ pub fn spectre<S: Source, F: Files, K: Sink, E: Sink>(
     files: &mut F,
     out: &mut K,
     err: &mut E,
+    predictors: Vec<Box<dyn Predictor>>,
 ) -> u8
     requires not_ended { (S.state input.old).ended ≡ false }
-    ensures { Promise (map string_bytes words.now)
+    ensures { Promise (map (λ one. named one) predictors.items) (map string_bytes words.now)
         (filed (F.held files.old) (F.faults files.old))
         (filed (F.held files.new) (F.faults files.new))
         (outside (S.state input.old) (K.state out.old))
         (outside (S.state input.new) (K.state out.new))
         (E.state err.old) (E.state err.new) result }
 {
-    let status = answer(alloc, words, input, files, out);
+    let status = answer(alloc, words, input, files, out, predictors);
     tell(alloc, status, err).number()
 }

@@ -27,7 +27,7 @@ ghost use Rattle.sp_top.specs.Trace.{
 use crate::command::Trace;
 use crate::ends::{status_of, status_of_refusal};
 use crate::output::write_texts;
-use crate::run::shared;
+use crate::plain::shared;
 use sp_answer::{Status, Written};
 use sp_intake::read_input;
 use sp_io::{Files, Sink, Source};

@@ -1,5 +1,6 @@
 ghost use Rattle.std.specs.Prelude.{◌≡◌, ◌<◌};
 
+use sp_chance::{Even, Markov, Predictor, Steady};
 use sp_io::{MemFiles, MemSink, MemSource};
 use sp_top::spectre;
 use std::alloc::{AllocError, Global};
@@ -33,6 +34,9 @@ pub(crate) struct Call {
 
 // What the sinks have room for.
 const ROOM: u32 = 1_000_000;
+
+// The share that the steady predictor holds for likely, in 65,536ths.
+const STEADY: u32 = 49_152;
 
 // What the sinks hold, with the status.
 fn outcome_of(
@@ -79,12 +83,18 @@ impl Call {
 
     // What the program leaves.
     fn run(self, alloc: Global) -> Result<Outcome, AllocError> {
+        let mut predictors: Vec<Box<dyn Predictor>> = Vec::new(alloc);
+        predictors.push(Box::new(alloc, Even::new())?)?;
+        predictors.push(Box::new(alloc, Steady::new(STEADY))?)?;
+        predictors.push(Box::new(alloc, Markov::new(alloc)?)?)?;
         let mut out = MemSink::new(alloc, self.write_fails, ROOM)?;
         let mut err = MemSink::new(alloc, self.tell_fails, ROOM)?;
         let mut input = MemSource::new(self.input, self.piece.max(1), self.read_fails);
         let mut files = MemFiles::new(self.files, self.load_fails);
         let words = self.words.as_slice();
-        let status = spectre(alloc, words, &mut input, &mut files, &mut out, &mut err);
+        let status = spectre(
+            alloc, words, &mut input, &mut files, &mut out, &mut err, predictors,
+        );
         drop(input);
         drop(files);
         let outcome = outcome_of(alloc, status, &out, &err);

@@ -1,11 +1,12 @@
-use Rattle.std.proofs.Common.{inl, [], refl, map, subst, arith}
+use Rattle.std.proofs.Common.{ℕ, List, map, subst}
 use Rattle.std.specs.Prelude.{string_bytes}
 use Rattle.sp_load.specs.Places.{place_of}
-use Rattle.sp_answer.specs.Promise.{Filed, filed, by_refusal}
+use Rattle.sp_answer.specs.Promise.{Filed, filed}
 use Rattle.sp_answer.specs.Ran.{Outside, outside}
 use Rattle.sp_top.specs.declared.command.Command.{Command}
-use Rattle.sp_top.specs.Commands.{run, trace_of, command_of, IsCommand}
-use Rattle.sp_top.proofs.Asked.{answers, bounded}
+use Rattle.sp_top.specs.Commands.{plain, run_of, trace_of, command_of, IsCommand}
+use Rattle.sp_top.proofs.Asked.{answers, no_call, refused, bounded}
+use Rattle.sp_top.proofs.Chosen.{chosen, not_chosen}
 use Rattle.sp_top.proofs.top.answer.Goals as goal
 
 pub trace-requires-clause-some : goal.trace-requires-clause-some
@@ -18,32 +19,53 @@ trace-requires-clause-most g c κs within =
     let words = map string_bytes c.args.words.now in
     (bounded words (trace_of c.in-Some-Trace.one) (subst (λ (f : Command). IsCommand words (command_of f)) c.in-Some-Trace.field-0-is c.in-Some-Trace.ensures.some)).1
 
-pub returns-in-Some-Run : goal.returns-in-Some-Run
-returns-in-Some-Run g c =
+pub returns-in-Some : goal.returns-in-Some
+returns-in-Some g c =
     let words = map string_bytes c.args.words.now in
+    let predictors : List (List ℕ) = map (λ one. (goal.Predictor-dyn g (one.vtable, one.value)).named one.value) c.args.predictors.items in
     let before : Filed = filed (g.F.Files.held c.args.files.now) (g.F.Files.faults c.args.files.now) in
     let after : Filed = filed (g.F.Files.held c.run.new.files) (g.F.Files.faults c.run.new.files) in
     let old : Outside = outside (g.S.Source.state c.args.input.now) (g.K.Sink.state c.args.out.now) in
     let new : Outside = outside (g.S.Source.state c.run.new.input) (g.K.Sink.state c.run.new.out) in
-    answers words (run (place_of c.in-Some-Run.place)) (subst (λ (f : Command). IsCommand words (command_of f)) c.in-Some-Run.field-0-is c.in-Some-Run.ensures.some) before after old new c.run.result c.run.ensures
+    let is = subst (λ (f : Command). IsCommand words (command_of f)) c.in-Some-Run.field-0-is c.in-Some-Run.ensures.some in
+    let there = (chosen _ _ c.args.predictors.items c.in-Some.predictor c.in-Some.ensures.first).1 in
+    answers predictors words (run_of c.in-Some-Run.one) (is, there) before after old new c.run.result c.run.ensures
+
+pub returns-in-None-choose : goal.returns-in-None-choose
+returns-in-None-choose g c =
+    let words = map string_bytes c.args.words.now in
+    let predictors : List (List ℕ) = map (λ one. (goal.Predictor-dyn g (one.vtable, one.value)).named one.value) c.args.predictors.items in
+    let before : Filed = filed (g.F.Files.held c.args.files.now) (g.F.Files.faults c.args.files.now) in
+    let old : Outside = outside (g.S.Source.state c.args.input.now) (g.K.Sink.state c.args.out.now) in
+    let is = subst (λ (f : Command). IsCommand words (command_of f)) c.in-Some-Run.field-0-is c.in-Some-Run.ensures.some in
+    refused predictors words (no_call predictors words (run_of c.in-Some-Run.one) is (not_chosen _ _ c.args.predictors.items c.in-None-choose.ensures.first)) before old
+
+pub returns-in-Some-Plain : goal.returns-in-Some-Plain
+returns-in-Some-Plain g c =
+    let words = map string_bytes c.args.words.now in
+    let predictors : List (List ℕ) = map (λ one. (goal.Predictor-dyn g (one.vtable, one.value)).named one.value) c.args.predictors.items in
+    let before : Filed = filed (g.F.Files.held c.args.files.now) (g.F.Files.faults c.args.files.now) in
+    let after : Filed = filed (g.F.Files.held c.plain.new.files) (g.F.Files.faults c.plain.new.files) in
+    let old : Outside = outside (g.S.Source.state c.args.input.now) (g.K.Sink.state c.args.out.now) in
+    let new : Outside = outside (g.S.Source.state c.plain.new.input) (g.K.Sink.state c.plain.new.out) in
+    let is = subst (λ (f : Command). IsCommand words (command_of f)) c.in-Some-Plain.field-0-is c.in-Some-Plain.ensures.some in
+    answers predictors words (plain (place_of c.in-Some-Plain.place)) (is, tt) before after old new c.plain.result c.plain.ensures
 
 pub returns-in-Some-Trace : goal.returns-in-Some-Trace
 returns-in-Some-Trace g c =
     let words = map string_bytes c.args.words.now in
+    let predictors : List (List ℕ) = map (λ one. (goal.Predictor-dyn g (one.vtable, one.value)).named one.value) c.args.predictors.items in
     let before : Filed = filed (g.F.Files.held c.args.files.now) (g.F.Files.faults c.args.files.now) in
     let after : Filed = filed (g.F.Files.held c.trace.new.files) (g.F.Files.faults c.trace.new.files) in
     let old : Outside = outside (g.S.Source.state c.args.input.now) (g.K.Sink.state c.args.out.now) in
     let new : Outside = outside (g.S.Source.state c.trace.new.input) (g.K.Sink.state c.trace.new.out) in
-    answers words (trace_of c.in-Some-Trace.one) (subst (λ (f : Command). IsCommand words (command_of f)) c.in-Some-Trace.field-0-is c.in-Some-Trace.ensures.some) before after old new c.trace.result c.trace.ensures
+    let is = subst (λ (f : Command). IsCommand words (command_of f)) c.in-Some-Trace.field-0-is c.in-Some-Trace.ensures.some in
+    answers predictors words (trace_of c.in-Some-Trace.one) (is, tt) before after old new c.trace.result c.trace.ensures
 
 pub returns-in-None : goal.returns-in-None
-returns-in-None g c = (
-  [],
-  inl (c.in-None.ensures.none, refl),
-  record {
-    answered = by_refusal (record { is = λ bytes ended. inl (c.in-None.ensures.none, refl); line = refl; same = refl });
-    file_told = λ name own rose. absurd (omega (arith, own.1));
-    files = refl;
-    counts = inl (λ name. refl);
-  },
-)
+returns-in-None g c =
+    let words = map string_bytes c.args.words.now in
+    let predictors : List (List ℕ) = map (λ one. (goal.Predictor-dyn g (one.vtable, one.value)).named one.value) c.args.predictors.items in
+    let before : Filed = filed (g.F.Files.held c.args.files.now) (g.F.Files.faults c.args.files.now) in
+    let old : Outside = outside (g.S.Source.state c.args.input.now) (g.K.Sink.state c.args.out.now) in
+    refused predictors words (λ command call. c.in-None.ensures.none command call.0) before old

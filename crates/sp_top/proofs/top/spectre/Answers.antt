@@ -1,4 +1,4 @@
-use Rattle.std.proofs.Common.{map}
+use Rattle.std.proofs.Common.{ℕ, List, map}
 use Rattle.std.specs.Prelude.{string_bytes}
 use Rattle.sp_answer.specs.Outcome.{ending}
 use Rattle.sp_answer.specs.Promise.{Filed, filed}
@@ -10,6 +10,7 @@ use Rattle.sp_top.proofs.top.spectre.Goals as goal
 pub returns : goal.returns
 returns g c =
     let words = map string_bytes c.args.words.now in
+    let predictors : List (List ℕ) = map (λ one. (goal.Predictor-dyn g (one.vtable, one.value)).named one.value) c.args.predictors.items in
     let before : Filed = filed (g.F.Files.held c.args.files.now) (g.F.Files.faults c.args.files.now) in
     let after : Filed = filed (g.F.Files.held c.answer-status.new.files) (g.F.Files.faults c.answer-status.new.files) in
     let old : Outside = outside (g.S.Source.state c.args.input.now) (g.K.Sink.state c.args.out.now) in
@@ -21,7 +22,7 @@ returns g c =
       given = answered.1;
       end = ending c.tell.result;
       number = c.number.ensures;
-      served = served_told answered.0 before after old new (IsOutcome words) c.answer-status.result c.tell.result c.tell.ensures.status answered.2;
+      served = served_told answered.0 before after old new (IsOutcome predictors words) c.answer-status.result c.tell.result c.tell.ensures.status answered.2;
       used_up = source.used_up c.answer-status.new.input;
       line = c.tell.ensures.line;
     }

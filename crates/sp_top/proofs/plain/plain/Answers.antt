@@ -3,7 +3,7 @@ use Rattle.sp_load.specs.Places.{place_of}
 use Rattle.sp_answer.specs.Promise.{Filed, filed}
 use Rattle.sp_answer.specs.Ran.{Outside, outside}
 use Rattle.sp_top.proofs.Running.{ran_served, refused_served}
-use Rattle.sp_top.proofs.run.run.Goals as goal
+use Rattle.sp_top.proofs.plain.plain.Goals as goal
 
 pub returns-in-Ok : goal.returns-in-Ok
 returns-in-Ok g c =

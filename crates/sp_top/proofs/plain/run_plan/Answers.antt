@@ -7,7 +7,7 @@ use Rattle.sp_intake.proofs.ReadSoFar.{no_further_none}
 use Rattle.sp_answer.specs.Ran.{Outside, outside}
 use Rattle.sp_top.specs.Run.{windows_text}
 use Rattle.sp_top.proofs.Running.{unread, all_written}
-use Rattle.sp_top.proofs.run.run_plan.Goals as goal
+use Rattle.sp_top.proofs.plain.run_plan.Goals as goal
 
 pub returns-in_default : goal.returns-in_default
 returns-in_default g c =

@@ -1,0 +1,51 @@
+-- The first predictor of a name, and whether there is one.
+use Rattle.std.proofs.Common.{◌≡◌, ℕ, zero, suc, Bool, true, false, List, [], ◌∷◌, map, if◌then◌else◌, Option, Some, None, refl, sym, subst, arith}
+use Rattle.std.specs.Prelude.{IfSome, IfNone}
+use Rattle.std.specs.List.{Contains}
+use Rattle.std.specs.Str.{bytes_eq}
+use Rattle.std.proofs.lemmas.Slice.Eq.{bytes_eq-Decides}
+use Rattle.sp_top.specs.Predictors.{first_of}
+
+module _ {X : Type 0} (f : X → List ℕ) (name : List ℕ) where
+  abbrev is_named : X → Bool
+  is_named x = bytes_eq (f x) name
+
+  -- what stands behind the first one stands in the list
+  behind : (x : List ℕ) (xs : List (List ℕ)) → Contains xs name → Contains (x ∷ xs) name
+  behind x xs at = (suc at.0, omega (arith, at.1), at.2)
+
+  ahead : (x : List ℕ) (xs : List (List ℕ)) → (x ≡ name → ⊥) → Contains (x ∷ xs) name → Contains xs name
+  ahead x xs other (zero, low, is) = absurd (other is)
+  ahead x xs other (suc k, low, is) = (k, omega (arith, low), is)
+
+  -- the first one that is found has the name, and the name is one of those of the list
+  found_named : (xs : List X) → IfSome (first_of is_named xs) (λ x. (f x ≡ name) × Contains (map f xs) name)
+  found_named [] = tt
+  found_named (x ∷ xs) = by (found_named xs) (is_named x) refl
+    where
+      later : (r : Option X) → IfSome r (λ y. (f y ≡ name) × Contains (map f xs) name) → IfSome r (λ y. (f y ≡ name) × Contains (map f (x ∷ xs)) name)
+      later None is = tt
+      later (Some y) is = (is.0, behind (f x) (map f xs) is.1)
+
+      by : IfSome (first_of is_named xs) (λ y. (f y ≡ name) × Contains (map f xs) name) → (b : Bool) → is_named x ≡ b → IfSome (if b then Some x else first_of is_named xs) (λ y. (f y ≡ name) × Contains (map f (x ∷ xs)) name)
+      by found true is = let same = (bytes_eq-Decides (f x) name).0 is in (same, (0, omega arith, same))
+      by found false is = later (first_of is_named xs) found
+
+  -- where none is found the name is none of those of the list
+  none_named : (xs : List X) → IfNone (first_of is_named xs) (Contains (map f xs) name → ⊥)
+  none_named [] = λ at. omega (arith, at.1)
+  none_named (x ∷ xs) = by (none_named xs) (is_named x) refl
+    where
+      later : (r : Option X) → is_named x ≡ false → IfNone r (Contains (map f xs) name → ⊥) → IfNone r (Contains (map f (x ∷ xs)) name → ⊥)
+      later None is none = λ at. none (ahead (f x) (map f xs) (λ same. let yes = (bytes_eq-Decides (f x) name).1 same in cc) at)
+      later (Some y) is none = tt
+
+      by : IfNone (first_of is_named xs) (Contains (map f xs) name → ⊥) → (b : Bool) → is_named x ≡ b → IfNone (if b then Some x else first_of is_named xs) (Contains (map f (x ∷ xs)) name → ⊥)
+      by none true is = tt
+      by none false is = later (first_of is_named xs) is none
+
+  pub chosen : (xs : List X) (x : X) → Some x ≡ first_of is_named xs → (f x ≡ name) × Contains (map f xs) name
+  chosen xs x is = subst (λ (r : Option X). IfSome r (λ y. (f y ≡ name) × Contains (map f xs) name)) (sym is) (found_named xs)
+
+  pub not_chosen : (xs : List X) → None ≡ first_of is_named xs → Contains (map f xs) name → ⊥
+  not_chosen xs is = subst (λ (r : Option X). IfNone r (Contains (map f xs) name → ⊥)) (sym is) (none_named xs)

@@ -1,0 +1,7 @@
+-- Which predictor is chosen.
+use Rattle.std.specs.Prelude.{Bool, List, [], ◌∷◌, Option, Some, None, if◌then◌else◌}
+
+-- the first of the list that is so
+abbrev pub first_of : {X : Type 0} → (X → Bool) → List X → Option X
+first_of is [] = None
+first_of is (x ∷ xs) = if is x then Some x else first_of is xs
