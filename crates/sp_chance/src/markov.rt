@@ -19,8 +19,8 @@ const TURN: u32 = 1_024;
 const STEPS: u32 = 16;
 
 /// Learns how groups move from so many wanted events to fewer, by a Markov model. Contracts see the last
-/// pairs, how many were learned since the matrices were built, and of which pairs these were built. The
-/// matrices are worked out at the first answer that needs them, and kept.
+/// pairs, how many were learned since the last turn, and the pairs of that turn, of which the matrices are.
+/// These are worked out at the first answer behind the turn, and kept.
 #[derive(Drop)]
 pub struct Markov {
     recent: HeapCircularBuffer<(u32, u32)>,
@@ -55,7 +55,7 @@ impl Markov {
         })
     }
 
-    // From now on the matrices are those of the last pairs.
+    // From now on the matrices are those of the last pairs. It only copies these: most are never asked about.
     fn turn(&mut self)
         ensures { self.new ≡ record { ring = self.old.ring; since = self.old.since; built = self.old.ring } }
     {
@@ -101,6 +101,7 @@ impl Predictor for Markov {
         }
     }
 
+    /// The first answer behind a turn works the matrices out; any later one finds them. No memory is taken.
     fn chance(&self, left: u32, events: u32) -> u32 {
         if left == 0 {
             return WHOLE as u32;
