@@ -1,6 +1,5 @@
 ghost use Rattle.std.specs.Prelude.{◌≡◌, ℕ, ◌<◌, IsTrue, [], map, length, slice_index, slice_index_or};
-ghost use Rattle.circular_buffer.specs.Buffer.{buffer};
-ghost use Rattle.sp_chance.specs.Counted.{IsMove, decoded};
+ghost use Rattle.sp_chance.specs.Counted.{decoded};
 ghost use Rattle.sp_chance.specs.Learned.{AreLast};
 
 use circular_buffer::HeapCircularBuffer;
