@@ -1,13 +1,14 @@
 -- Counting pairs in a matrix.
-use Rattle.std.proofs.Common.{◌≡◌, ℕ, ◌+◌, ◌*◌, ◌/◌, ◌<◌, ◌≤◌, ◌≢◌, ⊎_elim, Bool, true, false, cond, ◌==◌, ◌&&◌, ◌||◌, List, [], ◌∷◌, ◌++◌, length, get_or, take, replicate, slice_set, refl, sym, ap, ◌∙◌, arith}
+use Rattle.std.proofs.Common.{◌≡◌, ℕ, ◌+◌, ◌*◌, ◌/◌, ◌<◌, ◌≤◌, ◌≢◌, ⊎_elim, Bool, true, false, cond, ◌==◌, ◌&&◌, ◌||◌, List, [], ◌∷◌, ◌++◌, length, map, get_or, take, replicate, slice_set, refl, sym, ap, ◌∙◌, arith}
 use Rattle.std.specs.List.{count_by}
+use Rattle.std.proofs.Math.ListN.{get_or-map}
 use Rattle.std.proofs.lemmas.Bool.{eq-eqb}
 use Rattle.std.proofs.lemmas.Bool.Decides.{eqb_tells, nat_tests}
 use Rattle.std.proofs.lemmas.List.{get_or-replicate, get_or-set_other, length-set, length-take, take_more}
 use Rattle.std.proofs.lemmas.List.Sums.{count_by-le-length, sum_by-cons, sum_by_push, sum_by-append}
 use Rattle.std.proofs.lemmas.Grind.{get_or-set_at}
 use Rattle.sp_chance.specs.Matrices.{at, count, leaving, moved}
-use Rattle.sp_chance.specs.Counted.{is_counted, tally, AreCounted, moved_by}
+use Rattle.sp_chance.specs.Counted.{decoded, is_counted, tally, AreCounted, moved_by}
 use Rattle.sp_chance.proofs.Cells.{eqb_not, cell_within}
 
 -- one more in a cell
@@ -61,6 +62,10 @@ tally-most pairs k i j within = omega (arith, count_by-le-length (is_counted i j
 
 pub tally-append : (xs ys : List (ℕ × ℕ)) (i j : ℕ) → tally (xs ++ ys) i j ≡ tally xs i j + tally ys i j
 tally-append xs ys i j = sum_by-append (λ p. one_if (is_counted i j p)) xs ys
+
+-- the pair of a number in a list
+pub decoded-at : (codes : List ℕ) (k : ℕ) → get_or (map decoded codes) k (0, 0) ≡ decoded (get_or codes k 0)
+decoded-at codes k = get_or-map decoded codes k 0
 
 pub at-zeros : (i j : ℕ) → i < 33 → j < 33 → at (replicate 1089 0) i j ≡ 0
 at-zeros i j row column = get_or-replicate 1089 (i * 33 + j) 0 0 (cell_within i j row column)

@@ -3,6 +3,6 @@ mod Cells
 mod Whole
 mod Counting
 mod Columns
-mod Rings
+mod Codes
 mod Worked
 mod Ordered

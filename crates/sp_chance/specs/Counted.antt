@@ -15,6 +15,10 @@ pub record IsMove (p : ℕ × ℕ) : Type 0 where
   pub most : p.0 ≤ 32
   pub falls : p.1 ≤ p.0
 
+-- the pair of a number: where it leads from, 64 times, and where it leads to
+abbrev pub decoded : ℕ → ℕ × ℕ
+decoded code = (code / 64, code % 64)
+
 -- whether a pair counts in row i at column j: off the diagonal those from i to j, on it all those from i
 abbrev pub is_counted : ℕ → ℕ → ℕ × ℕ → Bool
 is_counted i j p = (p.0 == i) && (i == j || p.1 == j)

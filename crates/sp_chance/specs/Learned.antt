@@ -43,11 +43,23 @@ chance_of pairs left events =
     else if events == 0 then 0
     else at (power (first pairs) (sixteens events - 1)) (min left 32) 0
 
--- the numbers at hand are those of the pairs that they were built from
-pub record IsSound (recent : Buffer (ℕ × ℕ)) (since : ℕ) (built : Buffer (ℕ × ℕ)) (columns : List ℕ) : Type 0 where
-  pub room : recent.capacity ≡ 256
-  pub few : length recent.items ≤ 256
-  pub moves : All IsMove recent.items
+-- at most 256 pairs that count, in a ring for as many
+pub record AreLast (ring : Buffer (ℕ × ℕ)) : Type 0 where
+  pub room : ring.capacity ≡ 256
+  pub few : length ring.items ≤ 256
+  pub moves : All IsMove ring.items
+
+-- the ring holds pairs that count, the answers are of such pairs too, and the next turn is still to come
+pub record IsSound (recent : Buffer (ℕ × ℕ)) (since : ℕ) (built : List (ℕ × ℕ)) : Type 0 where
+  pub last : AreLast recent
   pub due : since < 1024
-  pub copy : built.capacity ≡ 256
-  pub kept : columns ≡ first_columns (first built.items)
+  pub moves : All IsMove built
+  pub few : length built ≤ 256
+
+-- the numbers at hand are those of the pairs beside them, and there is room to work others out
+pub record AreAtHand (pairs : List (ℕ × ℕ)) (columns one current next : List ℕ) : Type 0 where
+  pub kept : columns ≡ first_columns (first pairs)
+  pub size : length columns ≡ 528
+  pub first_size : length one ≡ 1089
+  pub current_size : length current ≡ 1089
+  pub next_size : length next ≡ 1089

@@ -7,6 +7,7 @@ mod laws;
 mod markov;
 mod matrix;
 mod moves;
+mod pairs;
 mod powers;
 mod predictor;
 mod steady;

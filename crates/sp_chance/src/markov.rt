@@ -1,31 +1,33 @@
-ghost use Rattle.std.specs.Prelude.{◌≡◌, IfOk, codes};
+ghost use Rattle.std.specs.Prelude.{◌≡◌, ◌<◌, ◌≤◌, IfOk, codes};
+ghost use Rattle.sp_chance.specs.Matrices.{at, first, power};
 ghost use Rattle.sp_chance.specs.Learned.{fresh, learned, chance_of};
 
 use crate::Predictor;
 use crate::matrix::{STATES, WHOLE};
-use crate::powers::{POWERS, Powers};
+use crate::pairs::{Pairs, RECENT};
+use crate::powers::{POWERS, Powers, worked_out};
 use circular_buffer::HeapCircularBuffer;
 use sp_base::Memory;
 use std::alloc::Global;
+use std::cell::RefCell;
 use std::marker::Model;
 
-/// How many of the last pairs are kept.
-const RECENT: usize = 256;
-
-/// At each so many pairs learned the matrices are built anew.
+/// At each so many pairs learned the answers turn to the last pairs.
 const TURN: u32 = 1_024;
 
 /// How many events the first power stands for, and each further one adds.
 const STEPS: u32 = 16;
 
 /// Learns how groups move from so many wanted events to fewer, by a Markov model. Contracts see the last
-/// pairs, how many were learned since the matrices were built, and of which pairs these were built.
+/// pairs, how many were learned since the last turn, and the pairs of that turn, of which the matrices are.
+/// These are worked out at the first answer behind the turn, and kept.
 #[derive(Drop)]
 pub struct Markov {
     recent: HeapCircularBuffer<(u32, u32)>,
     since: u32,
-    built: HeapCircularBuffer<(u32, u32)>,
-    powers: Powers,
+    built: Pairs,
+    // They know of which pairs they are: those of `built`, or those of an earlier turn.
+    powers: RefCell<Powers>,
 }
 
 impl Model for Markov {
@@ -33,9 +35,9 @@ impl Model for Markov {
 
     ghost Value = { Learned };
 
-    ghost view = { λ m. record { ring = m.recent.items; since = m.since; built = m.built.items } };
+    ghost view = { λ m. record { ring = m.recent.items; since = m.since; built = m.built } };
 
-    ghost invariant = { λ m. IsSound m.recent m.since m.built m.powers };
+    ghost invariant = { λ m. IsSound m.recent m.since m.built };
 }
 
 impl Markov {
@@ -44,26 +46,33 @@ impl Markov {
         ensures { IfOk result (λ markov. markov ≡ fresh) }
     {
         let recent = HeapCircularBuffer::with_capacity(alloc, RECENT)?;
-        let built = HeapCircularBuffer::with_capacity(alloc, RECENT)?;
-        let mut powers = Powers::new(alloc)?;
-        powers.build(&built);
+        let powers = Powers::new(alloc)?;
         Ok(Markov {
             recent,
             since: 0,
-            built,
-            powers,
+            built: Pairs::new(),
+            powers: RefCell::new(powers),
         })
     }
 
-    // Builds the matrices of the last pairs.
-    fn build(&mut self)
+    // From now on the matrices are those of the last pairs. It only copies these: most are never asked about.
+    fn turn(&mut self)
         ensures { self.new ≡ record { ring = self.old.ring; since = self.old.since; built = self.old.ring } }
     {
-        let (front, back) = self.recent.as_slices();
-        self.built.clear();
-        self.built.extend_from_slice(front);
-        self.built.extend_from_slice(back);
-        self.powers.build(&self.built);
+        self.built.replace(&self.recent);
+    }
+
+    // How likely a state is to come to 0 in the events of a power. The numbers at hand serve where they are
+    // of these pairs; where they are lent, which no call here leaves behind, they are worked out aside.
+    fn number(&self, steps: usize, left: usize) -> u32
+        requires steps { steps < 16 }
+        requires left { left ≤ 32 }
+        ensures { result ≡ at (power (first self.now.built) steps) left 0 }
+    {
+        match self.powers.try_borrow_mut() {
+            Ok(mut powers) => powers.number(&self.built, steps, left),
+            Err(_) => worked_out(&self.built, steps, left),
+        }
     }
 }
 
@@ -88,10 +97,11 @@ impl Predictor for Markov {
             self.since += 1;
         } else {
             self.since = 0;
-            self.build();
+            self.turn();
         }
     }
 
+    /// The first answer behind a turn works the matrices out; any later one finds them. No memory is taken.
     fn chance(&self, left: u32, events: u32) -> u32 {
         if left == 0 {
             return WHOLE as u32;
@@ -101,6 +111,6 @@ impl Predictor for Markov {
         }
         let power = events.div_ceil(STEPS).min(POWERS as u32) - 1;
         let state = left.min(STATES as u32 - 1);
-        self.powers.get(power as usize, state as usize)
+        self.number(power as usize, state as usize)
     }
 }

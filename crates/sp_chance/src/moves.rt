@@ -1,24 +1,20 @@
-ghost use Rattle.std.specs.Prelude.{◌≡◌, ◌<◌, ◌≤◌, [], ◌∷◌, All, length};
+ghost use Rattle.std.specs.Prelude.{◌≡◌, ◌<◌, ◌≤◌, [], ◌∷◌, All, map, length};
 ghost use Rattle.sp_chance.specs.Matrices.{at, transitions};
-ghost use Rattle.sp_chance.specs.Counted.{IsMatrix, IsMove, AreCounted, AreAdded, HaveRoom, moved_by};
+ghost use Rattle.sp_chance.specs.Counted.{IsMatrix, IsMove, AreCounted, AreAdded, HaveRoom, decoded, moved_by};
 
 use crate::matrix::{CELLS, STATES, WHOLE, settle};
-use circular_buffer::HeapCircularBuffer;
+use crate::pairs::{Pairs, decode};
 
 // Where no pair tells of a state, half of it goes one state down.
 const HALF: u32 = 32_768;
 
 /// The matrix of one step, of at most 256 pairs of states; what was counted is left in `counts`.
-pub(crate) fn write_transitions(
-    pairs: &HeapCircularBuffer<(u32, u32)>,
-    counts: &mut [u32],
-    target: &mut [u32],
-)
-    requires moves { All IsMove pairs.now.items }
-    requires most { length pairs.now.items ≤ 256 }
+pub(crate) fn write_transitions(pairs: &Pairs, counts: &mut [u32], target: &mut [u32])
+    requires moves { All IsMove pairs.now }
+    requires most { length pairs.now ≤ 256 }
     requires counts { length counts.old ≡ 1089 }
     requires target { length target.old ≡ 1089 }
-    ensures value { target.new ≡ transitions pairs.now.items }
+    ensures value { target.new ≡ transitions pairs.now }
     ensures matrix { IsMatrix target.new }
 {
     count(pairs, counts);
@@ -29,26 +25,25 @@ pub(crate) fn write_transitions(
 }
 
 // Counts the pairs: off the diagonal those from one state to the other, on it all those from a state.
-fn count(pairs: &HeapCircularBuffer<(u32, u32)>, counts: &mut [u32])
-    requires moves { All IsMove pairs.now.items }
-    requires most { length pairs.now.items ≤ 256 }
+fn count(pairs: &Pairs, counts: &mut [u32])
+    requires moves { All IsMove pairs.now }
+    requires most { length pairs.now ≤ 256 }
     requires size { length counts.old ≡ 1089 }
-    ensures { AreCounted pairs.now.items counts.new }
+    ensures { AreCounted pairs.now counts.new }
 {
     counts.fill(0);
-    let (front, back) = pairs.as_slices();
-    count_all(front, counts);
-    count_all(back, counts);
+    count_all(pairs.codes(), counts);
 }
 
-fn count_all(pairs: &[(u32, u32)], counts: &mut [u32])
-    requires moves { All IsMove pairs.now }
+fn count_all(codes: &[u16], counts: &mut [u32])
+    requires moves { All IsMove (map decoded codes.now) }
     requires size { length counts.old ≡ 1089 }
-    requires room { HaveRoom (length pairs.now) counts.old }
-    ensures { AreAdded pairs.now counts.old counts.new }
+    requires room { HaveRoom (length codes.now) counts.old }
+    ensures { AreAdded (map decoded codes.now) counts.old counts.new }
 {
-    for (from, to) in pairs {
-        count_one(counts, *from as usize, *to as usize);
+    for code in codes {
+        let (from, to) = decode(*code);
+        count_one(counts, from, to);
     }
 }
 

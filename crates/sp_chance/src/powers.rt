@@ -1,10 +1,10 @@
 ghost use Rattle.std.specs.Prelude.{◌≡◌, ℕ, ◌+◌, ◌*◌, ◌<◌, ◌≤◌, All, length, IfOk, slice_index};
-ghost use Rattle.sp_chance.specs.Matrices.{at, first};
+ghost use Rattle.sp_chance.specs.Matrices.{at, first, power};
 ghost use Rattle.sp_chance.specs.Counted.{IsMatrix, IsMove, first_columns};
 
 use crate::matrix::{CELLS, STATES, multiply};
 use crate::moves::write_transitions;
-use circular_buffer::HeapCircularBuffer;
+use crate::pairs::Pairs;
 use sp_base::Memory;
 use std::alloc::Global;
 use std::marker::Model;
@@ -12,9 +12,11 @@ use std::marker::Model;
 /// How many powers are kept: those of 16, 32 and so on up to 256 events.
 pub(crate) const POWERS: usize = 16;
 
-/// For each power, how likely each state is to come to 0. Contracts see these numbers.
+/// For each power, how likely each state is to come to 0, beside the pairs that tell it. Contracts see these
+/// pairs.
 #[derive(Drop)]
 pub(crate) struct Powers {
+    pairs: Pairs,
     columns: Vec<u32>,
     // The matrix of 16 events, and two more in which powers are made in turn.
     first: Vec<u32>,
@@ -23,35 +25,72 @@ pub(crate) struct Powers {
 }
 
 impl Model for Powers {
-    ghost use Rattle.std.specs.Prelude.{◌≡◌, ℕ, List, length};
+    ghost use Rattle.std.specs.Prelude.{ℕ, List};
+    ghost use Rattle.sp_chance.specs.Learned.{AreAtHand};
 
-    ghost Value = { List ℕ };
+    ghost Value = { List (ℕ × ℕ) };
 
-    ghost view = { λ p. p.columns.items };
+    ghost view = { λ p. p.pairs };
 
-    ghost invariant = { λ p.
-        (length p.columns.items ≡ 528) × (length p.first.items ≡ 1089)
-        × (length p.current.items ≡ 1089) × (length p.next.items ≡ 1089) };
+    ghost invariant = { λ p. AreAtHand p.pairs p.columns.items p.first.items p.current.items p.next.items };
 }
 
 impl Powers {
-    /// Room for all of it, so that building takes no memory.
+    /// Those of no pair, with room for all of it, so that building takes no memory.
     pub(crate) fn new(alloc: Global) -> Result<Powers, Memory> {
+        let pairs = Pairs::new();
+        let mut columns = vec![in alloc; 0; POWERS * STATES]?;
+        let mut first = vec![in alloc; 0; CELLS]?;
+        let mut current = vec![in alloc; 0; CELLS]?;
+        let mut next = vec![in alloc; 0; CELLS]?;
+        write_first(&pairs, &mut first, &mut current, &mut next);
+        write_columns(&first, &mut current, &mut next, &mut columns);
         Ok(Powers {
-            columns: vec![in alloc; 0; POWERS * STATES]?,
-            first: vec![in alloc; 0; CELLS]?,
-            current: vec![in alloc; 0; CELLS]?,
-            next: vec![in alloc; 0; CELLS]?,
+            pairs,
+            columns,
+            first,
+            current,
+            next,
         })
     }
 
-    /// Builds the matrices of these pairs.
-    pub(crate) fn build(&mut self, pairs: &HeapCircularBuffer<(u32, u32)>)
-        requires moves { All IsMove pairs.now.items }
-        requires most { length pairs.now.items ≤ 256 }
-        ensures { self.new ≡ first_columns (first pairs.now.items) }
+    /// How likely a state is to come to 0 in the events of a power, as these pairs tell. The numbers are
+    /// worked out where those at hand are of others.
+    pub(crate) fn number(&mut self, pairs: &Pairs, steps: usize, left: usize) -> u32
+        requires moves { All IsMove pairs.now }
+        requires most { length pairs.now ≤ 256 }
+        requires steps { steps < 16 }
+        requires left { left ≤ 32 }
+        ensures { result ≡ at (power (first pairs.now) steps) left 0 }
     {
-        write_first(pairs, &mut self.first, &mut self.current, &mut self.next);
+        if !self.pairs.are_those(pairs) {
+            self.build(pairs);
+        }
+        self.get(steps, left)
+    }
+
+    // How likely a state is to come to 0 in the events of a power.
+    fn get(&self, steps: usize, left: usize) -> u32
+        requires steps { steps < 16 }
+        requires left { left ≤ 32 }
+        ensures { result ≡ at (power (first self.now) steps) left 0 }
+    {
+        self.columns[steps * STATES + left]
+    }
+
+    // Works the numbers of these pairs out.
+    fn build(&mut self, pairs: &Pairs)
+        requires moves { All IsMove pairs.now }
+        requires most { length pairs.now ≤ 256 }
+        ensures { self.new ≡ pairs.now }
+    {
+        self.pairs.copy_from(pairs);
+        write_first(
+            &self.pairs,
+            &mut self.first,
+            &mut self.current,
+            &mut self.next,
+        );
         write_columns(
             &self.first,
             &mut self.current,
@@ -59,30 +98,35 @@ impl Powers {
             &mut self.columns,
         );
     }
+}
 
-    /// How likely a state is to come to 0 in the events of a power.
-    pub(crate) fn get(&self, power: usize, left: usize) -> u32
-        requires power { power < 16 }
-        requires left { left ≤ 32 }
-        ensures { result ≡ slice_index self.now (power * 33 + left) }
-    {
-        self.columns[power * STATES + left]
-    }
+/// How likely a state is to come to 0 in the events of a power, as these pairs tell, with nothing kept.
+#[cold]
+#[inline(never)]
+pub(crate) fn worked_out(pairs: &Pairs, steps: usize, left: usize) -> u32
+    requires moves { All IsMove pairs.now }
+    requires most { length pairs.now ≤ 256 }
+    requires steps { steps < 16 }
+    requires left { left ≤ 32 }
+    ensures { result ≡ at (power (first pairs.now) steps) left 0 }
+{
+    let mut first = [0; CELLS];
+    let mut current = [0; CELLS];
+    let mut next = [0; CELLS];
+    let mut columns = [0; POWERS * STATES];
+    write_first(pairs, &mut first, &mut current, &mut next);
+    write_columns(&first, &mut current, &mut next, &mut columns);
+    columns[steps * STATES + left]
 }
 
 // The matrix of sixteen steps: that of one, squared four times.
-fn write_first(
-    pairs: &HeapCircularBuffer<(u32, u32)>,
-    target: &mut [u32],
-    current: &mut [u32],
-    next: &mut [u32],
-)
-    requires moves { All IsMove pairs.now.items }
-    requires most { length pairs.now.items ≤ 256 }
+fn write_first(pairs: &Pairs, target: &mut [u32], current: &mut [u32], next: &mut [u32])
+    requires moves { All IsMove pairs.now }
+    requires most { length pairs.now ≤ 256 }
     requires target { length target.old ≡ 1089 }
     requires current { length current.old ≡ 1089 }
     requires next { length next.old ≡ 1089 }
-    ensures value { target.new ≡ first pairs.now.items }
+    ensures value { target.new ≡ first pairs.now }
     ensures matrix { IsMatrix target.new }
 {
     write_transitions(pairs, next, current);

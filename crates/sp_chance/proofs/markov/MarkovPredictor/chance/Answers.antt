@@ -1,8 +1,7 @@
-use Rattle.std.proofs.Common.{◌≡◌, ℕ, ◌+◌, ◌-◌, ◌*◌, ◌/◌, min, ap, sym, ◌∙◌, List, get_or, false, ◌==◌, cond, arith}
+use Rattle.std.proofs.Common.{◌≡◌, ℕ, ◌+◌, ◌-◌, ◌/◌, min, ap, sym, ◌∙◌, List, false, ◌==◌, cond, arith}
 use Rattle.sp_chance.specs.Matrices.{at, first, power}
 use Rattle.sp_chance.specs.Learned.{chance_of, sixteens}
 use Rattle.sp_chance.proofs.Cells.{eqb_not}
-use Rattle.sp_chance.proofs.Columns.{get-columns}
 use Rattle.sp_chance.proofs.markov.MarkovPredictor.chance.Goals as goal
 
 chosen : (pairs : List (ℕ × ℕ)) (left events x : ℕ) → (left == 0) ≡ false → (events == 0) ≡ false
@@ -18,10 +17,7 @@ returns c =
     let i : ℕ = c.min-state.result in
     let rounded : c.div_ceil.result ≡ (c.args.events + 15) / 16 = omega (arith, c.div_ceil.ensures) in
     let which : k ≡ sixteens c.args.events - 1 = omega (arith, c.min-power.ensures) in
-    chosen c.args.self.now.built c.args.left c.args.events c.get.result (eqb_not _ _ c.if-left-eq0.false) (eqb_not _ _ c.if-events-eq0.false)
-    (c.get.ensures
-    ∙ ap (λ m. get_or m (k * 33 + i) 0) c.self.invariant.kept
-    ∙ get-columns (first c.self.inside.built.items) k i (omega (arith, c.min-power.ensures)) (omega (arith, c.min-state.ensures))
-    ∙ ap (λ v. at (power (first v.built) k) i 0) c.self.view_is
+    chosen c.args.self.now.built c.args.left c.args.events c.number.result (eqb_not _ _ c.if-left-eq0.false) (eqb_not _ _ c.if-events-eq0.false)
+    (c.number.ensures
     ∙ ap (λ n. at (power (first c.args.self.now.built) n) i 0) which
     ∙ ap (λ n. at (power (first c.args.self.now.built) (sixteens c.args.events - 1)) n 0) c.min-state.ensures)
