@@ -1,5 +1,6 @@
 // What a core shows.
 ghost use Rattle.std.specs.Prelude.{◌≡◌, []};
+ghost use Rattle.sp_plan.specs.Compiled.{IsCompiled};
 ghost use Rattle.sp_plan.specs.Sequential.{seq};
 ghost use Rattle.sp_window.specs.Standing.{Stands};
 ghost use Rattle.sp_group.specs.Rising.{with_numbers};
@@ -24,9 +25,10 @@ impl Core {
         &self.tree
     }
 
-    /// The plan.
+    /// The plan, which is compiled.
     pub fn plan(&self) -> &Plan
-        ensures { result.now ≡ self.now.plan }
+        ensures plan { result.now ≡ self.now.plan }
+        ensures compiled { IsCompiled result.now }
     {
         &self.plan
     }

@@ -1,5 +1,5 @@
 -- What an outlet takes: matches, each as its line.
-use Rattle.std.specs.Prelude.{◌≡◌, ◌+◌, ◌-◌, ◌^◌, ℕ, List, ◌++◌, length, min}
+use Rattle.std.specs.Prelude.{◌≡◌, ◌+◌, ◌-◌, ◌^◌, ℕ, List, ◌++◌, length, min, max}
 use Rattle.sp_io.specs.Outside.{Told, Grew, GrewWithin}
 use Rattle.sp_plan.specs.declared.found.Match.{Match}
 use Rattle.sp_plan.specs.declared.plan.Plan.{Plan}
@@ -11,9 +11,9 @@ pub record OutletState : Type 0 where
   pub taken : ℕ
   pub faults : ℕ
 
--- a count with so many more; one that stands at the last value of its type stays there
+-- a count with so many more, up to the last value of its type; it never falls
 abbrev pub counted : ℕ → ℕ → ℕ
-counted n more = min (n + more) (2 ^ 64 - 1)
+counted n more = max n (min (n + more) (2 ^ 64 - 1))
 
 -- an outlet took these matches whole: it grew by their lines, and counted each
 pub record Took (q : Plan) (matches : List Match) (old new : OutletState) : Type 0 where

@@ -1,5 +1,5 @@
 -- What a run of a core comes to, from an intake to an outlet.
-use Rattle.std.specs.Prelude.{◌≡◌, ◌≢◌, ◌⊎◌, ℕ, Bool, true, false, List, ◌∷◌, ◌++◌}
+use Rattle.std.specs.Prelude.{◌≡◌, ◌≢◌, ◌⊎◌, Bool, true, false, List, ◌∷◌, ◌++◌}
 use Rattle.sp_io.specs.Outside.{Rose}
 use Rattle.sp_plan.specs.declared.event.Event.{Event}
 use Rattle.sp_plan.specs.declared.found.Match.{Match}
@@ -9,7 +9,6 @@ use Rattle.sp_plan.specs.Windows.{closed}
 use Rattle.sp_core.specs.Running.{Running}
 use Rattle.sp_ports.specs.Taking.{OutletState, Took, TookFirst, FailedAt}
 use Rattle.sp_split.specs.declared.ended.Ended.{Ended}
-use Rattle.sp_split.specs.declared.ended.Why.{Why}
 use Rattle.sp_split.specs.declared.ended.Why.TheVariants as why
 use Rattle.sp_split.specs.Journaled.{fed, MakesNoChild}
 

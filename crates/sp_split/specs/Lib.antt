@@ -1,2 +1,3 @@
 pub mod Journaled
 pub mod Driving
+pub mod Stages

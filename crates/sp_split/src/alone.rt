@@ -4,11 +4,57 @@ ghost use Rattle.sp_io.specs.Outside.{Rose};
 ghost use Rattle.sp_core.specs.Running.{begun};
 ghost use Rattle.sp_split.specs.Driving.{Drove, FellShort};
 
-use crate::{Ended, Memory};
+use crate::feeding::{Fed, feed};
+use crate::working::work_off;
+use crate::{Ended, Memory, Why};
 use sp_chance::Predictor;
 use sp_core::Core;
-use sp_ports::{Intake, Outlet};
-use std::alloc::{AllocError, Global};
+use sp_ports::{Intake, OutFault, Outlet};
+use sp_window::finished_windows_stay;
+use std::alloc::Global;
+
+// Runs a core that has done no step, as `drive` says; answers why the run has ended.
+fn run<I: Intake, O: Outlet>(
+    alloc: Global,
+    core: &mut Core,
+    batch: u32,
+    predictor: &mut dyn Predictor,
+    intake: &mut I,
+    outlet: &mut O,
+) -> Result<Why, Memory>
+    requires fresh { core.old ≡ begun core.old.plan core.old.bound }
+    requires some { 1 ≤ batch }
+    requires most { batch ≤ 1024 }
+    requires intake_plan { I.plan intake.old ≡ core.old.plan }
+    requires outlet_plan { O.plan outlet.old ≡ core.old.plan }
+    ensures ended { IfOk result (λ why. Drove (λ events. I.gave intake.old events intake.new) (I.ended intake.new)
+        (Rose (I.stops intake.old) (I.stops intake.new)) core.old (O.state outlet.old) (O.state outlet.new)
+        (record { core = core.new; why = why })) }
+    ensures short { OnErr result (FellShort (λ events. I.gave intake.old events intake.new) (I.ended intake.new)
+        core.old.plan (O.state outlet.old) (O.state outlet.new)) }
+    ensures same { (I.plan intake.new ≡ I.plan intake.old) × (I.token intake.new ≡ I.token intake.old) }
+    ensures same_out { (O.plan outlet.new ≡ O.plan outlet.old) × (O.token outlet.new ≡ O.token outlet.old) }
+{
+    // An intake ends long before so many turns.
+    for _ in 0..u64::MAX {
+        // They tell what every core keeps.
+        core.plan();
+        core.finished();
+        finished_windows_stay();
+        let fed = feed(alloc, core, batch, intake)?;
+        match work_off(alloc, core, batch, predictor, outlet) {
+            Ok(()) => {}
+            Err(OutFault::Failed) => return Ok(Why::Refused),
+            Err(OutFault::Memory) => return Ok(Why::Memory),
+        }
+        match fed {
+            Fed::More => {}
+            Fed::End => return Ok(Why::Whole),
+            Fed::Stop => return Ok(Why::Stopped),
+        }
+    }
+    Ok(Why::Memory)
+}
 
 /// Runs a core that has done no step from an intake to an outlet, on this thread: events are fed, up to
 /// `batch` at a time, 1 to 1,024, then the windows that they closed are finished, and their matches put; until
@@ -19,9 +65,9 @@ use std::alloc::{AllocError, Global};
 /// matches of what the events given come to.
 pub fn drive<I: Intake, O: Outlet>(
     alloc: Global,
-    core: Core,
+    mut core: Core,
     batch: u32,
-    predictor: Box<dyn Predictor>,
+    mut predictor: Box<dyn Predictor>,
     intake: &mut I,
     outlet: &mut O,
 ) -> Result<Ended, Memory>
@@ -37,5 +83,6 @@ pub fn drive<I: Intake, O: Outlet>(
     ensures same { (I.plan intake.new ≡ I.plan intake.old) × (I.token intake.new ≡ I.token intake.old) }
     ensures same_out { (O.plan outlet.new ≡ O.plan outlet.old) × (O.token outlet.new ≡ O.token outlet.old) }
 {
-    Err(AllocError)
+    let why = run(alloc, &mut core, batch, &mut *predictor, intake, outlet)?;
+    Ok(Ended { core, why })
 }

@@ -3,6 +3,11 @@
 
 mod alone;
 mod ended;
+mod feeding;
+mod handing;
+mod reading;
+mod turning;
+mod working;
 
 pub use alone::drive;
 pub use ended::{Ended, Why};

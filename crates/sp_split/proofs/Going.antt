@@ -1,0 +1,250 @@
+-- What a run keeps, and what it ends with.
+use Rattle.std.proofs.Common.{◌≡◌, ℕ, zero, suc, ◌+◌, ◌-◌, ◌≤◌, Bool, true, false, List, [], ◌++◌, length, map, inl, inr, refl, sym, ◌∙◌, ap, subst, arith, append_assoc}
+use Rattle.std.specs.Prelude.{slice_get}
+use Rattle.std.specs.List.{enumerate_from}
+use Rattle.std.proofs.lemmas.List.{append-nil}
+use Rattle.std.proofs.lemmas.List.Elements.{All-nil}
+use Rattle.sp_io.specs.Outside.{Rose}
+use Rattle.sp_plan.specs.declared.event.Event.{Event}
+use Rattle.sp_plan.specs.declared.found.Match.{Match}
+use Rattle.sp_plan.specs.declared.plan.Plan.{Plan}
+use Rattle.sp_plan.specs.Compiled.{IsCompiled}
+use Rattle.sp_plan.specs.Runs.{matched_runs, state}
+use Rattle.sp_plan.specs.Sequential.{Progress, match_of, seq, visible, whole}
+use Rattle.sp_plan.specs.WindowNumbers.{Good}
+use Rattle.sp_plan.specs.Windows.{IsWindowed, closed, windows}
+use Rattle.sp_group.specs.declared.step.Entry.{Entry}
+use Rattle.sp_rules.specs.Schedules.{Reached}
+use Rattle.sp_window.specs.Laws.{FinishedStay}
+use Rattle.sp_ports.specs.Giving.{AreGood}
+use Rattle.sp_ports.specs.Taking.{OutletState, Took, TookFirst}
+use Rattle.sp_core.specs.Running.{Running, begun}
+use Rattle.sp_split.specs.declared.ended.Why.TheVariants as why
+use Rattle.sp_split.specs.declared.feeding.Fed.{Fed}
+use Rattle.sp_split.specs.declared.feeding.Fed.TheVariants as f
+use Rattle.sp_split.specs.Driving.{Drove, FailedWithin, FellShort}
+use Rattle.sp_split.specs.Journaled.{fed, makes_child, MakesNoChild}
+use Rattle.sp_split.specs.Stages.{AllFinished, FedOn, IsFed, WorkedOn, WorkedTaken, WorkedUntilRefused, WorkedUntilShort}
+use Rattle.sp_split.proofs.Taken.{took_none, took_more, took_first, failed_behind, first_behind}
+
+-- the core stands alone, and was fed what the intake gave
+pub record Alone (gave : List Event → Type 0) (first c : Running) : Type 0 where
+  pub plan : c.plan ≡ first.plan
+  pub bound : c.bound ≡ first.bound
+  pub given : gave c.machine.events
+  pub fed_are : fed c.journal ≡ c.machine.events
+  pub alone : MakesNoChild c.journal
+
+-- between two stages: no ticket is out, and the outlet took all that was emitted
+pub record Going (gave : List Event → Type 0) (first c : Running) (old new : OutletState) : Type 0 where
+  pub run : Alone gave first c
+  pub none_out : c.machine.tickets ≡ []
+  pub took : Took first.plan c.machine.emitted old new
+  pub no_fault : new.faults ≡ old.faults
+
+-- before the first stage
+pub going_none : (gave : List Event → Type 0) (c : Running) (s : OutletState) → c ≡ begun c.plan c.bound → gave [] → Going gave c c s s
+going_none gave c s fresh given = subst (λ (d : Running). Going gave c d s s) (sym fresh) (record {
+  run = record {
+    plan = refl;
+    bound = refl;
+    given = given;
+    fed_are = refl;
+    alone = All-nil (λ (e : Entry). makes_child e.step ≡ false);
+  };
+  none_out = refl;
+  took = took_none c.plan s;
+  no_fault = refl;
+})
+
+-- the core was fed
+pub going_fed : (gave gave' : List Event → Type 0) (first c d : Running) (old s : OutletState) → Going gave first c old s → FedOn c d → gave' d.machine.events → Going gave' first d old s
+going_fed gave gave' first c d old s going more given = record {
+  run = record {
+    plan = more.on.plan ∙ going.run.plan;
+    bound = more.on.bound ∙ going.run.bound;
+    given = given;
+    fed_are = more.on.fed_are going.run.fed_are;
+    alone = more.on.alone going.run.alone;
+  };
+  none_out = more.tickets ∙ going.none_out;
+  took = subst (λ (ms : List Match). Took first.plan ms old s) (sym more.emitted) going.took;
+  no_fault = going.no_fault;
+}
+
+module _ (gave : List Event → Type 0) (first c d : Running) (old s t : OutletState) (going : Going gave first c old s) where
+  -- the core worked
+  pub alone_worked : WorkedOn c d → Alone gave first d
+  alone_worked w = record {
+    plan = w.on.plan ∙ going.run.plan;
+    bound = w.on.bound ∙ going.run.bound;
+    given = subst gave (sym w.events) going.run.given;
+    fed_are = w.on.fed_are going.run.fed_are;
+    alone = w.on.alone going.run.alone;
+  }
+
+  pub took_worked : WorkedTaken c d s t → Took first.plan d.machine.emitted old t
+  took_worked w =
+      subst (λ (ms : List Match). Took first.plan ms old t) (sym w.emitted)
+      (took_more first.plan c.machine.emitted w.matches old s t going.took (subst (λ (q : Plan). Took q w.matches s t) going.run.plan w.so))
+
+  pub failed_worked : WorkedUntilRefused c d s t → FailedWithin first.plan d.machine.emitted old t
+  failed_worked w =
+      subst (λ (ms : List Match). FailedWithin first.plan ms old t) (sym w.emitted)
+      (failed_behind first.plan c.machine.emitted w.matches old s t going.took (subst (λ (q : Plan). FailedWithin q w.matches s t) going.run.plan w.so))
+
+  pub short_worked : WorkedUntilShort c d s t → TookFirst first.plan d.machine.emitted old t
+  short_worked w =
+      subst (λ (ms : List Match). TookFirst first.plan ms old t) (sym w.emitted)
+      (first_behind first.plan c.machine.emitted w.matches old s t going.took (subst (λ (q : Plan). TookFirst q w.matches s t) going.run.plan w.so))
+
+  pub going_worked : WorkedTaken c d s t → d.machine.tickets ≡ [] → t.faults ≡ s.faults → Going gave first d old t
+  going_worked w none same = record {
+    run = alone_worked w.on;
+    none_out = none;
+    took = took_worked w;
+    no_fault = same ∙ going.no_fault;
+  }
+
+-- the end of input is told only where it was reached
+ends_fed : (fed : Fed) (ended all : Bool) (stopped : Type 0) → IsFed fed ended all stopped → ended ≡ true → all ≡ true
+ends_fed f.More ended all stopped is told = absurd (cc)
+ends_fed f.End ended all stopped is told = is.1
+ends_fed f.Stop ended all stopped is told = let no = is.0 in absurd (cc)
+
+rose_since : (before old new : ℕ) → before ≤ old → Rose old new → Rose before new
+rose_since before old new low (inl up) = inl (omega arith)
+rose_since before old new low (inr top) = inr top
+
+pub rose_from : (before old new : ℕ) → old ≡ before → Rose old new → Rose before new
+rose_from before old new same rose = subst (λ (n : ℕ). Rose n new) same rose
+
+-- why feeding ended, seen from before
+pub fed_since : (fed : Fed) (ended later all : Bool) (before old new : ℕ) → later ≡ ended → before ≤ old → IsFed fed ended all (Rose old new) → IsFed fed later all (Rose before new)
+fed_since f.More ended later all before old new same low is = same ∙ is
+fed_since f.End ended later all before old new same low is = (same ∙ is.0, is.1)
+fed_since f.Stop ended later all before old new same low is = (same ∙ is.0, rose_since before old new low is.1)
+
+pub fed_as : (fed other : Fed) (ended all : Bool) (stopped : Type 0) → fed ≡ other → IsFed fed ended all stopped → IsFed other ended all stopped
+fed_as fed other ended all stopped same is = subst (λ (f : Fed). IsFed f ended all stopped) same is
+
+module _ (gave : List Event → Type 0) (all : Bool) (stopped : Type 0) (first c : Running) (old new : OutletState) (fed : Fed) (is : IsFed fed c.machine.ended all stopped)
+    (run : Alone gave first c) where
+  ends : c.machine.ended ≡ true → all ≡ true
+  ends = ends_fed fed c.machine.ended all stopped is
+
+  -- the outlet failed
+  pub drove_refused : Rose old.faults new.faults → FailedWithin first.plan c.machine.emitted old new → Drove gave all stopped first old new (record { core = c; why = why.Refused })
+  drove_refused rose failed = record {
+    plan = run.plan;
+    bound = run.bound;
+    given = run.given;
+    fed_are = run.fed_are;
+    alone = run.alone;
+    ends = ends;
+    whole_input = λ no. absurd (cc);
+    stop = λ no. absurd (cc);
+    finished = λ no. elim no [ inl a ↦ absurd (cc) | inr b ↦ absurd (cc) ];
+    refused = λ _. (rose, failed);
+    short = λ no. absurd (cc);
+    no_fault = λ no. absurd (no refl);
+  }
+
+  -- there was no memory
+  pub drove_short : TookFirst first.plan c.machine.emitted old new → new.faults ≡ old.faults → Drove gave all stopped first old new (record { core = c; why = why.Memory })
+  drove_short took same = record {
+    plan = run.plan;
+    bound = run.bound;
+    given = run.given;
+    fed_are = run.fed_are;
+    alone = run.alone;
+    ends = ends;
+    whole_input = λ no. absurd (cc);
+    stop = λ no. absurd (cc);
+    finished = λ no. elim no [ inl a ↦ absurd (cc) | inr b ↦ absurd (cc) ];
+    refused = λ no. absurd (cc);
+    short = λ _. took;
+    no_fault = λ _. same;
+  }
+
+  module _ (finished : AllFinished c) (took : Took first.plan c.machine.emitted old new) (same : new.faults ≡ old.faults) where
+    finished_first : c.machine.finished ≡ closed first.plan c.machine.events c.machine.ended
+    finished_first = finished ∙ ap (λ (q : Plan). closed q c.machine.events c.machine.ended) run.plan
+
+    -- the end of input was reached
+    pub drove_whole : c.machine.ended ≡ true → Drove gave all stopped first old new (record { core = c; why = why.Whole })
+    drove_whole ended = record {
+      plan = run.plan;
+      bound = run.bound;
+      given = run.given;
+      fed_are = run.fed_are;
+      alone = run.alone;
+      ends = ends;
+      whole_input = λ _. ended;
+      stop = λ no. absurd (cc);
+      finished = λ _. (finished_first, took);
+      refused = λ no. absurd (cc);
+      short = λ no. absurd (cc);
+      no_fault = λ _. same;
+    }
+
+    -- the intake stopped before
+    pub drove_stopped : stopped → c.machine.ended ≡ false → Drove gave all stopped first old new (record { core = c; why = why.Stopped })
+    drove_stopped stops unended = record {
+      plan = run.plan;
+      bound = run.bound;
+      given = run.given;
+      fed_are = run.fed_are;
+      alone = run.alone;
+      ends = ends;
+      whole_input = λ no. absurd (cc);
+      stop = λ _. (stops, unended);
+      finished = λ _. (finished_first, took);
+      refused = λ no. absurd (cc);
+      short = λ no. absurd (cc);
+      no_fault = λ _. same;
+    }
+
+-- later windows add matches behind
+later : (q : Plan) (events : List Event) (n k : ℕ) → (more : List Match) × ((seq q events (n + k)).matches ≡ (seq q events n).matches ++ more)
+later q events n zero = let same : n + 0 ≡ n = omega arith in ([], ap (λ (j : ℕ). (seq q events j).matches) same ∙ sym (append-nil (seq q events n).matches))
+later q events n (suc k) =
+    let same : n + suc k ≡ suc (n + k) = omega arith in
+    let rest = later q events n k in
+    let before = seq q events (n + k) in
+    let runs = matched_runs (state q (visible events before.consumed (slice_get (windows q events false) (n + k)))) in
+    let new : List Match = map (match_of q (suc (n + k))) (enumerate_from (length before.matches + 1) runs) in
+    (rest.0 ++ new, ap (λ (j : ℕ). (seq q events j).matches) same ∙ ap (λ (l : List Match). l ++ new) rest.1 ∙ append_assoc (seq q events n).matches rest.0 new)
+
+-- what was emitted are the first matches, whatever events come
+first_matches : (q : Plan) (events more : List Event) (n : ℕ) (ended : Bool) → FinishedStay q → Good q (events ++ more) → ended ≡ false → n ≤ closed q events ended
+    → (rest : List Match) × ((whole q (events ++ more) false).matches ≡ (seq q events n).matches ++ rest)
+first_matches q events more n ended stay good unended within =
+    let low : n ≤ closed q events false = subst (λ (b : Bool). n ≤ closed q events b) unended within in
+    let all = stay.closed_more events more good in
+    let d = closed q (events ++ more) false in
+    let cut : d ≡ n + (d - n) = omega arith in
+    let rest = later q (events ++ more) n (d - n) in
+    (rest.0, ap (λ (j : ℕ). (seq q (events ++ more) j).matches) cut ∙ rest.1 ∙ ap (λ (p : Progress). p.matches ++ rest.0) (stay.progress events more n good low))
+
+-- an event was lost, for want of memory, while the core was fed
+pub fell_short : (gave gave' : List Event → Type 0) (all : Bool) (first c d : Running) (old s : OutletState) (lost : List Event) → Going gave first c old s → c.machine.ended ≡ false
+    → Reached c.plan c.bound c.machine → IsCompiled c.plan → ((q : Plan) → IsWindowed q → FinishedStay q) → FedOn c d → gave' (d.machine.events ++ lost) → AreGood first.plan (d.machine.events ++ lost)
+    → FellShort gave' all first.plan old s
+fell_short gave gave' all first c d old s lost going unended reached compiled stay more given good =
+    let q = first.plan in
+    let m = c.machine in
+    let are : d.machine.events ++ lost ≡ m.events ++ (more.more ++ lost) = ap (λ (l : List Event). l ++ lost) more.events ∙ append_assoc m.events more.more lost in
+    let windowed : IsWindowed q = subst (λ (p : Plan). IsWindowed p) going.run.plan compiled.windowed in
+    let emitted : m.emitted ≡ (seq q m.events m.finished).matches = reached.sequential.emitted ∙ ap (λ (p : Plan). (seq p m.events m.finished).matches) going.run.plan in
+    let within : m.finished ≤ closed q m.events m.ended = subst (λ (p : Plan). m.finished ≤ closed p m.events m.ended) going.run.plan reached.sequential.finished in
+    let rest = first_matches q m.events (more.more ++ lost) m.finished m.ended (stay q windowed) (subst (Good q) are good.good) unended within in
+    record {
+      events = d.machine.events ++ lost;
+      input_ended = false;
+      given = given;
+      ends = λ no. absurd (cc);
+      took = took_first q m.emitted rest.0 (whole q (d.machine.events ++ lost) false).matches old s
+          (ap (λ (l : List Event). (whole q l false).matches) are ∙ rest.1 ∙ ap (λ (l : List Match). l ++ rest.0) (sym emitted)) going.took;
+      no_fault = going.no_fault;
+    }

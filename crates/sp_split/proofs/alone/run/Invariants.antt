@@ -1,0 +1,14 @@
+use Rattle.std.proofs.Common.{◌≡◌, ◌≤◌, false}
+use Rattle.sp_split.proofs.Going.{Going}
+use Rattle.sp_split.proofs.alone.run.Given as goal
+
+abbrev pub invariant-loop : goal.invariant-loop
+invariant-loop g l = record {
+  going : Going (λ events. g.I.Intake.gave l.initial.intake events l.intake) l.initial.core l.core (g.O.Outlet.state l.initial.outlet) (g.O.Outlet.state l.outlet);
+  unended : l.core.machine.ended ≡ false;
+  plan : g.I.Intake.plan l.intake ≡ g.I.Intake.plan l.initial.intake;
+  token : g.I.Intake.token l.intake ≡ g.I.Intake.token l.initial.intake;
+  never_falls : g.I.Intake.stops l.initial.intake ≤ g.I.Intake.stops l.intake;
+  out_plan : g.O.Outlet.plan l.outlet ≡ g.O.Outlet.plan l.initial.outlet;
+  out_token : g.O.Outlet.token l.outlet ≡ g.O.Outlet.token l.initial.outlet;
+}

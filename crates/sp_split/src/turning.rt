@@ -1,0 +1,115 @@
+// One turn of the root of a core that stands alone.
+ghost use Rattle.std.specs.Prelude.{◌≡◌, ◌≤◌, [], Some, IsSome, IfOk, OnOk, OnErr};
+ghost use Rattle.sp_group.specs.Machine.{Version, root_in};
+ghost use Rattle.sp_group.specs.declared.step.Step.TheVariants as s;
+ghost use Rattle.sp_core.specs.Running.{refused};
+ghost use Rattle.sp_split.specs.Stages.{CutOff, IsOutAlone, Turned};
+ghost use Rattle.sp_split.specs.declared.turning.Turn.TheVariants as t;
+
+use crate::Memory;
+use crate::reading::{learn, read_whole};
+use sp_chance::Predictor;
+use sp_core::{Core, CoreFault, Emitted, Given};
+use sp_group::Label;
+use sp_piece::Piece;
+use sp_window::closed_come_first;
+use std::alloc::{AllocError, Global};
+
+/// What a turn came to.
+#[derive(Drop)]
+pub(crate) enum Turn {
+    /// Nothing is left to do.
+    Idle,
+    /// The root was made, or has read on.
+    Worked,
+    /// The root's window is finished.
+    Finished(Emitted),
+}
+
+// Makes the root of the next window, where that has begun.
+fn begin(alloc: Global, core: &mut Core) -> Result<Turn, Memory>
+    requires none_out { core.old.machine.tickets ≡ [] }
+    requires none { core.old.machine.versions ≡ [] }
+    ensures turned { IfOk result (Turned core.old core.new) }
+    ensures err { OnErr result (CutOff core.old core.new) }
+{
+    // They tell what every core keeps.
+    core.plan();
+    core.finished();
+    closed_come_first();
+    match core.spawn(alloc, None, Label::empty(alloc)) {
+        Ok(_) => Ok(Turn::Worked),
+        Err(CoreFault::Refused(_)) => Ok(Turn::Idle),
+        Err(CoreFault::Memory) => Err(AllocError),
+    }
+}
+
+// A piece whose ticket alone is out comes home.
+fn bring_home(alloc: Global, core: &mut Core, piece: Piece) -> Result<(), Memory>
+    requires { IsOutAlone core.old piece }
+    ensures ok { OnOk result (Turned core.old core.new t.Worked) }
+    ensures err { OnErr result (core.new ≡ core.old) }
+{
+    match core.give_back(alloc, piece) {
+        Ok(Given::Home) => Ok(()),
+        Ok(Given::Stale { version: _ }) => unreachable!(),
+        Ok(Given::NotOut { ticket: _ }) => unreachable!(),
+        Ok(Given::Differs { lent: _, piece: _ }) => unreachable!(),
+        Err(_) => Err(AllocError),
+    }
+}
+
+// The root, which is not done, reads the next events of its window, at most `batch`.
+fn read_on(
+    alloc: Global,
+    core: &mut Core,
+    root: u64,
+    batch: u32,
+    predictor: &mut dyn Predictor,
+) -> Result<Turn, Memory>
+    requires some { 1 ≤ batch }
+    requires most { batch ≤ 1024 }
+    requires none_out { core.old.machine.tickets ≡ [] }
+    requires root { (v : Version) × (root_in core.old.machine.versions ≡ Some v) × (v.id ≡ root) }
+    requires undone { IsSome (refused core.old s.Finish) }
+    ensures turned { IfOk result (Turned core.old core.new) }
+    ensures err { OnErr result (CutOff core.old core.new) }
+{
+    // They tell what every core keeps.
+    core.plan();
+    core.finished();
+    closed_come_first();
+    let job = match core.lease(alloc, root, batch) {
+        Ok(job) => job,
+        Err(CoreFault::Refused(_)) => return Ok(Turn::Idle),
+        Err(CoreFault::Memory) => return Err(AllocError),
+    };
+    let mut piece = Piece::start(alloc, job);
+    read_whole(alloc, &mut piece)?;
+    learn(predictor, piece.moves());
+    bring_home(alloc, core, piece)?;
+    Ok(Turn::Worked)
+}
+
+/// One turn of the root: it is finished where it is done, and else reads on; where there is none, the next
+/// window's is made. At most `batch` events are read.
+pub(crate) fn take_turn(
+    alloc: Global,
+    core: &mut Core,
+    batch: u32,
+    predictor: &mut dyn Predictor,
+) -> Result<Turn, Memory>
+    requires some { 1 ≤ batch }
+    requires most { batch ≤ 1024 }
+    requires none_out { core.old.machine.tickets ≡ [] }
+    ensures turned { IfOk result (Turned core.old core.new) }
+    ensures err { OnErr result (CutOff core.old core.new) }
+{
+    let Some(root) = core.tree().root() else {
+        return begin(alloc, core);
+    };
+    match core.finish() {
+        Ok(emitted) => Ok(Turn::Finished(emitted)),
+        Err(_) => read_on(alloc, core, root, batch, predictor),
+    }
+}
