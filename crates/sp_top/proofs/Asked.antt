@@ -1,5 +1,6 @@
 -- What was answered to a command, as an answer to its words.
 use Rattle.std.proofs.Common.{◌≤◌, inl, inr, ℕ, List, [], refl, subst, arith}
+use Rattle.std.specs.Prelude.{Option, Some, None, codes}
 use Rattle.sp_answer.specs.Outcome.{ending}
 use Rattle.sp_answer.specs.Ran.{Outside}
 use Rattle.sp_answer.specs.Promise.{Filed, Served, by_refusal}
@@ -8,6 +9,7 @@ use Rattle.sp_answer.specs.declared.status.Status.TheVariants.{Usage}
 use Rattle.sp_answer.proofs.Answering.{served_weaker}
 use Rattle.sp_load.specs.Places.{Place}
 use Rattle.sp_top.specs.Commands.{Command, run, plain, trace, AreTraceOptions, schedule_alone, bound_behind, bound_before, Asks, runs, plains, traces, IsCommand, HasPredictor, IsCall, IsNoCall, words_of, files_of}
+use Rattle.sp_top.specs.Options.{value_of, Says, IsBound}
 use Rattle.sp_top.specs.Outcome.{Answers, CommandOutcome, IsOutcome}
 use Rattle.sp_top.proofs.OneCommand.{one_command}
 
@@ -33,11 +35,16 @@ refused predictors words none before old = (
   },
 )
 
--- a trace has a bound from 1 to 4096
+-- a run has from 1 to 4096 live versions and batches of 1 to 1024 events, and a trace has a bound from 1 to 4096
 abbrev IsBounded : Command → Type 0
-IsBounded (run place speed) = Unit {0}
+IsBounded (run place speed) = ((1 ≤ speed.live) × (speed.live ≤ 4096)) × ((1 ≤ speed.batch) × (speed.batch ≤ 1024))
 IsBounded (plain place) = Unit {0}
 IsBounded (trace place schedule bound) = (1 ≤ bound) × (bound ≤ 4096)
+
+-- what an option says is within its bounds, where its default is
+said_bounded : (low high default : ℕ) → low ≤ default → default ≤ high → (said : Option (List ℕ)) (bound : ℕ) → Says (IsBound low high) default said bound → (low ≤ bound) × (bound ≤ high)
+said_bounded low high default least most None bound is = (omega (arith, is, least), omega (arith, is, most))
+said_bounded low high default least most (Some text) bound is = (is.least, is.most)
 
 options_bounded : (options : List (List ℕ)) (schedule : List ℕ) (bound : ℕ) → AreTraceOptions options schedule bound → (1 ≤ bound) × (bound ≤ 4096)
 options_bounded _ _ _ (schedule_alone name) = (omega arith, omega arith)
@@ -45,7 +52,10 @@ options_bounded _ _ _ (bound_behind name text bound ok) = (ok.least, ok.most)
 options_bounded _ _ _ (bound_before name text bound ok) = (ok.least, ok.most)
 
 asks_bounded : (place : Place) (first : List ℕ) (options : List (List ℕ)) (command : Command) → Asks place first options command → IsBounded command
-asks_bounded place _ _ _ (runs options speed are) = tt
+asks_bounded place _ _ _ (runs options speed are) =
+    let live = said_bounded 1 4096 64 (omega arith) (omega arith) (value_of (codes "--live") options) speed.live are.live in
+    let batch = said_bounded 1 1024 64 (omega arith) (omega arith) (value_of (codes "--batch") options) speed.batch are.batch in
+    (live, batch)
 asks_bounded place _ _ _ plains = tt
 asks_bounded place _ _ _ (traces options schedule bound are) = options_bounded options schedule bound are
 

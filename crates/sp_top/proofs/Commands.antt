@@ -25,7 +25,7 @@ one_at _ _ _ _ _ _ (in_file name) (in_file other) same-o same-r = ap file same-r
 
 module _ (first one second other : List ℕ) where
   -- what both options give, the bound behind the schedule
-  pub some_behind : (r : Option (Bor (List ℕ) × ℕ)) → first ≡ codes "--schedule" → second ≡ codes "--live" → IfSome r (λ found. (found.0.now ≡ one) × IsBound 4096 other found.1)
+  pub some_behind : (r : Option (Bor (List ℕ) × ℕ)) → first ≡ codes "--schedule" → second ≡ codes "--live" → IfSome r (λ found. (found.0.now ≡ one) × IsBound 1 4096 other found.1)
       → IfSome r (λ found. AreTraceOptions (first ∷ one ∷ second ∷ other ∷ []) found.0.now found.1)
   some_behind None is-1 is-2 found = tt
   some_behind (Some (name, bound)) is-1 is-2 found =
@@ -34,7 +34,7 @@ module _ (first one second other : List ℕ) where
       (subst (λ (n : List ℕ). AreTraceOptions (codes "--schedule" ∷ one ∷ codes "--live" ∷ other ∷ []) n bound) (sym found.0) (bound_behind one other bound found.1)))
 
   -- and before it
-  pub some_before : (r : Option (Bor (List ℕ) × ℕ)) → first ≡ codes "--live" → second ≡ codes "--schedule" → IfSome r (λ found. (found.0.now ≡ other) × IsBound 4096 one found.1)
+  pub some_before : (r : Option (Bor (List ℕ) × ℕ)) → first ≡ codes "--live" → second ≡ codes "--schedule" → IfSome r (λ found. (found.0.now ≡ other) × IsBound 1 4096 one found.1)
       → IfSome r (λ found. AreTraceOptions (first ∷ one ∷ second ∷ other ∷ []) found.0.now found.1)
   some_before None is-1 is-2 found = tt
   some_before (Some (name, bound)) is-1 is-2 found =

@@ -11,8 +11,8 @@ use Rattle.sp_top.proofs.Commands.{one_at}
 abbrev mark_of : List (List ℕ) → ℕ
 mark_of options = get_or (get_or options 0 []) 2 0
 
-one_bound : (greatest : ℕ) (text other : List ℕ) (b c : ℕ) → IsBound greatest text b → IsBound greatest other c → text ≡ other → b ≡ c
-one_bound greatest text other b c one two same = one.is ∙ ap (λ (t : List ℕ). digits_value 10 t) same ∙ sym two.is
+one_bound : (low high : ℕ) (text other : List ℕ) (b c : ℕ) → IsBound low high text b → IsBound low high other c → text ≡ other → b ≡ c
+one_bound low high text other b c one two same = one.is ∙ ap (λ (t : List ℕ). digits_value 10 t) same ∙ sym two.is
 
 -- options give one schedule and one bound
 one_options : (os qs : List (List ℕ)) (s t : List ℕ) (b c : ℕ) → AreTraceOptions os s b → AreTraceOptions qs t c → os ≡ qs → (s ≡ t) × (b ≡ c)
@@ -20,11 +20,11 @@ one_options _ _ _ _ _ _ (schedule_alone name) (schedule_alone other) is = (cc is
 one_options _ _ _ _ _ _ (schedule_alone name) (bound_behind other text c ok) is = let clash : 2 ≡ 4 = ap length is in absurd (omega (arith, clash))
 one_options _ _ _ _ _ _ (schedule_alone name) (bound_before other text c ok) is = let clash : 2 ≡ 4 = ap length is in absurd (omega (arith, clash))
 one_options _ _ _ _ _ _ (bound_behind name text b ok) (schedule_alone other) is = let clash : 4 ≡ 2 = ap length is in absurd (omega (arith, clash))
-one_options _ _ _ _ _ _ (bound_behind name text b ok) (bound_behind other also c fine) is = let same : text ≡ also = cc is in (cc is, one_bound 4096 text also b c ok fine same)
+one_options _ _ _ _ _ _ (bound_behind name text b ok) (bound_behind other also c fine) is = let same : text ≡ also = cc is in (cc is, one_bound 1 4096 text also b c ok fine same)
 one_options _ _ _ _ _ _ (bound_behind name text b ok) (bound_before other also c fine) is = let clash : 115 ≡ 108 = ap mark_of is in absurd (omega (arith, clash))
 one_options _ _ _ _ _ _ (bound_before name text b ok) (schedule_alone other) is = let clash : 4 ≡ 2 = ap length is in absurd (omega (arith, clash))
 one_options _ _ _ _ _ _ (bound_before name text b ok) (bound_behind other also c fine) is = let clash : 108 ≡ 115 = ap mark_of is in absurd (omega (arith, clash))
-one_options _ _ _ _ _ _ (bound_before name text b ok) (bound_before other also c fine) is = let same : text ≡ also = cc is in (cc is, one_bound 4096 text also b c ok fine same)
+one_options _ _ _ _ _ _ (bound_before name text b ok) (bound_before other also c fine) is = let same : text ≡ also = cc is in (cc is, one_bound 1 4096 text also b c ok fine same)
 
 -- an option says one thing, where its text means one thing
 one_said : {X : Type 0} (Means : List ℕ → X → Type 0) (default : X) → ((text : List ℕ) (x y : X) → Means text x → Means text y → x ≡ y)
@@ -32,14 +32,14 @@ one_said : {X : Type 0} (Means : List ℕ → X → Type 0) (default : X) → ((
 one_said Means default one None x y first second = first ∙ sym second
 one_said Means default one (Some text) x y first second = one text x y first second
 
-one_bound_said : (greatest default : ℕ) (said : Option (List ℕ)) (b c : ℕ) → Says (IsBound greatest) default said b → Says (IsBound greatest) default said c → b ≡ c
-one_bound_said greatest default = one_said (IsBound greatest) default (λ text b c one two. one_bound greatest text text b c one two refl)
+one_bound_said : (low high default : ℕ) (said : Option (List ℕ)) (b c : ℕ) → Says (IsBound low high) default said b → Says (IsBound low high) default said c → b ≡ c
+one_bound_said low high default = one_said (IsBound low high) default (λ text b c one two. one_bound low high text text b c one two refl)
 
 -- options give one run
 one_speed : (options : List (List ℕ)) (s t : Speed) → AreRunOptions options s → AreRunOptions options t → s ≡ t
 one_speed options s t one other =
-    let live = one_bound_said 4096 64 (value_of (codes "--live") options) s.live t.live one.live other.live in
-    let batch = one_bound_said 1024 64 (value_of (codes "--batch") options) s.batch t.batch one.batch other.batch in
+    let live = one_bound_said 1 4096 64 (value_of (codes "--live") options) s.live t.live one.live other.live in
+    let batch = one_bound_said 1 1024 64 (value_of (codes "--batch") options) s.batch t.batch one.batch other.batch in
     let predictor = one_said IsWord (codes "markov") (λ text x y is also. is ∙ sym also) (value_of (codes "--predictor") options) s.predictor t.predictor one.predictor other.predictor in
     λ i. record { live = live i; batch = batch i; predictor = predictor i }
 

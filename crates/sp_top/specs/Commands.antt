@@ -34,16 +34,16 @@ IsRunOption name = (name ≡ codes "--live") ⊎ ((name ≡ codes "--batch") ⊎
 -- The options of a run: each may be left out, and stands there once at most, in any order.
 pub record AreRunOptions (words : List (List ℕ)) (speed : Speed) : Type 0 where
   pub options : AreOptions IsRunOption words
-  pub live : Says (IsBound 4096) 64 (value_of (codes "--live") words) speed.live
-  pub batch : Says (IsBound 1024) 64 (value_of (codes "--batch") words) speed.batch
+  pub live : Says (IsBound 1 4096) 64 (value_of (codes "--live") words) speed.live
+  pub batch : Says (IsBound 1 1024) 64 (value_of (codes "--batch") words) speed.batch
   pub predictor : Says IsWord (codes "markov") (value_of (codes "--predictor") words) speed.predictor
 
 -- The options of a trace: the schedule's file, and the bound, which may be left out; each once, in any order.
 pub data AreTraceOptions : List (List ℕ) → List ℕ → ℕ → Type 0 where
   schedule_alone : (name : List ℕ) → AreTraceOptions (codes "--schedule" ∷ name ∷ []) name 64
-  bound_behind : (name text : List ℕ) (bound : ℕ) → IsBound 4096 text bound
+  bound_behind : (name text : List ℕ) (bound : ℕ) → IsBound 1 4096 text bound
       → AreTraceOptions (codes "--schedule" ∷ name ∷ codes "--live" ∷ text ∷ []) name bound
-  bound_before : (name text : List ℕ) (bound : ℕ) → IsBound 4096 text bound
+  bound_before : (name text : List ℕ) (bound : ℕ) → IsBound 1 4096 text bound
       → AreTraceOptions (codes "--live" ∷ text ∷ codes "--schedule" ∷ name ∷ []) name bound
 
 -- The first word and the options ask for this command, of the query that stands there.

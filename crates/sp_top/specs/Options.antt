@@ -20,22 +20,22 @@ abbrev pub Says : {X : Type 0} → (List ℕ → X → Type 0) → X → Option 
 Says Means default None x = x ≡ default
 Says Means default (Some text) x = Means text x
 
--- A bound up to the greatest one: one to ten digits, which write a number from 1 on.
-pub record IsBound (greatest : ℕ) (text : List ℕ) (bound : ℕ) : Type 0 where
+-- A number from the least to the greatest: one to ten digits write it.
+pub record IsBound (low high : ℕ) (text : List ℕ) (bound : ℕ) : Type 0 where
   pub numeral : IsNumeral 10 text
   pub short : length text ≤ 10
   pub is : bound ≡ digits_value 10 text
-  pub least : 1 ≤ bound
-  pub most : bound ≤ greatest
+  pub least : low ≤ bound
+  pub most : bound ≤ high
 
 -- a word means itself
 abbrev pub IsWord : List ℕ → List ℕ → Type 0
 IsWord text word = word ≡ text
 
--- the text is no such bound
-abbrev pub IsNoBound : ℕ → List ℕ → Type 0
-IsNoBound greatest text = (bound : ℕ) → IsBound greatest text bound → ⊥
+-- the text is no such number
+abbrev pub IsNoBound : ℕ → ℕ → List ℕ → Type 0
+IsNoBound low high text = (bound : ℕ) → IsBound low high text bound → ⊥
 
--- the option says no bound
-abbrev pub SaysNoBound : ℕ → ℕ → Option (List ℕ) → Type 0
-SaysNoBound greatest default said = (bound : ℕ) → Says (IsBound greatest) default said bound → ⊥
+-- the option says no such number
+abbrev pub SaysNoBound : ℕ → ℕ → ℕ → Option (List ℕ) → Type 0
+SaysNoBound low high default said = (bound : ℕ) → Says (IsBound low high) default said bound → ⊥

@@ -14,7 +14,7 @@ ghost use Rattle.sp_top.specs.Commands.{
   AsksNothing,
 };
 
-use crate::options::{LIVE, MOST_LIVE, Speed, bound_of, run_options};
+use crate::options::{LIVE, Speed, bound_of, run_options};
 use sp_load::Place;
 
 /// What the words ask for.
@@ -60,10 +60,10 @@ fn place_at<'a>(option: &str, rest: &'a str) -> Option<Place<'a>>
 
 // The name with the bound that the text is.
 fn with_bound<'a>(name: &'a str, text: &str) -> Option<(&'a str, u32)>
-    ensures some { IfSome result (λ found. (found.0.now ≡ name.now) × IsBound 4096 text.now found.1) }
-    ensures none { IfNone result (IsNoBound 4096 text.now) }
+    ensures some { IfSome result (λ found. (found.0.now ≡ name.now) × IsBound 1 4096 text.now found.1) }
+    ensures none { IfNone result (IsNoBound 1 4096 text.now) }
 {
-    match bound_of(text, MOST_LIVE) {
+    match bound_of(text, LIVE) {
         Some(live) => Some((name, live)),
         None => None,
     }
@@ -75,7 +75,7 @@ fn one_option<'a>(option: &str, name: &'a str) -> Option<(&'a str, u32)>
     ensures none { IfNone result (AreNoTraceOptions (option.now ∷ name.now ∷ [])) }
 {
     match option {
-        "--schedule" => Some((name, LIVE)),
+        "--schedule" => Some((name, LIVE.default)),
         _ => None,
     }
 }

@@ -26,16 +26,27 @@ pub(crate) struct Speed<'a> {
     pub(crate) predictor: &'a str,
 }
 
-/// The most live versions where no option says how many.
-pub(crate) const LIVE: u32 = 64;
+/// The numbers that an option may say, and the one that holds where it is left out.
+#[derive(Clone, Copy, Drop)]
+pub(crate) struct Bounds {
+    pub(crate) least: u32,
+    pub(crate) greatest: u32,
+    pub(crate) default: u32,
+}
 
-/// The most live versions that an option may ask for.
-pub(crate) const MOST_LIVE: u32 = 4096;
+/// The most live versions.
+pub(crate) const LIVE: Bounds = Bounds {
+    least: 1,
+    greatest: 4096,
+    default: 64,
+};
 
-// The events of a batch where no option says how many, and the most that one may ask for.
-const BATCH: u32 = 64;
-
-const MOST_BATCH: u32 = 1024;
+// The most events of a batch.
+const BATCH: Bounds = Bounds {
+    least: 1,
+    greatest: 1024,
+    default: 64,
+};
 
 // The predictor where no option names one.
 const PREDICTOR: &str = "markov";
@@ -43,17 +54,17 @@ const PREDICTOR: &str = "markov";
 // The most digits that a bound may have.
 const DIGITS: usize = 10;
 
-/// The bound that the text is, up to the greatest one.
-pub(crate) fn bound_of(text: &str, greatest: u32) -> Option<u32>
-    ensures some { IfSome result (IsBound greatest text.now) }
-    ensures none { IfNone result (IsNoBound greatest text.now) }
+/// The number that the text is, within these bounds.
+pub(crate) fn bound_of(text: &str, bounds: Bounds) -> Option<u32>
+    ensures some { IfSome result (IsBound bounds.least bounds.greatest text.now) }
+    ensures none { IfNone result (IsNoBound bounds.least bounds.greatest text.now) }
 {
     // a sign is no digit, though a number may be read behind it
     if text.len() > DIGITS || text.as_bytes().first() == Some(&b'+') {
         return None;
     }
     match text.parse::<u32>() {
-        Ok(bound) if 1 <= bound && bound <= greatest => Some(bound),
+        Ok(bound) if bounds.least <= bound && bound <= bounds.greatest => Some(bound),
         _ => None,
     }
 }
@@ -95,14 +106,14 @@ fn are_run_options(words: &[String]) -> bool
     rest.is_empty()
 }
 
-// The bound that the option of this name says, or the default where it is left out.
-fn bound_at(words: &[String], name: &str, greatest: u32, default: u32) -> Option<u32>
-    ensures some { IfSome result (Says (IsBound greatest) default (value_of name.now (map string_bytes words.now))) }
-    ensures none { IfNone result (SaysNoBound greatest default (value_of name.now (map string_bytes words.now))) }
+// The number that the option of this name says, or the default where it is left out.
+fn bound_at(words: &[String], name: &str, bounds: Bounds) -> Option<u32>
+    ensures some { IfSome result (Says (IsBound bounds.least bounds.greatest) bounds.default (value_of name.now (map string_bytes words.now))) }
+    ensures none { IfNone result (SaysNoBound bounds.least bounds.greatest bounds.default (value_of name.now (map string_bytes words.now))) }
 {
     match value_at(words, name) {
-        Some(text) => bound_of(text, greatest),
-        None => Some(default),
+        Some(text) => bound_of(text, bounds),
+        None => Some(bounds.default),
     }
 }
 
@@ -114,8 +125,8 @@ pub(crate) fn run_options<'a>(words: &'a [String]) -> Option<Speed<'a>>
     if !are_run_options(words) {
         return None;
     }
-    let live = bound_at(words, "--live", MOST_LIVE, LIVE)?;
-    let batch = bound_at(words, "--batch", MOST_BATCH, BATCH)?;
+    let live = bound_at(words, "--live", LIVE)?;
+    let batch = bound_at(words, "--batch", BATCH)?;
     let predictor = value_at(words, "--predictor").unwrap_or(PREDICTOR);
     Some(Speed {
         live,
