@@ -1,12 +1,15 @@
-ghost use Rattle.std.specs.Prelude.{◌≡◌, true, None};
+ghost use Rattle.std.specs.Prelude.{◌≡◌, true, None, IfOk, vec_len};
+ghost use Rattle.std.specs.List.{All};
 ghost use Rattle.sp_instance.specs.Doing.{Worked};
 ghost use Rattle.sp_instance.specs.Seats.{PutAll};
 
-use crate::{Gate, Seated, Workplace, do_job};
+use crate::{Gate, Memory, Seated, Workplace, do_job};
 use sp_hub::{Hub, Naming, Seat, Taken};
 use sp_piece::{Job, Piece};
 use std::alloc::Global;
 use std::sync::Wait;
+use std::thread;
+use std::thread::Threads;
 
 /// Does the jobs of a place until none will come: each piece that was put is that of a job that was taken,
 /// read whole or given up for want of memory, in the order of taking, and none is left out. Waits where no
@@ -56,4 +59,28 @@ pub fn work<L: Naming, G: Gate, R: Wait>(
         over: _,
     } = place;
     seat
+}
+
+/// An instance for each seat, each on a thread of its own where one can be made, else one after another.
+/// Gives the seats back, in their order, once the hub is closed and empty. `Err` is want of memory: the
+/// seats are lost.
+pub fn work_all<L: Naming + Send + Sync, G: Gate, R: Threads + Wait + Sync>(
+    rt: &R,
+    alloc: Global,
+    hub: &Hub<Job, Piece, L>,
+    seats: Vec<Seat<Piece, L>>,
+    gate: &G,
+) -> Result<Vec<Seat<Piece, L>>, Memory>
+    requires { All (λ s. s.holding ≡ None) seats.items }
+    ensures len { IfOk result (λ back. vec_len back ≡ vec_len seats) }
+    ensures free { IfOk result (λ back. All (λ s. s.holding ≡ None) back.items) }
+{
+    thread::map_vec(
+        rt,
+        seats,
+        &|seat: Seat<Piece, L>| -> Seat<Piece, L>
+            requires { seat.holding ≡ None }
+            ensures { result.holding ≡ None }
+        { work(rt, alloc, hub, seat, gate) },
+    )
 }

@@ -45,13 +45,16 @@ plan_common = search (pred_common, listed.the_sync, text.the_sync, schema.the_fi
 matcher_sent : IsSend matcher.the_row
 matcher_sent = search (plan_sent, plan_common, run.the_send, sendable, crosses) depth 30
 
-job_sent : IsSend job.the_field.row
+job_kept : IsSend job.the_field.row
+job_kept = search (matcher_sent, listed.the_send, event.the_send, numbers.the_send, sendable, crosses) depth 30
+
+pub job_sent : IsSend job.the_row
 job_sent = search (matcher_sent, listed.the_send, event.the_send, numbers.the_send, sendable, crosses) depth 30
 
 inside_sent : IsSend inside.the_row
 inside_sent =
     recorded_send _ _ _ inside.the_type.to_one (struct_send (shape inside.the_type)
-    (job_sent, (option.the_field_send _ matcher_sent, (search (moves.the_send, sendable, crosses) depth 30, (search sendable, (search sendable, (search sendable, tt)))))))
+    (job_kept, (option.the_field_send _ matcher_sent, (search (moves.the_send, sendable, crosses) depth 30, (search sendable, (search sendable, (search sendable, tt)))))))
 
 pub piece_sent : IsSend piece.the_row
 piece_sent = search (inside_sent, sendable) depth 30
