@@ -5,6 +5,8 @@
 mod doing;
 mod gate;
 mod seated;
+#[cfg(test)]
+mod tests;
 mod working;
 mod workplace;
 
