@@ -1,2 +1,3 @@
 mod Histories
 mod InOrder
+pub mod Seats

@@ -1,6 +1,7 @@
 ghost use Rattle.sp_piece.specs.Lending.{IsLendable};
 
 use sp_base::Numbers;
+use sp_hub::Named;
 use sp_match::Matcher;
 use sp_plan::{Event, Listed};
 
@@ -24,4 +25,13 @@ pub struct Job {
     /// Whether the window's closing comes behind them.
     pub closes: bool,
     pub ghost lendable: { IsLendable before events first },
+}
+
+impl Named for Job {
+    ghost ticket_of = { λ job. job.ticket };
+
+    /// The ticket's number.
+    fn ticket(&self) -> u64 {
+        self.ticket
+    }
 }

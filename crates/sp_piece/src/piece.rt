@@ -5,6 +5,7 @@ ghost use Rattle.sp_piece.specs.Pieced.{LedTo, Tells, after_step, answer, begun,
 
 use crate::going::{handle_closing, handle_event};
 use crate::{Job, Memory, Stepped};
+use sp_hub::Named;
 use sp_match::{Matcher, Moves};
 use std::alloc::Global;
 use std::marker::Model;
@@ -194,5 +195,14 @@ impl Piece {
             Some(matcher) => matcher,
             None => job.before,
         }
+    }
+}
+
+impl Named for Piece {
+    ghost ticket_of = { λ piece. piece.job.ticket };
+
+    /// The ticket of its job.
+    fn ticket(&self) -> u64 {
+        self.job.ticket
     }
 }

@@ -1,0 +1,20 @@
+-- What a seat shows of the jobs that were taken at it and the pieces that were put.
+use Rattle.std.specs.Prelude.{◌≡◌, ℕ, ◌+◌, ◌*◌, List, [], length}
+use Rattle.std.proofs.Common.{arith, refl}
+use Rattle.sp_hub.specs.State.{Sitting}
+use Rattle.sp_piece.specs.declared.job.Job.{Job}
+use Rattle.sp_piece.specs.Pieced.{Pieced}
+
+-- it counts one call for each of them, and its number stays
+pub record Counts (old : Sitting) (jobs : List Job) (pieces : List Pieced) (new : Sitting) : Type 0 where
+  pub number : new.number ≡ old.number
+  pub calls : new.calls ≡ old.calls + length jobs + length pieces
+
+pub counts_none : (seat : Sitting) → Counts seat [] [] seat
+counts_none seat = record { number = refl; calls = omega arith }
+
+-- as many pieces were put as jobs were taken, and its number stays
+pub record PutAll (old new : Sitting) : Type 0 where
+  pub count : ℕ
+  pub number : new.number ≡ old.number
+  pub calls : new.calls ≡ old.calls + 2 * count

@@ -1,0 +1,21 @@
+//! Instances: each has a seat at a hub, takes jobs there, reads them, and puts their pieces. What it is to
+//! do a job, and what an instance did with those that it took, stands in `specs/Doing`.
+#![tactic(auto)]
+
+mod doing;
+mod gate;
+mod seated;
+#[cfg(test)]
+mod tests;
+mod working;
+mod workplace;
+
+pub use doing::do_job;
+pub use gate::{Gate, OpenGate};
+pub use seated::Seated;
+use std::alloc::AllocError;
+pub use working::{work, work_all, work_at};
+pub use workplace::Workplace;
+
+/// Want of memory. Any call that allocates may answer it, and says what stands after it.
+pub type Memory = AllocError;
