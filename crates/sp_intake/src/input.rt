@@ -88,6 +88,6 @@ fn read_all<S: Source>(alloc: Global, input: &mut Input<'_, S>) -> Result<Given,
 }
 
 // Does nothing: the use of a reference that came back ties it to the one that was lent.
-fn take_back<T>(lent: &mut T)
+pub(crate) fn take_back<T>(lent: &mut T)
     ensures { lent.new ≡ lent.old }
 {}

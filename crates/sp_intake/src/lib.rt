@@ -7,6 +7,7 @@ mod events;
 mod giving;
 mod input;
 mod kept;
+mod lending;
 mod reader;
 mod step;
 
