@@ -70,6 +70,13 @@ impl Cutter {
         self.ended = true;
     }
 
+    /// Whether the input ended behind the bytes fed.
+    pub fn has_ended(&self) -> bool
+        ensures { result ≡ self.now.ended }
+    {
+        self.ended
+    }
+
     /// The next row without the line feed or CR LF that ends it, or None where no row is left.
     /// After None, more bytes or the end may bring one. Once the next row is too long, or the input
     /// ended inside quotes, each call is that fault. At None and at a fault the cutter stays as it is.

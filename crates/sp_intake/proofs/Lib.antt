@@ -1,6 +1,7 @@
-mod Answered
-mod FewEvents
-mod FitReading
+pub mod AllGiven
 pub mod Gave
+pub mod Growing
 pub mod Leading
-pub mod ReadSoFar
+pub mod Orderly
+pub mod Suiting
+pub mod Since

@@ -1,4 +1,9 @@
 pub mod Reading
 pub mod Kept
+pub mod Following
 pub mod Coming
 pub mod Intake
+pub mod Standing
+pub mod Asked
+pub mod ReadAll
+pub mod Laws

@@ -3,10 +3,14 @@ ghost use Rattle.std.specs.Arc.{arc_value};
 ghost use Rattle.sp_plan.specs.Compiled.{IsCompiled};
 ghost use Rattle.sp_intake.specs.Intake.{ReadsInput};
 ghost use Rattle.sp_intake.specs.Reading;
+ghost use Rattle.sp_intake.specs.Asked.{standing};
+ghost use Rattle.sp_intake.specs.ReadAll.{ReadsAll};
 
-use crate::reader::Reader;
+use crate::events::EventReader;
+use crate::giving::Input;
 use sp_io::Source;
 use sp_plan::{Event, Memory, Plan};
+use sp_ports::{Intake, Next};
 use std::alloc::{AllocError, Global};
 use std::sync::Arc;
 
@@ -46,9 +50,6 @@ pub struct Given {
     pub stop: Stop,
 }
 
-// How many bytes are asked for at a time.
-const PIECE: usize = 4096;
-
 /// Reads the rows of the input, up to its end, to the first one that fails or to a fault of the
 /// source. The events fit the plan, and their times never go back.
 pub fn read_input<S: Source>(
@@ -60,17 +61,33 @@ pub fn read_input<S: Source>(
     requires not_ended { (S.state input.old).ended ≡ false }
     ensures { ReadsInput (arc_value plan.now) (S.state input.old) (S.state input.new) result }
 {
-    let mut reader = Reader::new(alloc, Arc::try_clone(plan)?)?;
-    let mut piece = [0u8; PIECE];
+    let mut reading = Input::over(input, EventReader::new(alloc, plan)?);
+    let given = read_all(alloc, &mut reading);
+    take_back(reading.into_source());
+    given
+}
+
+// All that an input gives.
+fn read_all<S: Source>(alloc: Global, input: &mut Input<'_, S>) -> Result<Given, Memory>
+    ensures same { input.new.source.ghost_name ≡ input.old.source.ghost_name }
+    ensures all { ReadsAll (standing (S.state input.old.source.now) input.old.events) (standing (S.state input.new.source.now) input.new.events) result }
+{
+    let mut events = Vec::new(alloc);
     for _ in 0..u64::MAX {
-        match input.read(&mut piece) {
-            Ok(0) => return reader.finish(alloc, true),
-            Ok(count) => reader.feed(alloc, &piece[..count])?,
-            Err(_) => return reader.finish(alloc, false),
-        }
-        if reader.has_stopped() {
-            return reader.finish(alloc, false);
+        match input.next(alloc) {
+            Next::Event(event) => events.push(event)?,
+            Next::Memory => return Err(AllocError),
+            Next::End | Next::Stop => {
+                if let Some(stop) = input.stop() {
+                    return Ok(Given { events, stop });
+                }
+            }
         }
     }
     Err(AllocError)
 }
+
+// Does nothing: the use of a reference that came back ties it to the one that was lent.
+pub(crate) fn take_back<T>(lent: &mut T)
+    ensures { lent.new ≡ lent.old }
+{}

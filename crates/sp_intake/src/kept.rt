@@ -1,13 +1,15 @@
-ghost use Rattle.std.specs.Prelude.{◌≡◌, ◌≤◌, ◌<◌, ◌+◌, true, None, IfOk, OnOk, length, is_some};
+ghost use Rattle.std.specs.Prelude.{◌≡◌, ◌≤◌, ◌<◌, ◌+◌, ◌++◌, List, [], true, None, IfOk, IfSome, OnOk, length, is_some};
 ghost use Rattle.std.specs.Arc.{arc_value};
 ghost use Rattle.sp_cut.specs.CutRows;
 ghost use Rattle.sp_cut.specs.CutRows.{long_row, open_quote};
-ghost use Rattle.sp_intake.specs.Reading;
+ghost use Rattle.sp_plan.specs.declared.event.Event as events;
+ghost use Rattle.sp_plan.specs.Compiled.{IsTimeOf};
 ghost use Rattle.sp_intake.specs.Reading.{start, stop_of, with_event};
+ghost use Rattle.sp_intake.specs.Following.{ComeNext};
 ghost use Rattle.sp_rows.specs.Codes.{code_of};
-ghost use Rattle.sp_intake.specs.Kept.{plan_in, reading_of, IsCounted};
+ghost use Rattle.sp_intake.specs.Kept.{plan_in, last_in, reading_of, event_in, answered, IsCounted, SuitsPlan, TakesRow};
 
-use crate::input::{Failure, Given, Stop};
+use crate::input::{Failure, Stop};
 use sp_plan::{Event, Memory, Plan};
 use sp_rows::{RowError, RowFault, Rows};
 use std::alloc::{AllocError, Global};
@@ -18,92 +20,104 @@ const ROWS: u32 = 2_097_152;
 
 const EVENTS: u32 = 1_048_576;
 
-/// What the rows so far gave.
+/// How far the rows were read.
 #[derive(Drop)]
 pub(crate) struct Kept {
     rows: Rows,
-    events: Vec<Event>,
     stopped: Option<Failure>,
     count: u32,
+    // How many events the rows gave.
+    given: u32,
 }
 
 impl Kept {
-    /// Nothing so far.
+    /// No row was read.
     pub(crate) fn new(alloc: Global, plan: Arc<Plan>) -> Result<Kept, Memory>
-        ensures reading { IfOk result (λ kept. reading_of kept ≡ start (arc_value plan)) }
+        requires { IsTimeOf (arc_value plan).schema.columns (arc_value plan).schema.time }
+        ensures reading { IfOk result (λ kept. reading_of [] kept ≡ start (arc_value plan)) }
         ensures plan { IfOk result (λ kept. plan_in kept ≡ arc_value plan) }
         ensures counted { IfOk result (λ kept. IsCounted kept) }
-        ensures count { IfOk result (λ kept. kept.count ≡ 0) }
+        ensures suits { IfOk result (λ kept. SuitsPlan kept) }
+        ensures count { IfOk result (λ kept. (kept.count ≡ 0) × (kept.given ≡ 0)) }
     {
         Ok(Kept {
             rows: Rows::new(alloc, plan)?,
-            events: Vec::new(alloc),
             stopped: None,
             count: 0,
+            given: 0,
         })
     }
 
     /// Whether no later row counts.
     pub(crate) fn has_stopped(&self) -> bool
-        ensures { result ≡ is_some (reading_of self.now).stopped }
+        ensures { result ≡ is_some self.now.stopped }
     {
         self.stopped.is_some()
     }
 
-    /// One row more.
-    pub(crate) fn take(&mut self, alloc: Global, row: &[u8]) -> Result<(), Memory>
-        requires going { (reading_of self.old).stopped ≡ None }
+    /// One row more, and the event that it gives, if it gives one.
+    pub(crate) fn take(&mut self, alloc: Global, row: &[u8]) -> Result<Option<Event>, Memory>
+        requires going { self.old.stopped ≡ None }
         requires counted { IsCounted self.old }
-        ensures reading { OnOk result (reading_of self.new ≡ Reading.take_row (plan_in self.old) (reading_of self.old) (CutRows.row row.now)) }
-        ensures counted { OnOk result (IsCounted self.new) }
+        requires suits { SuitsPlan self.old }
+        ensures reading { IfOk result (λ given. TakesRow (CutRows.row row.now) (event_in given) self.old self.new) }
+        ensures next { ComeNext (plan_in self.old) (last_in self.old) (answered result) (last_in self.new) }
+        ensures counted { IsCounted self.new }
+        ensures suits { SuitsPlan self.new }
         ensures plan { plan_in self.new ≡ plan_in self.old }
-        ensures count { OnOk result ((reading_of self.new).stopped ≡ None → self.new.count ≡ self.old.count + 1) }
+        ensures given { self.new.given ≡ self.old.given + length (answered result) }
+        ensures count { OnOk result (self.new.stopped ≡ None → self.new.count ≡ self.old.count + 1) }
     {
         if self.count == ROWS {
             self.stopped = Some(Failure::Limit { limit: ROWS });
-            return Ok(());
+            return Ok(None);
         }
         match self.rows.row(alloc, row) {
             Ok(None) => {
                 self.count += 1;
-                Ok(())
+                Ok(None)
             }
             Ok(Some(event)) => {
                 self.count += 1;
-                self.push(event)
+                Ok(self.give(event))
             }
             Err(RowError::Fault(fault)) => {
                 self.stopped = Some(failure_at(&fault));
-                Ok(())
+                Ok(None)
             }
             Err(RowError::Memory) => Err(AllocError),
         }
     }
 
-    // One event more, of the row that was just read.
-    fn push(&mut self, event: Event) -> Result<(), Memory>
-        requires going { (reading_of self.old).stopped ≡ None }
-        ensures reading { OnOk result (reading_of self.new ≡ with_event (reading_of self.old) event (reading_of self.old).so_far) }
+    // The event of the row that was just read, where it is within the limit.
+    fn give(&mut self, event: Event) -> Option<Event>
+        requires going { self.old.stopped ≡ None }
+        requires few { self.old.given ≤ 1048576 }
+        ensures reading { (before : List events.Event) → length before ≡ self.old.given
+            → reading_of (before ++ event_in result) self.new ≡ with_event (reading_of before self.old) event (reading_of before self.old).so_far }
         ensures rows { self.new.rows ≡ self.old.rows }
         ensures count { self.new.count ≡ self.old.count }
+        ensures given { self.new.given ≡ self.old.given + length (event_in result) }
+        ensures few { self.new.given ≤ 1048576 }
+        ensures same { IfSome result (λ e. e ≡ event) }
     {
-        if self.events.len() == EVENTS as usize {
+        if self.given == EVENTS {
             self.stopped = Some(Failure::Limit { limit: EVENTS });
-            return Ok(());
+            return None;
         }
-        self.events.push(event)?;
-        Ok(())
+        self.given += 1;
+        Some(event)
     }
 
     /// There is no row in place of the next one, for the reason with this code.
     pub(crate) fn refuse(&mut self, code: u8)
-        requires going { (reading_of self.old).stopped ≡ None }
+        requires going { self.old.stopped ≡ None }
         requires counted { IsCounted self.old }
-        ensures long { code ≡ 8 → reading_of self.new ≡ Reading.take_row (plan_in self.old) (reading_of self.old) long_row }
-        ensures open { code ≡ 9 → reading_of self.new ≡ Reading.take_row (plan_in self.old) (reading_of self.old) open_quote }
+        ensures long { code ≡ 8 → TakesRow long_row [] self.old self.new }
+        ensures open { code ≡ 9 → TakesRow open_quote [] self.old self.new }
         ensures counted { IsCounted self.new }
-        ensures plan { plan_in self.new ≡ plan_in self.old }
-        ensures stopped { is_some (reading_of self.new).stopped ≡ true }
+        ensures same { (self.new.rows ≡ self.old.rows) × (self.new.given ≡ self.old.given) }
+        ensures stopped { is_some self.new.stopped ≡ true }
     {
         self.stopped = Some(if self.count == ROWS {
             Failure::Limit { limit: ROWS }
@@ -116,20 +130,9 @@ impl Kept {
         });
     }
 
-    /// The events, and why there are no more, where no row follows.
-    pub(crate) fn into_given(self, ended: bool) -> Given
-        ensures events { result.events.items ≡ (reading_of self).events }
-        ensures stop { result.stop ≡ stop_of (reading_of self) ended }
-    {
-        Given {
-            stop: self.stop(ended),
-            events: self.events,
-        }
-    }
-
-    // Why there are no more events, where no row follows.
-    fn stop(&self, ended: bool) -> Stop
-        ensures { result ≡ stop_of (reading_of self.now) ended }
+    /// Why there are no more events, where no row follows.
+    pub(crate) fn stop(&self, ended: bool) -> Stop
+        ensures { (before : List events.Event) → result ≡ stop_of (reading_of before self.now) ended }
     {
         if let Some(failure) = self.stopped {
             return Stop::Failed(failure);

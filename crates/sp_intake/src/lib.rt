@@ -3,8 +3,14 @@
 //! in `specs/Intake.antt`.
 #![tactic(auto)]
 
+mod events;
+mod giving;
 mod input;
 mod kept;
+mod lending;
 mod reader;
+mod step;
 
+pub use events::EventReader;
+pub use giving::Input;
 pub use input::{Failure, Given, Stop, read_input};

@@ -1,13 +1,26 @@
-ghost use Rattle.std.specs.Prelude.{◌≡◌, ◌≤◌, ◌<◌, ◌+◌, ◌^◌, ◌++◌, ℕ, List, [], Bool, true, false, None, IfOk, OnOk, length, is_some};
+ghost use Rattle.std.specs.Prelude.{◌≡◌, ◌≤◌, ◌<◌, ◌+◌, ◌^◌, ◌++◌, ℕ, List, [], Bool, true, false, None, IfOk, OnOk, OnErr, length, is_some};
 ghost use Rattle.std.specs.Arc.{arc_value};
+ghost use Rattle.sp_plan.specs.declared.event.Event as events;
+ghost use Rattle.sp_plan.specs.Compiled.{IsTimeOf};
 ghost use Rattle.sp_intake.specs.Reading.{read, stop_of};
+ghost use Rattle.sp_intake.specs.Following.{ComeNext};
 
-use crate::input::Given;
+use crate::input::Stop;
 use crate::kept::Kept;
 use sp_cut::{CutFault, Cutter, rows_stay};
-use sp_plan::{Memory, Plan};
+use sp_plan::{Event, Memory, Plan};
 use std::alloc::{AllocError, Global};
 use std::sync::Arc;
+
+/// What the next row gave.
+#[derive(Drop)]
+pub(crate) enum Taken {
+    Event(Event),
+    /// There was a row, which gave no event.
+    Nothing,
+    /// There is no row, or none that counts.
+    NoRow,
+}
 
 /// The rows so far, and the bytes behind them.
 #[derive(Drop)]
@@ -17,16 +30,17 @@ pub(crate) struct Reader {
 }
 
 impl Reader {
-    ghost use Rattle.sp_intake.specs.Kept.{reading_of};
-    ghost use Rattle.sp_intake.specs.Coming.{comes_to, ends_as, IsReady, IsSettled, LeadsAs};
+    ghost use Rattle.sp_intake.specs.Kept.{plan_in, last_in, reading_of, answered, event_in};
+    ghost use Rattle.sp_intake.specs.Coming.{comes_to, ends_as, taken_in, IsReady, IsSettled, LeadsAs};
 
     /// Nothing was read yet.
     pub(crate) fn new(alloc: Global, plan: Arc<Plan>) -> Result<Reader, Memory>
-        ensures leads { IfOk result (λ reader. (more : List ℕ) (ended : Bool) → comes_to reader more ended ≡ read (arc_value plan) more ended) }
+        requires { IsTimeOf (arc_value plan).schema.columns (arc_value plan).schema.time }
+        ensures leads { IfOk result (λ reader. (more : List ℕ) (ended : Bool) → comes_to [] reader more ended ≡ read (arc_value plan) more ended) }
         ensures ready { IfOk result (λ reader. IsReady reader) }
-        ensures settled { IfOk result (λ reader. IsSettled reader) }
         ensures open { IfOk result (λ reader. reader.cutter.ended ≡ false) }
-        ensures going { IfOk result (λ reader. (reading_of reader.kept).stopped ≡ None) }
+        ensures given { IfOk result (λ reader. reader.kept.given ≡ 0) }
+        ensures plan { IfOk result (λ reader. plan_in reader.kept ≡ arc_value plan) }
     {
         Ok(Reader {
             cutter: Cutter::new(alloc),
@@ -34,59 +48,88 @@ impl Reader {
         })
     }
 
-    /// The next bytes. What comes behind them counts as if it had come behind the two together.
-    pub(crate) fn feed(&mut self, alloc: Global, piece: &[u8]) -> Result<(), Memory>
-        requires open { self.old.cutter.ended ≡ false }
-        requires ready { IsReady self.old }
-        ensures leads { OnOk result ((more : List ℕ) (ended : Bool) → comes_to self.new more ended ≡ comes_to self.old (piece.now ++ more) ended) }
-        ensures ready { OnOk result (IsReady self.new) }
-        ensures settled { OnOk result (IsSettled self.new) }
-        ensures open { OnOk result (self.new.cutter.ended ≡ false) }
+    /// Whether the input ended behind the bytes fed.
+    pub(crate) fn has_ended(&self) -> bool
+        ensures { result ≡ self.now.cutter.ended }
     {
-        self.cutter.feed(piece)?;
-        self.take_rows(alloc)
+        self.cutter.has_ended()
     }
 
-    // Takes all rows that are there, up to the first one that stops the reading.
-    fn take_rows(&mut self, alloc: Global) -> Result<(), Memory>
+    /// The next bytes. What comes behind them counts as if it had come behind the two together.
+    pub(crate) fn feed(&mut self, piece: &[u8]) -> Result<(), Memory>
+        requires open { self.old.cutter.ended ≡ false }
         requires ready { IsReady self.old }
-        ensures leads { OnOk result (LeadsAs self.old self.new) }
+        ensures leads { OnOk result ((events : List events.Event) (more : List ℕ) (ended : Bool) → comes_to events self.new more ended ≡ comes_to events self.old (piece.now ++ more) ended) }
         ensures ready { OnOk result (IsReady self.new) }
-        ensures settled { OnOk result (IsSettled self.new) }
+        ensures open { OnOk result (self.new.cutter.ended ≡ false) }
+        ensures kept { self.new.kept ≡ self.old.kept }
+    {
+        self.cutter.feed(piece)
+    }
+
+    /// The input ends here.
+    pub(crate) fn end(&mut self)
+        requires open { self.old.cutter.ended ≡ false }
+        requires ready { IsReady self.old }
+        ensures ends { (events : List events.Event) → ends_as events self.new ≡ comes_to events self.old [] true }
+        ensures ready { IsReady self.new }
+        ensures ended { self.new.cutter.ended ≡ true }
+        ensures kept { self.new.kept ≡ self.old.kept }
+    {
+        self.cutter.end();
+    }
+
+    /// The event of the next row that gives one, or None where no row is left that counts.
+    pub(crate) fn next_event(&mut self, alloc: Global) -> Result<Option<Event>, Memory>
+        requires ready { IsReady self.old }
+        ensures leads { IfOk result (λ given. LeadsAs (event_in given) self.old self.new) }
+        ensures ready { OnOk result (IsReady self.new) }
+        ensures settled { IfOk result (λ given. given ≡ None → IsSettled self.new) }
+        ensures plan { plan_in self.new.kept ≡ plan_in self.old.kept }
+        ensures next { ComeNext (plan_in self.old.kept) (last_in self.old.kept) (answered result) (last_in self.new.kept) }
+        ensures given { self.new.kept.given ≡ self.old.kept.given + length (answered result) }
+        ensures few { self.new.kept.given ≤ 1048576 }
     {
         for _ in 0..u64::MAX {
-            if !self.take_next(alloc)? {
-                return Ok(());
+            match self.take_next(alloc)? {
+                Taken::Event(event) => return Ok(Some(event)),
+                Taken::Nothing => {}
+                Taken::NoRow => return Ok(None),
             }
         }
         Err(AllocError)
     }
 
-    // Takes the next row, and answers whether there was one and the reading may go on.
-    fn take_next(&mut self, alloc: Global) -> Result<bool, Memory>
+    // Takes the next row.
+    fn take_next(&mut self, alloc: Global) -> Result<Taken, Memory>
         requires ready { IsReady self.old }
-        ensures leads { OnOk result (LeadsAs self.old self.new) }
+        ensures leads { IfOk result (λ taken. LeadsAs (taken_in taken) self.old self.new) }
         ensures ready { OnOk result (IsReady self.new) }
-        ensures settled { IfOk result (λ goes_on. goes_on ≡ false → IsSettled self.new) }
+        ensures settled { IfOk result (λ taken. taken ≡ Taken.NoRow → IsSettled self.new) }
+        ensures plan { plan_in self.new.kept ≡ plan_in self.old.kept }
+        ensures next { IfOk result (λ taken. ComeNext (plan_in self.old.kept) (last_in self.old.kept) (taken_in taken) (last_in self.new.kept)) }
+        ensures none { OnErr result (ComeNext (plan_in self.old.kept) (last_in self.old.kept) [] (last_in self.new.kept)) }
+        ensures given { OnErr result (self.new.kept.given ≡ self.old.kept.given) }
+        ensures few { self.new.kept.given ≤ 1048576 }
     {
         if self.kept.has_stopped() {
-            return Ok(false);
+            return Ok(Taken::NoRow);
         }
         // a law: what is no row now is none whatever comes behind
         rows_stay();
         match self.cutter.next_row(alloc) {
-            Ok(None) => Ok(false),
-            Ok(Some(row)) => {
-                self.kept.take(alloc, &row)?;
-                Ok(true)
-            }
+            Ok(None) => Ok(Taken::NoRow),
+            Ok(Some(row)) => match self.kept.take(alloc, &row)? {
+                Some(event) => Ok(Taken::Event(event)),
+                None => Ok(Taken::Nothing),
+            },
             Err(CutFault::LongRow { row: _ }) => {
                 self.kept.refuse(8);
-                Ok(false)
+                Ok(Taken::NoRow)
             }
             Err(CutFault::OpenQuote { row: _ }) => {
                 self.kept.refuse(9);
-                Ok(false)
+                Ok(Taken::NoRow)
             }
             Err(CutFault::Memory) => Err(AllocError),
         }
@@ -94,41 +137,15 @@ impl Reader {
 
     /// Whether no later row counts.
     pub(crate) fn has_stopped(&self) -> bool
-        ensures { result ≡ is_some (reading_of self.now.kept).stopped }
+        ensures { result ≡ is_some self.now.kept.stopped }
     {
         self.kept.has_stopped()
     }
 
-    /// All that was read, where the input ends here, or where no more is read of it.
-    pub(crate) fn finish(mut self, alloc: Global, ended: bool) -> Result<Given, Memory>
-        requires open { self.cutter.ended ≡ false }
-        requires ready { IsReady self }
-        requires settled { IsSettled self }
-        ensures events { IfOk result (λ given. given.events.items ≡ (comes_to self [] ended).events) }
-        ensures stop { IfOk result (λ given. given.stop ≡ stop_of (comes_to self [] ended) ended) }
+    /// Why there are no more events, where no row follows.
+    pub(crate) fn stop(&self, ended: bool) -> Stop
+        ensures { (before : List events.Event) → result ≡ stop_of (reading_of before self.now.kept) ended }
     {
-        if ended {
-            self.take_rest(alloc)?;
-            return Ok(self.into_given(true));
-        }
-        Ok(self.into_given(false))
-    }
-
-    // Takes all rows that are left, where the input ends here.
-    fn take_rest(&mut self, alloc: Global) -> Result<(), Memory>
-        requires ready { IsReady self.old }
-        ensures { OnOk result (reading_of self.new.kept ≡ comes_to self.old [] true) }
-    {
-        self.cutter.end();
-        self.take_rows(alloc)
-    }
-
-    // All that was read so far.
-    fn into_given(self, ended: bool) -> Given
-        ensures events { result.events.items ≡ (reading_of self.kept).events }
-        ensures stop { result.stop ≡ stop_of (reading_of self.kept) ended }
-    {
-        let Reader { cutter: _, kept } = self;
-        kept.into_given(ended)
+        self.kept.stop(ended)
     }
 }

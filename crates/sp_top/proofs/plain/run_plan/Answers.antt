@@ -3,7 +3,7 @@ use Rattle.std.specs.Arc.{arc_value}
 use Rattle.sp_plan.specs.declared.plan.Plan.{Plan}
 use Rattle.sp_intake.specs.Intake.{TakesNoFurther}
 use Rattle.sp_intake.proofs.Gave.{gave_none}
-use Rattle.sp_intake.proofs.ReadSoFar.{no_further_none}
+use Rattle.sp_intake.proofs.Since.{no_further_none}
 use Rattle.sp_answer.specs.Ran.{Outside, outside}
 use Rattle.sp_top.specs.Run.{windows_text}
 use Rattle.sp_top.proofs.Running.{unread, all_written}

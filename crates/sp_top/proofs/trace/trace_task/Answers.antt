@@ -8,7 +8,7 @@ use Rattle.sp_trace.specs.Traced.{traced}
 use Rattle.sp_intake.specs.Intake.{TakesNoFurther}
 use Rattle.sp_intake.specs.Reading.{is_end}
 use Rattle.sp_intake.proofs.Gave.{gave_none}
-use Rattle.sp_intake.proofs.ReadSoFar.{no_further_none}
+use Rattle.sp_intake.proofs.Since.{no_further_none}
 use Rattle.sp_answer.specs.Ran.{Outside, outside}
 use Rattle.sp_answer.specs.Written.{WritesText}
 use Rattle.sp_answer.specs.declared.status.Status.TheVariants.{Done}

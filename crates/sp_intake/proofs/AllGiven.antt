@@ -1,0 +1,72 @@
+-- All that an input gives, in a list.
+use Rattle.std.proofs.Common.{◌≡◌, ◌⊎◌, inl, inr, ◌≤◌, List, [], ◌++◌, length, Ok, Err, sym, ◌∙◌, ap, subst}
+use Rattle.std.proofs.lemmas.List.{append-nil}
+use Rattle.std.specs.Prelude.{Option, Some, Result, IsErr, IfOk}
+use Rattle.std.specs.declared.alloc.AllocError.{AllocError}
+use Rattle.sp_io.specs.Outside.{SourceState}
+use Rattle.sp_plan.specs.Events.{AllFit, NeverGoesBack}
+use Rattle.sp_plan.specs.declared.event.Event.{Event}
+use Rattle.sp_plan.specs.declared.plan.Plan.{Plan}
+use Rattle.sp_ports.specs.declared.intake.Next.{Next}
+use Rattle.sp_ports.specs.declared.intake.Next.TheVariants as next
+use Rattle.sp_ports.specs.Giving.{given_by}
+use Rattle.sp_intake.specs.declared.input.Given.{Given}
+use Rattle.sp_intake.specs.declared.input.Stop.{Stop}
+use Rattle.sp_intake.specs.Intake.{ReadsInput}
+use Rattle.sp_intake.specs.ReadAll.{ReadsAll}
+use Rattle.sp_intake.specs.Standing.{Standing, Gives, HasRead, ReadSoFar, ReadsFrom, stop_in}
+
+-- memory ran out behind these events
+pub short_all : (old new : Standing) (events : List Event) (result : Result Given AllocError) → IsErr result → Gives old events new → ReadsAll old new result
+short_all old new events (Ok given) failed gives = absurd (cc failed)
+short_all old new events (Err e) failed gives = record { events = events; gives = gives; given = tt; stop = tt }
+
+-- an answer without an event gives none
+pub none_given : (old new : Standing) (events : List Event) (answer : Next) → given_by answer ≡ [] → Gives old (events ++ given_by answer) new → Gives old events new
+none_given old new events answer none = subst (λ (l : List Event). Gives old l new) (ap (λ (l : List Event). events ++ l) none ∙ append-nil events)
+
+pub end_gives_none : (answer : Next) → (answer ≡ next.End) ⊎ (answer ≡ next.Stop) → given_by answer ≡ []
+end_gives_none answer (inl is) = ap given_by is
+end_gives_none answer (inr is) = ap given_by is
+
+-- what was read to a stop is a reading of the input
+pub reads_input : (q : Plan) (before after : SourceState) (old new : Standing) (result : Result Given AllocError) → ReadsFrom q before old → ReadsAll old new result → after ≡ new.source → ReadsInput q before after result
+reads_input q before after old new result from all is =
+    subst (λ (s : SourceState). ReadsInput q before s result) (sym is) (by result all.given all.stop)
+  where
+    far : ReadSoFar q before new.source all.events (stop_in new.state)
+    far = from all.events new all.gives
+
+    by : (answer : Result Given AllocError) → IfOk answer (λ given. given.events.items ≡ all.events) → IfOk answer (λ given. stop_in new.state ≡ Some given.stop) → ReadsInput q before new.source answer
+    by (Ok given) events stop =
+        let has = subst (λ (why : Option Stop). HasRead q before new.source far.taken all.events why) stop far.has in
+        record {
+          taken = far.taken;
+          gave = has.gave;
+          no_further = has.no_further;
+          events = events ∙ has.all;
+          stop = has.stop;
+          few = subst (λ (l : List Event). length l ≤ 1048576) (sym events) far.good.few;
+          fit = subst (AllFit q) (sym events) far.good.good.0;
+          ordered = subst NeverGoesBack (sym events) far.good.good.1;
+          fault = λ open_. has.fault (ap (λ (s : Stop). Some s) open_);
+          told = λ rose. cc (has.told rose);
+        }
+    by (Err e) events stop = record {
+      taken = far.taken;
+      gave = far.has.gave;
+      no_further = far.has.no_further;
+      events = tt;
+      stop = tt;
+      few = tt;
+      fit = tt;
+      ordered = tt;
+      fault = tt;
+      told = tt;
+    }
+
+-- what was read of a source that was lent
+pub so_far_at : (q : Plan) (before after : SourceState) (old new : Standing) (why : Option Stop) → ReadsFrom q before old → ((events : List Event) × Gives old events new) → after ≡ new.source → why ≡ stop_in new.state
+    → (events : List Event) × ReadSoFar q before after events why
+so_far_at q before after old new why from gave is stop =
+    (gave.0, subst (λ (s : SourceState). ReadSoFar q before s gave.0 why) (sym is) (subst (λ (w : Option Stop). ReadSoFar q before new.source gave.0 w) (sym stop) (from gave.0 new gave.1)))

@@ -1,0 +1,33 @@
+use Rattle.std.proofs.Common.{[], ◌∷◌, List, sym, subst}
+use Rattle.sp_plan.specs.declared.event.Event.{Event}
+use Rattle.sp_intake.specs.declared.events.State.TheVariants.{Going, Stopped, Broken}
+use Rattle.sp_intake.specs.Standing.{Standing, Gives}
+use Rattle.sp_intake.proofs.Since.{gives_going, gives_on}
+use Rattle.sp_intake.proofs.events.EventReader.poll.Goals as goal
+
+pub returns-in-Ok-Event-clause-gives : goal.returns-in-Ok-Event-clause-gives
+returns-in-Ok-Event-clause-gives c source =
+    let old = c.args.self.now.reader in
+    let new = c.take_step.new.reader in
+    let told : Gives (record { source = source; state = Going; reader = old }) (c.in-Ok-Event.event ∷ []) (record { source = source; state = Going; reader = new }) =
+    rw c.in-Ok-Event.field-0-is at c.in-Ok-Event.ensures.gives source in
+    gives_on c.args.self.now.state c.in-Going.is source source old new (c.in-Ok-Event.event ∷ []) told
+
+pub returns-in-Ok-Stop-clause-gives : goal.returns-in-Ok-Stop-clause-gives
+returns-in-Ok-Stop-clause-gives c source =
+    let old = c.args.self.now.reader in
+    let new : Standing = record { source = source; state = Stopped c.in-Ok-Stop.stop; reader = c.take_step.new.reader } in
+    let told : Gives (record { source = source; state = Going; reader = old }) [] new = rw c.in-Ok-Stop.field-0-is at c.in-Ok-Stop.ensures.gives source in
+    subst (λ (events : List Event). Gives (record { source = source; state = c.args.self.now.state; reader = old }) events new) (sym c.answer-in-Ok-Stop.ensures.none)
+    (gives_going c.args.self.now.state c.in-Going.is source old [] new told)
+
+pub returns-in-Ok-Ask-clause-gives : goal.returns-in-Ok-Ask-clause-gives
+returns-in-Ok-Ask-clause-gives c source =
+    let old = c.args.self.now.reader in
+    let new = c.take_step.new.reader in
+    let told : Gives (record { source = source; state = Going; reader = old }) [] (record { source = source; state = Going; reader = new }) = rw c.in-Ok-Ask.field-0-is at c.in-Ok-Ask.ensures.gives source in
+    gives_on c.args.self.now.state c.in-Going.is source source old new [] told
+
+pub returns-in-Err-clause-gives : goal.returns-in-Err-clause-gives
+returns-in-Err-clause-gives c source =
+    gives_going c.args.self.now.state c.in-Going.is source c.args.self.now.reader [] (record { source = source; state = Broken; reader = c.take_step.new.reader }) (c.in-Err.ensures.gives source)

@@ -1,0 +1,117 @@
+-- How an input stands, and what it has read since its source stood at its start.
+use Rattle.std.specs.Prelude.{◌≡◌, ◌≤◌, ◌<◌, ℕ, ◌+◌, Bool, true, false, List, [], ◌∷◌, ◌++◌, length, Option, Some, None, IfSome, take, Result, Ok, Err, IfOk, OnOk, OnErr}
+use Rattle.std.specs.declared.alloc.AllocError.{AllocError}
+use Rattle.sp_io.specs.Outside.{SourceState, Gave, Rose}
+use Rattle.sp_io.specs.declared.outside.Failed.{Failed}
+use Rattle.sp_plan.specs.declared.event.Event.{Event}
+use Rattle.sp_plan.specs.declared.plan.Plan.{Plan}
+use Rattle.sp_ports.specs.Giving.{AreGood}
+use Rattle.sp_intake.specs.declared.events.State.{State}
+use Rattle.sp_intake.specs.declared.events.State.TheVariants.{Going, Stopped, Broken}
+use Rattle.sp_intake.specs.declared.step.Step.{Step}
+use Rattle.sp_intake.specs.declared.step.Step.TheVariants as step
+use Rattle.sp_intake.specs.declared.input.Stop.{Stop}
+use Rattle.sp_intake.specs.declared.input.Stop.TheVariants.{Open}
+use Rattle.sp_intake.specs.declared.reader.Reader.{Reader}
+use Rattle.sp_intake.specs.Coming.{comes_to, ends_as, IsSettled}
+use Rattle.sp_intake.specs.Following.{ComeNext}
+use Rattle.sp_intake.specs.Intake.{TakesNoFurther}
+use Rattle.sp_intake.specs.Kept.{plan_in, last_in}
+use Rattle.sp_intake.specs.Reading.{read, stop_of, is_end}
+
+-- an input, its source seen by its state
+pub record Standing : Type 0 where
+  pub source : SourceState
+  pub state : State
+  pub reader : Reader
+
+-- why an input gives no more, where it stopped
+abbrev pub stop_in : State → Option Stop
+stop_in Going = None
+stop_in (Stopped stop) = Some stop
+stop_in Broken = None
+
+-- the input was read to its end
+abbrev pub is_whole : Option Stop → Bool
+is_whole None = false
+is_whole (Some stop) = is_end stop
+
+-- these events are the first of those
+abbrev pub IsFront : List Event → List Event → Type 0
+IsFront first events = (others : List Event) × (events ≡ first ++ others)
+
+-- From one state of a source to another these bytes were taken, and these events given: the first of those that the bytes give, or all of them, where reading stopped.
+pub record HasRead (q : Plan) (before after : SourceState) (taken : List ℕ) (events : List Event) (why : Option Stop) : Type 0 where
+  pub gave : Gave before.left taken after.left
+  pub no_further : TakesNoFurther q taken
+  pub front : IsFront events (read q taken after.ended).events
+  pub all : IfSome why (λ stop. events ≡ (read q taken after.ended).events)
+  pub stop : IfSome why (λ stop. stop ≡ stop_of (read q taken after.ended) after.ended)
+  -- the source failed exactly where the reading stops open
+  pub fault : why ≡ Some Open → Rose before.faults after.faults
+  pub told : before.faults < after.faults → why ≡ Some Open
+  pub never_falls : before.faults ≤ after.faults
+
+-- What an input has read of its source, where it gave these events, and whether and why it stopped.
+pub record ReadSoFar (q : Plan) (before after : SourceState) (events : List Event) (why : Option Stop) : Type 0 where
+  pub taken : List ℕ
+  pub has : HasRead q before after taken events why
+  pub good : AreGood q events
+
+-- an input that goes on leads where the bytes taken do, with all that may come
+pub record Leads (q : Plan) (taken : List ℕ) (events : List Event) (now : Standing) : Type 0 where
+  pub count : now.reader.kept.given ≡ length events
+  pub ended : now.source.ended ≡ now.reader.cutter.ended
+  pub coming : now.reader.cutter.ended ≡ false → (more : List ℕ) (ended : Bool) → comes_to events now.reader more ended ≡ read q (taken ++ more) ended
+  pub ends : now.reader.cutter.ended ≡ true → ends_as events now.reader ≡ read q taken true
+
+-- an input has given these events since its source stood so
+pub record Since (q : Plan) (origin : SourceState) (events : List Event) (now : Standing) : Type 0 where
+  pub taken : List ℕ
+  pub plan : plan_in now.reader.kept ≡ q
+  pub has : HasRead q origin now.source taken events (stop_in now.state)
+  pub leads : now.state ≡ Going → Leads q taken events now
+
+-- From one standing on an input gave these events, and came to another: whatever it was read from before, it gave these behind those.
+pub record Gives (old : Standing) (events : List Event) (new : Standing) : Type 0 where
+  pub plan : plan_in new.reader.kept ≡ plan_in old.reader.kept
+  pub count : new.reader.kept.given ≡ old.reader.kept.given + length events
+  pub few : length events ≤ 1048576
+  pub next : ComeNext (plan_in old.reader.kept) (last_in old.reader.kept) events (last_in new.reader.kept)
+  pub since : (q : Plan) (origin : SourceState) (first : List Event) → Since q origin first old → Since q origin (first ++ events) new
+
+-- whatever an input gives from here on, it has read that of a source that stood so
+abbrev pub ReadsFrom : Plan → SourceState → Standing → Type 0
+ReadsFrom q before first = (events : List Event) (last : Standing) → Gives first events last → ReadSoFar q before last.source events (stop_in last.state)
+
+-- how an input stands behind a step
+abbrev pub state_after : Result Step AllocError → State
+state_after (Ok (step.Event e)) = Going
+state_after (Ok (step.Stop stop)) = Stopped stop
+state_after (Ok step.Ask) = Going
+state_after (Err e) = Broken
+
+-- the event that a step gives, if it gives one
+abbrev pub given_in : Result Step AllocError → List Event
+given_in (Ok (step.Event e)) = e ∷ []
+given_in (Ok (step.Stop stop)) = []
+given_in (Ok step.Ask) = []
+given_in (Err e) = []
+
+-- no row is left, and the input may go on
+pub record IsHungry (reader : Reader) : Type 0 where
+  pub settled : IsSettled reader
+  pub going : reader.kept.stopped ≡ None
+  pub open_ : reader.cutter.ended ≡ false
+
+-- what a call of a source that had not ended did: the first bytes of a buffer are those that it gave
+pub record WasRead (before : SourceState) (buffer : List ℕ) (read : Result ℕ Failed) (next : SourceState) : Type 0 where
+  pub size : length buffer ≤ 4096
+  pub bytes : IfOk read (λ n. Gave before.left (take n buffer) next.left)
+  pub untaken : OnErr read (Gave before.left [] next.left)
+  pub ended : IfOk read (λ n. n ≡ 0 → next.ended ≡ true)
+  pub goes_on : IfOk read (λ n. 0 < n → next.ended ≡ before.ended)
+  pub failed_before_end : OnErr read (next.ended ≡ before.ended)
+  pub no_fault : OnOk read (next.faults ≡ before.faults)
+  pub fault : OnErr read (Rose before.faults next.faults)
+  pub never_falls : before.faults ≤ next.faults

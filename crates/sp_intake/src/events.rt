@@ -1,0 +1,110 @@
+ghost use Rattle.std.specs.Prelude.{◌≡◌, ◌≢◌, ◌≤◌, ◌+◌, ◌++◌, ℕ, List, [], true, false, Ok, Some, None, length, IfOk, OnOk};
+ghost use Rattle.std.specs.Arc.{arc_value};
+ghost use Rattle.sp_io.specs.Outside.{SourceState, Rose};
+ghost use Rattle.sp_plan.specs.Compiled.{IsCompiled};
+ghost use Rattle.sp_ports.specs.Giving.{given_by};
+ghost use Rattle.sp_intake.specs.declared.events.State.TheVariants.{Going};
+ghost use Rattle.sp_intake.specs.Coming.{IsReady};
+
+use crate::input::Stop;
+use crate::reader::Reader;
+use crate::step::{Step, answer, take_step};
+use sp_io::Failed;
+use sp_plan::{Memory, Plan};
+use sp_ports::Next;
+use std::alloc::Global;
+use std::sync::Arc;
+
+/// Whether an input goes on.
+#[derive(Clone, Copy, Drop)]
+pub(crate) enum State {
+    Going,
+    Stopped(Stop),
+    /// Memory ran out, and what was read then is lost.
+    Broken,
+}
+
+/// Reads events of bytes, in whatever pieces they come; up to the end of the input, to the first row
+/// that fails, to a limit or to a fault of the source. It stores no event.
+#[derive(Drop)]
+pub struct EventReader {
+    reader: Reader,
+    state: State,
+    stops: u64,
+    ghost sound: { state ≡ Going → IsReady reader },
+    ghost few: { reader.kept.given ≤ 1048576 },
+}
+
+impl EventReader {
+    ghost use Rattle.sp_intake.specs.Standing.{Gives, WasRead, stop_in};
+    ghost use Rattle.sp_intake.specs.Asked.{standing, answered_with, IsFresh, IsAsking};
+
+    /// Nothing was read yet.
+    pub fn new(alloc: Global, plan: &Arc<Plan>) -> Result<EventReader, Memory>
+        requires { IsCompiled (arc_value plan.now) }
+        ensures { IfOk result (λ events. IsFresh (arc_value plan.now) events) }
+    {
+        Ok(EventReader {
+            reader: Reader::new(alloc, Arc::try_clone(plan)?)?,
+            state: State::Going,
+            stops: 0,
+        })
+    }
+
+    /// Why there are no more events, where reading stopped: `End` is the end of the input.
+    pub fn stop(&self) -> Option<Stop>
+        ensures { result ≡ stop_in self.now.state }
+    {
+        match self.state {
+            State::Stopped(stop) => Some(stop),
+            State::Going | State::Broken => None,
+        }
+    }
+
+    /// The next event, or why there is none; None where bytes are wanted first.
+    pub(crate) fn poll(&mut self, alloc: Global) -> Option<Next>
+        ensures gives { (source : SourceState) → Gives (standing source self.old) (answered_with result) (standing source self.new) }
+        ensures asks { result ≡ None → IsAsking self.new }
+        ensures end { result ≡ Some Next.End → stop_in self.new.state ≡ Some Stop.End }
+        ensures rose { result ≡ Some Next.Stop → Rose self.old.stops self.new.stops }
+        ensures never_falls { self.old.stops ≤ self.new.stops }
+        ensures uncounted { result ≡ Some Next.Memory → self.new.stops ≡ self.old.stops }
+        ensures unasked { result ≡ None → self.new.stops ≡ self.old.stops }
+    {
+        match self.state {
+            State::Going => {}
+            State::Stopped(stop) => return Some(answer(stop, &mut self.stops)),
+            State::Broken => return Some(Next::Memory),
+        }
+        match take_step(alloc, &mut self.reader) {
+            Ok(Step::Event(event)) => Some(Next::Event(event)),
+            Ok(Step::Stop(stop)) => {
+                self.state = State::Stopped(stop);
+                Some(answer(stop, &mut self.stops))
+            }
+            Ok(Step::Ask) => None,
+            Err(_) => {
+                self.state = State::Broken;
+                Some(Next::Memory)
+            }
+        }
+    }
+
+    /// What a call of the source answered, which wrote to the front of this buffer.
+    pub(crate) fn take(&mut self, buffer: &[u8], read: Result<usize, Failed>)
+        requires asks { IsAsking self.old }
+        requires count { IfOk read (λ n. n ≤ length buffer.now) }
+        ensures gives { (before next : SourceState) → WasRead before buffer.now read next → Gives (standing before self.old) [] (standing next self.new) }
+        ensures stops { self.new.stops ≡ self.old.stops }
+    {
+        match read {
+            Ok(0) => self.reader.end(),
+            Ok(count) => {
+                if self.reader.feed(&buffer[..count]).is_err() {
+                    self.state = State::Broken;
+                }
+            }
+            Err(_) => self.state = State::Stopped(Stop::Open),
+        }
+    }
+}

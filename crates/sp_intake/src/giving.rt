@@ -1,0 +1,99 @@
+ghost use Rattle.std.specs.Prelude.{◌≡◌, List, [], false, IfOk};
+ghost use Rattle.std.specs.Arc.{arc_value};
+ghost use Rattle.sp_plan.specs.Compiled.{IsCompiled};
+ghost use Rattle.sp_intake.specs.Standing.{Gives, ReadsFrom, stop_in, is_whole};
+ghost use Rattle.sp_intake.specs.Asked.{standing};
+
+use crate::events::EventReader;
+use crate::input::Stop;
+use sp_io::Source;
+use sp_plan::{Memory, Plan};
+use sp_ports::{Intake, Next};
+use std::alloc::Global;
+use std::sync::Arc;
+
+// How many bytes are asked for at a time.
+const PIECE: usize = 4096;
+
+/// The input of a source as an intake: the events that its rows give, one a call. The source is asked for
+/// a piece of 4,096 bytes only where no whole row is left of those before. After a faulty row, a limit or
+/// a fault of the source each call is a stop; after want of memory each call is want of memory.
+#[derive(Drop)]
+pub struct Input<'a, S: Source> {
+    source: &'a mut S,
+    events: EventReader,
+    // Room for what the source gives.
+    piece: [u8; PIECE],
+}
+
+impl<'a, S: Source> Input<'a, S> {
+    /// An input of which nothing was read yet.
+    pub fn new(alloc: Global, plan: &Arc<Plan>, source: &'a mut S) -> Result<Input<'a, S>, Memory>
+        requires compiled { IsCompiled (arc_value plan.now) }
+        requires not_ended { (S.state source.old).ended ≡ false }
+        ensures same { IfOk result (λ input. input.source.ghost_name ≡ source.entry.ghost_name) }
+        ensures reads { IfOk result (λ input. ReadsFrom (arc_value plan.now) (S.state source.old) (standing (S.state input.source.now) input.events)) }
+    {
+        let events = EventReader::new(alloc, plan)?;
+        Ok(Input::over(source, events))
+    }
+
+    /// The input of a source that is read by these.
+    pub fn over(source: &'a mut S, events: EventReader) -> Input<'a, S>
+        ensures same { result.source.ghost_name ≡ source.entry.ghost_name }
+        ensures source { result.source.now ≡ source.old }
+        ensures events { result.events ≡ events }
+    {
+        Input {
+            source,
+            events,
+            piece: [0; PIECE],
+        }
+    }
+
+    /// Why it gives no more, where it stopped: `End` is the end of its input.
+    pub fn stop(&self) -> Option<Stop>
+        ensures { result ≡ stop_in self.now.events.state }
+    {
+        self.events.stop()
+    }
+
+    /// The source, as it stands now.
+    pub fn into_source(self) -> &'a mut S
+        ensures same { result.ghost_name ≡ self.entry.source.ghost_name }
+        ensures now { result.now ≡ self.entry.source.now }
+    {
+        let Input { source, .. } = self;
+        source
+    }
+}
+
+impl<'a, S: Source> Intake for Input<'a, S> {
+    ghost use Rattle.sp_intake.specs.Laws.{gives_none, gives_good};
+    ghost use Rattle.sp_intake.specs.Kept.{plan_in};
+
+    ghost plan = { λ input. plan_in input.events.reader.kept };
+
+    ghost token = { λ input. input.source.ghost_name };
+
+    ghost ended = { λ input. is_whole (stop_in input.events.state) };
+
+    ghost stops = { λ input. input.events.stops };
+
+    ghost gave = { λ old events new. Gives (standing (S.state old.source.now) old.events) events (standing (S.state new.source.now) new.events) };
+
+    ghost gave_none = { λ input. gives_none (standing (S.state input.source.now) input.events) };
+
+    ghost good = { λ old events new gave. gives_good (standing (S.state old.source.now) old.events) (standing (S.state new.source.now) new.events) events gave };
+
+    fn next(&mut self, alloc: Global) -> Next {
+        for _ in 0..u64::MAX {
+            if let Some(next) = self.events.poll(alloc) {
+                return next;
+            }
+            let read = self.source.read(&mut self.piece);
+            self.events.take(&self.piece, read);
+        }
+        Next::Memory
+    }
+}

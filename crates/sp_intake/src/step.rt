@@ -1,0 +1,55 @@
+ghost use Rattle.std.specs.Prelude.{◌≡◌, ◌≢◌, ◌≤◌, [], Ok, OnOk};
+ghost use Rattle.sp_io.specs.Outside.{SourceState, Rose};
+ghost use Rattle.sp_ports.specs.Giving.{given_by};
+ghost use Rattle.sp_intake.specs.declared.events.State.TheVariants.{Going};
+ghost use Rattle.sp_intake.specs.Coming.{IsReady};
+ghost use Rattle.sp_intake.specs.Standing.{Gives, IsHungry, state_after, given_in};
+
+use crate::input::Stop;
+use crate::reader::Reader;
+use sp_plan::{Event, Memory};
+use sp_ports::Next;
+use std::alloc::Global;
+
+/// What a reader comes to next.
+#[derive(Drop)]
+pub(crate) enum Step {
+    Event(Event),
+    Stop(Stop),
+    /// No row is left, and the input may go on.
+    Ask,
+}
+
+/// Takes rows, up to one that gives an event, to the stop, or to the end of what is there.
+pub(crate) fn take_step(alloc: Global, reader: &mut Reader) -> Result<Step, Memory>
+    requires ready { IsReady reader.old }
+    ensures gives { (source : SourceState) → Gives (record { source = source; state = Going; reader = reader.old }) (given_in result)
+        (record { source = source; state = state_after result; reader = reader.new }) }
+    ensures ready { OnOk result (IsReady reader.new) }
+    ensures few { reader.new.kept.given ≤ 1048576 }
+    ensures asks { result ≡ Ok Step.Ask → IsHungry reader.new }
+{
+    if let Some(event) = reader.next_event(alloc)? {
+        return Ok(Step::Event(event));
+    }
+    let ended = reader.has_ended();
+    if ended || reader.has_stopped() {
+        return Ok(Step::Stop(reader.stop(ended)));
+    }
+    Ok(Step::Ask)
+}
+
+/// Tells a stop, and counts it where it isn't the end of the input.
+pub(crate) fn answer(stop: Stop, stops: &mut u64) -> Next
+    ensures none { given_by result ≡ [] }
+    ensures end { result ≡ Next.End → stop ≡ Stop.End }
+    ensures rose { result ≡ Next.Stop → Rose stops.old stops.new }
+    ensures never_falls { stops.old ≤ stops.new }
+    ensures told { result ≢ Next.Memory }
+{
+    if stop.is_end() {
+        return Next::End;
+    }
+    *stops = stops.saturating_add(1);
+    Next::Stop
+}
