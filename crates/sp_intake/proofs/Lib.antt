@@ -5,3 +5,4 @@ pub mod Leading
 pub mod Orderly
 pub mod Suiting
 pub mod Since
+pub mod Crossing

@@ -1,5 +1,5 @@
 -- How an input stands, and what it has read since its source stood at its start.
-use Rattle.std.specs.Prelude.{◌≡◌, ◌≤◌, ◌<◌, ℕ, ◌+◌, Bool, true, false, List, [], ◌∷◌, ◌++◌, length, Option, Some, None, IfSome, take, Result, Ok, Err, IfOk, OnOk, OnErr}
+use Rattle.std.specs.Prelude.{not, ◌≡◌, ◌≤◌, ◌<◌, ℕ, ◌+◌, Bool, true, false, List, [], ◌∷◌, ◌++◌, length, Option, Some, None, IfSome, take, Result, Ok, Err, IfOk, OnOk, OnErr}
 use Rattle.std.specs.declared.alloc.AllocError.{AllocError}
 use Rattle.sp_io.specs.Outside.{SourceState, Gave, Rose}
 use Rattle.sp_io.specs.declared.outside.Failed.{Failed}
@@ -35,6 +35,12 @@ stop_in Broken = None
 abbrev pub is_whole : Option Stop → Bool
 is_whole None = false
 is_whole (Some stop) = is_end stop
+
+-- it stopped before the end of its input
+abbrev pub is_halted : State → Bool
+is_halted Going = false
+is_halted (Stopped stop) = not (is_end stop)
+is_halted Broken = false
 
 -- these events are the first of those
 abbrev pub IsFront : List Event → List Event → Type 0

@@ -1,10 +1,11 @@
-ghost use Rattle.std.specs.Prelude.{◌≡◌, ◌≢◌, ◌≤◌, ◌+◌, ◌++◌, ℕ, List, [], true, false, Ok, Some, None, length, IfOk, OnOk};
+ghost use Rattle.std.specs.Prelude.{◌≡◌, ◌≢◌, ◌≤◌, ◌<◌, ◌+◌, ◌++◌, ℕ, List, [], true, false, Ok, Some, None, length, IfOk, OnOk};
 ghost use Rattle.std.specs.Arc.{arc_value};
 ghost use Rattle.sp_io.specs.Outside.{SourceState, Rose};
 ghost use Rattle.sp_plan.specs.Compiled.{IsCompiled};
 ghost use Rattle.sp_ports.specs.Giving.{given_by};
 ghost use Rattle.sp_intake.specs.declared.events.State.TheVariants.{Going};
 ghost use Rattle.sp_intake.specs.Coming.{IsReady};
+ghost use Rattle.sp_intake.specs.Standing.{is_halted};
 
 use crate::input::Stop;
 use crate::reader::Reader;
@@ -33,16 +34,20 @@ pub struct EventReader {
     stops: u64,
     ghost sound: { state ≡ Going → IsReady reader },
     ghost few: { reader.kept.given ≤ 1048576 },
+    ghost halted: { 0 < stops → is_halted state ≡ true },
 }
 
 impl EventReader {
     ghost use Rattle.sp_intake.specs.Standing.{Gives, WasRead, stop_in};
     ghost use Rattle.sp_intake.specs.Asked.{standing, answered_with, IsFresh, IsAsking};
+    ghost use Rattle.sp_intake.specs.Kept.{plan_in};
 
     /// Nothing was read yet.
     pub fn new(alloc: Global, plan: &Arc<Plan>) -> Result<EventReader, Memory>
         requires { IsCompiled (arc_value plan.now) }
-        ensures { IfOk result (λ events. IsFresh (arc_value plan.now) events) }
+        ensures fresh { IfOk result (λ events. IsFresh (arc_value plan.now) events) }
+        ensures plan { IfOk result (λ events. plan_in events.reader.kept ≡ arc_value plan.now) }
+        ensures none { IfOk result (λ events. events.stops ≡ 0) }
     {
         Ok(EventReader {
             reader: Reader::new(alloc, Arc::try_clone(plan)?)?,

@@ -1,7 +1,7 @@
-ghost use Rattle.std.specs.Prelude.{◌≡◌, List, [], false, IfOk};
+ghost use Rattle.std.specs.Prelude.{◌≡◌, ◌<◌, List, [], true, false, IfOk};
 ghost use Rattle.std.specs.Arc.{arc_value};
 ghost use Rattle.sp_plan.specs.Compiled.{IsCompiled};
-ghost use Rattle.sp_intake.specs.Standing.{Gives, ReadsFrom, stop_in, is_whole};
+ghost use Rattle.sp_intake.specs.Standing.{Gives, ReadsFrom, stop_in, is_whole, is_halted};
 ghost use Rattle.sp_intake.specs.Asked.{standing};
 
 use crate::events::EventReader;
@@ -53,7 +53,8 @@ impl<'a, S: Source> Input<'a, S> {
 
     /// Why it gives no more, where it stopped: `End` is the end of its input.
     pub fn stop(&self) -> Option<Stop>
-        ensures { result ≡ stop_in self.now.events.state }
+        ensures stop { result ≡ stop_in self.now.events.state }
+        ensures halted { 0 < self.now.events.stops → is_halted self.now.events.state ≡ true }
     {
         self.events.stop()
     }

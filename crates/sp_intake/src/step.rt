@@ -1,8 +1,9 @@
-ghost use Rattle.std.specs.Prelude.{◌≡◌, ◌≢◌, ◌≤◌, [], Ok, OnOk};
+ghost use Rattle.std.specs.Prelude.{◌≡◌, ◌≢◌, ◌≤◌, [], true, Ok, OnOk};
 ghost use Rattle.sp_io.specs.Outside.{SourceState, Rose};
 ghost use Rattle.sp_ports.specs.Giving.{given_by};
 ghost use Rattle.sp_intake.specs.declared.events.State.TheVariants.{Going};
 ghost use Rattle.sp_intake.specs.Coming.{IsReady};
+ghost use Rattle.sp_intake.specs.Reading.{is_end};
 ghost use Rattle.sp_intake.specs.Standing.{Gives, IsHungry, state_after, given_in};
 
 use crate::input::Stop;
@@ -46,6 +47,7 @@ pub(crate) fn answer(stop: Stop, stops: &mut u64) -> Next
     ensures rose { result ≡ Next.Stop → Rose stops.old stops.new }
     ensures never_falls { stops.old ≤ stops.new }
     ensures told { result ≢ Next.Memory }
+    ensures uncounted { is_end stop ≡ true → stops.new ≡ stops.old }
 {
     if stop.is_end() {
         return Next::End;

@@ -26,7 +26,7 @@ returns-in-Some-clause-all g c =
       gives = none_given (standing (g.S.Source.state first.source.now) first.events) (standing (g.S.Source.state last.source.now) last.events) c.loop.events.items c.next.result (end_gives_none c.next.result c.in-End.is)
           (c.next.ensures.given first c.loop.events.items c.loop.invariant.gives);
       given = refl;
-      stop = sym c.in-Some.ensures;
+      stop = sym c.in-Some.ensures.stop;
     }
 
 pub loop-preserved : goal.loop-preserved

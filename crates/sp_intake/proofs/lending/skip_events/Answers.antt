@@ -12,5 +12,5 @@ returns g c =
     let made = c.over-input.result in
     let last = c.skip.new.intake in
     let old = standing (g.S.Source.state made.source.now) made.events in
-    let from : ReadsFrom q before old = rw (c.over-input.ensures.events, c.over-input.ensures.source) (c.in_ok-new.ensures before c.requires.not_ended) in
-    so_far_at q before _ old (standing (g.S.Source.state last.source.now) last.events) c.stop-stop.result from c.skip.ensures.gave (search rules) c.stop-stop.ensures
+    let from : ReadsFrom q before old = rw (c.over-input.ensures.events, c.over-input.ensures.source) (c.in_ok-new.ensures.fresh before c.requires.not_ended) in
+    so_far_at q before _ old (standing (g.S.Source.state last.source.now) last.events) c.stop-stop.result from c.skip.ensures.gave (search rules) c.stop-stop.ensures.stop

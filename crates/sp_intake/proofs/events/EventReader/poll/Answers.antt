@@ -1,9 +1,25 @@
-use Rattle.std.proofs.Common.{[], ◌∷◌, List, sym, subst}
+use Rattle.std.proofs.Common.{◌≡◌, ◌<◌, ℕ, Bool, true, false, not, [], ◌∷◌, List, refl, sym, subst, ap, ◌∙◌, arith}
 use Rattle.sp_plan.specs.declared.event.Event.{Event}
 use Rattle.sp_intake.specs.declared.events.State.TheVariants.{Going, Stopped, Broken}
-use Rattle.sp_intake.specs.Standing.{Standing, Gives}
+use Rattle.sp_intake.specs.Reading.{is_end}
+use Rattle.sp_intake.specs.Standing.{Standing, Gives, is_halted}
 use Rattle.sp_intake.proofs.Since.{gives_going, gives_on}
 use Rattle.sp_intake.proofs.events.EventReader.poll.Goals as goal
+
+-- a count that rises only at a stop before the end stands above 0 only behind one
+halts : (at_end : Bool) (old new : ℕ) → (0 < old → not at_end ≡ true) → (at_end ≡ true → new ≡ old) → 0 < new → not at_end ≡ true
+halts true old new before same some = before (let is = same refl in omega (arith, some, is))
+halts false old new before same some = refl
+
+pub invariant_of-self-clause-halted : goal.invariant_of-self-clause-halted
+invariant_of-self-clause-halted c =
+    let is = c.in-Stopped.is in
+    λ some. ap is_halted is ∙ halts (is_end c.in-Stopped.stop) c.args.self.now.stops c.answer.new.stops (λ low. sym (ap is_halted is) ∙ c.args.self.now.halted low) c.answer.ensures.uncounted some
+
+pub invariant_of-self-in-Ok-Stop-clause-halted : goal.invariant_of-self-in-Ok-Stop-clause-halted
+invariant_of-self-in-Ok-Stop-clause-halted c some =
+    halts (is_end c.in-Ok-Stop.stop) c.args.self.now.stops c.answer-in-Ok-Stop.new.stops
+    (λ low. absurd (cc (sym (ap is_halted c.in-Going.is) ∙ c.args.self.now.halted low))) c.answer-in-Ok-Stop.ensures.uncounted some
 
 pub returns-in-Ok-Event-clause-gives : goal.returns-in-Ok-Event-clause-gives
 returns-in-Ok-Event-clause-gives c source =
