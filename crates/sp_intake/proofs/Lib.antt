@@ -1,4 +1,5 @@
 pub mod AllGiven
+pub mod FitReading
 pub mod Gave
 pub mod Growing
 pub mod Leading

@@ -4,6 +4,7 @@ mod Asked
 mod Chosen
 mod Commands
 mod Completing
+mod Driven
 mod LinesOf
 mod OneCommand
 mod OneOutcome

@@ -35,21 +35,21 @@ use Rattle.sp_top.specs.Trace.{OneRose}
 -- ---- a plan
 
 -- the status of a run whose lines were all written tells of neither memory nor the output
-not_cut : (stop : Stop) → (status_of stop ≡ Memory) ⊎ (status_of stop ≡ Write) → ⊥
+pub not_cut : (stop : Stop) → (status_of stop ≡ Memory) ⊎ (status_of stop ≡ Write) → ⊥
 not_cut End which = ⊎_elim (λ e. cc) (λ e. cc) which
 not_cut (Failed (Row code row column)) which = ⊎_elim (λ e. cc) (λ e. cc) which
 not_cut (Failed (Limit limit)) which = ⊎_elim (λ e. cc) (λ e. cc) which
 not_cut Open which = ⊎_elim (λ e. cc) (λ e. cc) which
 
 -- of a fault of the input only where the source failed
-only_open : (stop : Stop) → status_of stop ≡ Read → stop ≡ Open
+pub only_open : (stop : Stop) → status_of stop ≡ Read → stop ≡ Open
 only_open End is = cc
 only_open (Failed (Row code row column)) is = cc
 only_open (Failed (Limit limit)) is = cc
 only_open Open is = refl
 
 -- and of success only where the input has ended
-only_ended : (r : Reading) (ended : Bool) (stopped : Option Failure) → status_of (stop_or r ended stopped) ≡ Done → ended ≡ true
+pub only_ended : (r : Reading) (ended : Bool) (stopped : Option Failure) → status_of (stop_or r ended stopped) ≡ Done → ended ≡ true
 only_ended r ended (Some (Row code row column)) is = cc
 only_ended r ended (Some (Limit limit)) is = cc
 only_ended r true None is = refl

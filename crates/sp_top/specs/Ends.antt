@@ -1,5 +1,5 @@
 -- The status of each cause that ends a command.
-use Rattle.std.specs.Prelude.{ℕ, Bool, List}
+use Rattle.std.specs.Prelude.{ℕ, Bool, List, Option, Some, None}
 use Rattle.sp_plan.specs.declared.event.Event.{Event}
 use Rattle.sp_plan.specs.declared.plan.Plan.{Plan}
 use Rattle.sp_intake.specs.Reading.{read, stop_of}
@@ -7,11 +7,13 @@ use Rattle.sp_intake.specs.declared.input.Stop.{Stop}
 use Rattle.sp_intake.specs.declared.input.Stop.TheVariants.{End, Failed, Open}
 use Rattle.sp_intake.specs.declared.input.Failure.{Failure}
 use Rattle.sp_intake.specs.declared.input.Failure.TheVariants.{Row, Limit}
+use Rattle.sp_split.specs.declared.ended.Why.{Why}
+use Rattle.sp_split.specs.declared.ended.Why.TheVariants as why
 use Rattle.sp_load.specs.declared.refusal.Refusal.{Refusal}
 use Rattle.sp_load.specs.declared.refusal.Refusal.TheVariants as r
 use Rattle.sp_answer.specs.Outcome.{Outcome, outcome}
 use Rattle.sp_answer.specs.declared.status.Status.{Status}
-use Rattle.sp_answer.specs.declared.status.Status.TheVariants.{Done, Memory, Query, Input, Read, Limited}
+use Rattle.sp_answer.specs.declared.status.Status.TheVariants.{Done, Memory, Query, Input, Read, Write, Limited}
 
 abbrev pub status_of_failure : Failure → Status
 status_of_failure (Row code row column) = Input code row column
@@ -22,6 +24,15 @@ abbrev pub status_of : Stop → Status
 status_of End = Done
 status_of (Failed failure) = status_of_failure failure
 status_of Open = Read
+
+-- why a run of the machine ended, where its input gives no more for this reason; one that ended with the input is that of the stop
+abbrev pub status_of_end : Why → Option Stop → Status
+status_of_end why.Whole (Some stop) = status_of stop
+status_of_end why.Stopped (Some stop) = status_of stop
+status_of_end why.Whole None = Memory
+status_of_end why.Stopped None = Memory
+status_of_end why.Refused stop = Write
+status_of_end why.Memory stop = Memory
 
 -- why a file was not loaded, or why there is no plan
 abbrev pub status_of_refusal : Refusal → Status

@@ -6,6 +6,7 @@ mod choosing;
 mod command;
 mod ends;
 mod law;
+mod lines;
 mod options;
 mod output;
 mod plain;

@@ -1,20 +1,144 @@
-// The command `run`: a query over the input.
-ghost use Rattle.std.specs.Prelude.{◌≡◌, false};
+// The command `run`: a query over the input, by the speculative engine.
+ghost use Rattle.std.specs.Prelude.{◌≡◌, ◌≤◌, false, IfOk};
+ghost use Rattle.std.specs.Arc.{arc_value};
+ghost use Rattle.sp_io.specs.Outside.{SourceState};
+ghost use Rattle.sp_plan.specs.Compiled.{IsCompiled};
+ghost use Rattle.sp_core.specs.Running.{begun};
+ghost use Rattle.sp_intake.specs.Kept.{plan_in};
+ghost use Rattle.sp_intake.specs.Asked.{standing};
+ghost use Rattle.sp_intake.specs.Standing.{ReadsFrom};
 ghost use Rattle.sp_answer.specs.Outcome.{ending};
 ghost use Rattle.sp_answer.specs.Promise.{filed, Served};
-ghost use Rattle.sp_answer.specs.Ran.{outside};
+ghost use Rattle.sp_answer.specs.Ran.{outside, Ran};
 ghost use Rattle.sp_top.specs.Commands.{files_of, run_of};
+ghost use Rattle.sp_top.specs.Ends as ends;
 ghost use Rattle.sp_top.specs.Outcome.{CommandOutcome};
+ghost use Rattle.sp_top.specs.Run.{IsPlanRun};
 
 use crate::command::Run;
-use crate::plain::plain;
+use crate::ends::{status_of, status_of_refusal};
+use crate::lines::Lines;
+use crate::options::Speed;
+use crate::plain::shared;
 use sp_answer::Status;
 use sp_chance::Predictor;
+use sp_core::Core;
+use sp_intake::{EventReader, Input, Stop};
 use sp_io::{Files, Sink, Source};
+use sp_load::plan_at;
+use sp_plan::{Memory, Plan};
+use sp_split::{Why, drive};
+use sp_window::growth;
 use std::alloc::Global;
+use std::sync::Arc;
 
-/// Runs the query that stands there over the input. The predictor is of no use before the speculative
-/// engine stands.
+// The status of a run that ended so, where its input gives no more for this reason.
+fn status_of_end(why: Why, stop: Option<Stop>) -> Status
+    ensures { result ≡ ends.status_of_end why stop }
+{
+    match (why, stop) {
+        (Why::Whole | Why::Stopped, Some(stop)) => status_of(stop),
+        (Why::Refused, _) => Status::Write,
+        _ => Status::Memory,
+    }
+}
+
+// A core for the plan, before its first step.
+fn core_of(alloc: Global, plan: &Arc<Plan>, live: u32) -> Result<Core, Memory>
+    requires compiled { IsCompiled (arc_value plan.now) }
+    requires some { 1 ≤ live }
+    requires most { live ≤ 4096 }
+    ensures { IfOk result (λ core. core ≡ begun (arc_value plan.now) live) }
+{
+    Core::new(alloc, plan.clone()?, live)
+}
+
+// Drives a core from the input to the output.
+fn drive_core<S: Source, K: Sink>(
+    alloc: Global,
+    core: Core,
+    batch: u32,
+    predictor: Box<dyn Predictor>,
+    input: &mut Input<'_, S>,
+    lines: &mut Lines<'_, K>,
+) -> Status
+    requires fresh { core ≡ begun core.plan core.bound }
+    requires some { 1 ≤ batch }
+    requires most { batch ≤ 1024 }
+    requires compiled { IsCompiled core.plan }
+    requires plan_in { plan_in input.old.events.reader.kept ≡ core.plan }
+    requires unstopped { input.old.events.stops ≡ 0 }
+    requires plan_out { arc_value lines.old.plan ≡ core.plan }
+    ensures ran { (origin : SourceState)
+        → ReadsFrom core.plan origin (standing (S.state input.old.source.now) input.old.events)
+        → Ran (IsPlanRun core.plan)
+        (outside origin (K.state lines.old.out.now))
+        (outside (S.state input.new.source.now) (K.state lines.new.out.now))
+        (ending result) }
+    ensures same_in { input.new.source.ghost_name ≡ input.old.source.ghost_name }
+    ensures same_out { lines.new.out.ghost_name ≡ lines.old.out.ghost_name }
+{
+    // A law: while the input has not ended, the matches so far begin those of any longer input.
+    growth();
+    match drive(alloc, core, batch, predictor, input, lines) {
+        Ok(ended) => {
+            // It tells what every core keeps.
+            ended.core.finished();
+            status_of_end(ended.why, input.stop())
+        }
+        Err(_) => Status::Memory,
+    }
+}
+
+// Does nothing: the use of a reference that came back ties it to the one that was lent.
+fn take_back<T>(lent: &mut T)
+    ensures { lent.new ≡ lent.old }
+{}
+
+// Runs a plan over the input.
+fn run_plan<S: Source, K: Sink>(
+    alloc: Global,
+    plan: Plan,
+    speed: Speed,
+    predictor: Box<dyn Predictor>,
+    input: &mut S,
+    out: &mut K,
+) -> Status
+    requires compiled { IsCompiled plan }
+    requires live { (1 ≤ speed.live) × (speed.live ≤ 4096) }
+    requires batch { (1 ≤ speed.batch) × (speed.batch ≤ 1024) }
+    requires not_ended { (S.state input.old).ended ≡ false }
+    ensures { Ran (IsPlanRun plan)
+        (outside (S.state input.old) (K.state out.old))
+        (outside (S.state input.new) (K.state out.new))
+        (ending result) }
+{
+    let Ok(plan) = shared(alloc, plan) else {
+        return Status::Memory;
+    };
+    let Ok(core) = core_of(alloc, &plan, speed.live) else {
+        return Status::Memory;
+    };
+    let Ok(events) = EventReader::new(alloc, &plan) else {
+        return Status::Memory;
+    };
+    let mut reading = Input::over(input, events);
+    let taken = 0;
+    let mut lines = Lines { plan, out, taken };
+    let status = drive_core(
+        alloc,
+        core,
+        speed.batch,
+        predictor,
+        &mut reading,
+        &mut lines,
+    );
+    take_back(reading.into_source());
+    take_back(lines.into_sink());
+    status
+}
+
+/// Runs the query that stands there over the input, by the speculative engine.
 pub(crate) fn run<S: Source, F: Files, K: Sink>(
     alloc: Global,
     asked: Run,
@@ -23,6 +147,8 @@ pub(crate) fn run<S: Source, F: Files, K: Sink>(
     files: &mut F,
     out: &mut K,
 ) -> Status
+    requires live { (1 ≤ asked.speed.live) × (asked.speed.live ≤ 4096) }
+    requires batch { (1 ≤ asked.speed.batch) × (asked.speed.batch ≤ 1024) }
     requires not_ended { (S.state input.old).ended ≡ false }
     ensures { Served (files_of (run_of asked.entry)) (CommandOutcome (run_of asked.entry))
         (filed (F.held files.old) (F.faults files.old))
@@ -31,6 +157,8 @@ pub(crate) fn run<S: Source, F: Files, K: Sink>(
         (outside (S.state input.new) (K.state out.new))
         (ending result) }
 {
-    drop(predictor);
-    plain(alloc, asked.place, input, files, out)
+    match plan_at(alloc, asked.place, files) {
+        Ok(plan) => run_plan(alloc, plan, asked.speed, predictor, input, out),
+        Err(refusal) => status_of_refusal(refusal),
+    }
 }

@@ -19,6 +19,16 @@ trace-requires-clause-most g c κs within =
     let words = map string_bytes c.args.words.now in
     (bounded words (trace_of c.in-Some-Trace.one) (subst (λ (f : Command). IsCommand words (command_of f)) c.in-Some-Trace.field-0-is c.in-Some-Trace.ensures.some)).1
 
+pub run-requires-clause-live : goal.run-requires-clause-live
+run-requires-clause-live g c κs within =
+    let words = map string_bytes c.args.words.now in
+    (bounded words (run_of c.in-Some-Run.one) (subst (λ (f : Command). IsCommand words (command_of f)) c.in-Some-Run.field-0-is c.in-Some-Run.ensures.some)).0
+
+pub run-requires-clause-batch : goal.run-requires-clause-batch
+run-requires-clause-batch g c κs within =
+    let words = map string_bytes c.args.words.now in
+    (bounded words (run_of c.in-Some-Run.one) (subst (λ (f : Command). IsCommand words (command_of f)) c.in-Some-Run.field-0-is c.in-Some-Run.ensures.some)).1
+
 pub returns-in-Some : goal.returns-in-Some
 returns-in-Some g c =
     let words = map string_bytes c.args.words.now in

@@ -1,0 +1,300 @@
+-- A run of the machine over an input, as what is promised of a run.
+use Rattle.std.proofs.Common.{◌≡◌, ◌≢◌, ◌<◌, ◌≤◌, ◌+◌, ◌-◌, inl, inr, ⊎_elim, ℕ, zero, suc, Bool, true, false, List, [], ◌∷◌, ◌++◌, length, map, slice_get, Option, Some, None, refl, ap, arith, sym, subst, ◌∙◌, append_assoc}
+use Rattle.std.specs.List.{enumerate_from}
+use Rattle.std.proofs.lemmas.Grind.{flat_map-append}
+use Rattle.std.proofs.lemmas.List.{append-nil}
+use Rattle.std.specs.Prelude.{IfSome, not}
+use Rattle.sp_io.specs.Outside.{Told, SourceState, SinkState, Gave, Grew, GrewWithin, Rose}
+use Rattle.sp_plan.specs.declared.event.Event.{Event}
+use Rattle.sp_plan.specs.declared.found.Match.{Match}
+use Rattle.sp_plan.specs.declared.plan.Plan.{Plan}
+use Rattle.sp_plan.specs.Compiled.{IsCompiled}
+use Rattle.sp_plan.specs.Lines.{line, text}
+use Rattle.sp_plan.specs.Runs.{matched_runs, state}
+use Rattle.sp_plan.specs.Sequential.{seq, whole, match_of, visible, Grows}
+use Rattle.sp_plan.specs.WindowNumbers.{Good}
+use Rattle.sp_plan.specs.Windows.{closed, windows, IsWindowed}
+use Rattle.sp_intake.specs.Intake.{TakesNoFurther}
+use Rattle.sp_intake.specs.Reading.{read, stop_of, is_end}
+use Rattle.sp_intake.specs.Standing.{Standing, stop_in, is_whole, is_halted, ReadSoFar, Gives, ReadsFrom}
+use Rattle.sp_intake.specs.declared.events.State.{State}
+use Rattle.sp_intake.specs.declared.events.State.TheVariants.{Going, Stopped, Broken}
+use Rattle.sp_intake.proofs.FitReading.{read_fits}
+use Rattle.sp_intake.specs.declared.input.Stop.{Stop}
+use Rattle.sp_intake.specs.declared.input.Stop.TheVariants.{End, Failed, Open}
+use Rattle.sp_answer.specs.Outcome.{Ending, ending}
+use Rattle.sp_answer.specs.Ran.{Outside, outside, Ran}
+use Rattle.sp_answer.specs.declared.status.Status.{Status}
+use Rattle.sp_answer.specs.declared.status.Status.TheVariants.{Memory, Write}
+use Rattle.sp_answer.proofs.Grew.{within_more}
+use Rattle.sp_ports.specs.Taking.{OutletState}
+use Rattle.sp_group.specs.Machine.{Machine}
+use Rattle.sp_rules.specs.Schedules.{IsSequential}
+use Rattle.sp_core.specs.Running.{Running}
+use Rattle.sp_split.specs.declared.ended.Ended.{Ended}
+use Rattle.sp_split.specs.declared.ended.Why.{Why}
+use Rattle.sp_split.specs.declared.ended.Why.TheVariants as why
+use Rattle.sp_split.specs.Driving.{FailedWithin, Drove, FellShort}
+use Rattle.sp_top.specs.Ends.{status_of, status_of_end}
+use Rattle.sp_top.specs.Run.{run_outcome, windows_text, IsPlanRun}
+use Rattle.sp_top.proofs.Running.{no_further_reading, not_cut, only_open, only_ended}
+
+-- what grew by the front of a text grew by a front of more of it
+pub within_longer : (a b : Told) (xs more : List ℕ) → GrewWithin a xs b → GrewWithin a (xs ++ more) b
+within_longer a b xs more within =
+    (within.0, (within.1.0 ++ more, ap (λ (l : List ℕ). l ++ more) within.1.1 ∙ append_assoc within.0 within.1.0 more), within.2)
+
+pub text_parts : (q : Plan) (ms more : List Match) → text q (ms ++ more) ≡ text q ms ++ text q more
+text_parts q ms more = flat_map-append (line q) ms more
+
+module _ (q : Plan) where
+  -- later windows add matches behind
+  later : (events : List Event) (c k : ℕ) → (more : List Match) × ((seq q events (c + k)).matches ≡ (seq q events c).matches ++ more)
+  later events c zero = let same : c + 0 ≡ c = omega arith in ([], ap (λ (n : ℕ). (seq q events n).matches) same ∙ sym (append-nil (seq q events c).matches))
+  later events c (suc k) =
+      let same : c + suc k ≡ suc (c + k) = omega arith in
+      let rest = later events c k in
+      let prev = seq q events (c + k) in
+      let runs = matched_runs (state q (visible events prev.consumed (slice_get (windows q events false) (c + k)))) in
+      let new : List Match = map (match_of q (suc (c + k))) (enumerate_from (length prev.matches + 1) runs) in
+      (rest.0 ++ new, ap (λ (n : ℕ). (seq q events n).matches) same ∙ ap (λ (l : List Match). l ++ new) rest.1 ∙ append_assoc (seq q events c).matches rest.0 new)
+
+  begins_whole : (events : List Event) (n : ℕ) (ended : Bool) → n ≤ closed q events ended → (more : List Match) × ((whole q events ended).matches ≡ (seq q events n).matches ++ more)
+  begins_whole events n ended low =
+      let c = closed q events ended in
+      let rest = later events n (c - n) in
+      let cut : c ≡ n + (c - n) = omega arith in
+      (rest.0, ap (λ (m : ℕ). (seq q events m).matches) cut ∙ rest.1)
+
+  module _ (grows : Grows) (limits : IsWindowed q) (old new : Outside) (taken : List ℕ) (events more : List Event) (stop : Option Stop)
+      (gave : Gave old.input.left taken new.input.left) (no_further : TakesNoFurther q taken)
+      (are : (read q taken new.input.ended).events ≡ events ++ more)
+      (stopped : (s : Stop) → stop ≡ Some s → (events ≡ (read q taken new.input.ended).events) × (s ≡ stop_of (read q taken new.input.ended) new.input.ended))
+      (fault : stop ≡ Some Open → Rose old.input.faults new.input.faults) (told : old.input.faults < new.input.faults → stop ≡ Some Open)
+      (good : Good q (read q taken new.input.ended).events) where
+    abbrev whole_text : List ℕ
+    whole_text = (run_outcome q taken new.input.ended).text
+
+    text_is : (s : Stop) → stop ≡ Some s → windows_text q events s ≡ whole_text
+    text_is s is = λ i. windows_text q ((stopped s is).0 i) ((stopped s is).1 i)
+
+    -- the windows that are finished over the events that were given come first in what all that was read comes to
+    begins : (n : ℕ) (ended : Bool) → n ≤ closed q events ended → (ended ≡ true → stop ≡ Some End) → (rest : List ℕ) × (whole_text ≡ text q (seq q events n).matches ++ rest)
+    begins n true low at_end =
+        let rest = begins_whole events n true low in
+        (text q rest.0, sym (text_is End (at_end refl)) ∙ ap (text q) rest.1 ∙ text_parts q (seq q events n).matches rest.0)
+    begins n false low at_end =
+        let s = stop_of (read q taken new.input.ended) new.input.ended in
+        let all : Good q (events ++ more) = subst (Good q) are good in
+        let rest = begins_whole events n false low in
+        let later = grows q events more (is_end s) limits all.0 all.1 in
+        let matches = ap (λ (l : List Event). (whole q l (is_end s)).matches) are ∙ later.1 ∙ ap (λ (l : List Match). l ++ later.0) rest.1 ∙ append_assoc (seq q events n).matches rest.0 later.0 in
+        (text q (rest.0 ++ later.0), ap (text q) matches ∙ text_parts q (seq q events n).matches (rest.0 ++ later.0))
+
+    -- all windows that the events closed are finished, and their text was written
+    pub done : (s : Stop) (t : Status) → stop ≡ Some s → t ≡ status_of s → Grew old.out.held (windows_text q events s) new.out.held → new.out.faults ≡ old.out.faults → Ran (IsPlanRun q) old new (ending t)
+    done s t is status grew no_fault =
+        let stop_is = (stopped s is).1 in
+        let r = read q taken new.input.ended in
+        record {
+          taken = taken;
+          outcome = run_outcome q taken new.input.ended;
+          gave = gave;
+          is = refl;
+          no_further = no_further_reading (windows_text) q taken no_further;
+          exact = λ _ _. (ap ending (status ∙ ap status_of stop_is), subst (λ (xs : List ℕ). Grew old.out.held xs new.out.held) (text_is s is) grew);
+          cut_off = λ which. absurd (not_cut s (⊎_elim (λ e. inl (sym status ∙ e)) (λ e. inr (sym status ∙ e)) which));
+          read_whole = λ e. only_ended r new.input.ended r.stopped (sym (ap status_of stop_is) ∙ sym status ∙ e);
+          read_fault = λ e. fault (is ∙ ap Some (only_open s (sym status ∙ e)));
+          write_fault = λ e. absurd (not_cut s (inr (sym status ∙ e)));
+          read_told = λ rose. inl (status ∙ ap status_of (some_is s Open (sym is ∙ told rose)));
+          write_told = λ rose. absurd (omega (arith, rose, no_fault));
+        }
+      where
+        some_is : (x y : Stop) → Some x ≡ Some y → x ≡ y
+        some_is x y same = cc
+
+    module _ (n : ℕ) (ended : Bool) (low : n ≤ closed q events ended) (at_end : ended ≡ true → stop ≡ Some End) where
+      within_whole : GrewWithin old.out.held (text q (seq q events n).matches) new.out.held → GrewWithin old.out.held whole_text new.out.held
+      within_whole within =
+          let rest = begins n ended low at_end in
+          subst (λ (xs : List ℕ). GrewWithin old.out.held xs new.out.held) (sym rest.1) (within_longer old.out.held new.out.held (text q (seq q events n).matches) rest.0 within)
+
+      -- the output failed
+      pub refused : GrewWithin old.out.held (text q (seq q events n).matches) new.out.held → Rose old.out.faults new.out.faults → text q (seq q events n).matches ≢ [] → Ran (IsPlanRun q) old new (ending Write)
+      refused within rose some =
+          let rest = begins n ended low at_end in
+          record {
+            taken = taken;
+            outcome = run_outcome q taken new.input.ended;
+            gave = gave;
+            is = refl;
+            no_further = no_further_reading (windows_text) q taken no_further;
+            exact = λ _ other. absurd (other refl);
+            cut_off = λ _. (refl, within_whole within);
+            read_whole = λ e. cc;
+            read_fault = λ e. cc;
+            write_fault = λ _. (rose, λ none. not_nil (text q (seq q events n).matches) rest.0 some (sym rest.1 ∙ none));
+            read_told = λ _. inr (inl refl);
+            write_told = λ _. inl refl;
+          }
+        where
+          not_nil : (xs ys : List ℕ) → xs ≢ [] → xs ++ ys ≢ []
+          not_nil [] ys some none = some refl
+          not_nil (x ∷ xs) ys some none = cc
+
+      -- memory ran out
+      pub short : GrewWithin old.out.held (text q (seq q events n).matches) new.out.held → Ran (IsPlanRun q) old new (ending Memory)
+      short within = record {
+        taken = taken;
+        outcome = run_outcome q taken new.input.ended;
+        gave = gave;
+        is = refl;
+        no_further = no_further_reading (windows_text) q taken no_further;
+        exact = λ other _. absurd (other refl);
+        cut_off = λ _. (refl, within_whole within);
+        read_whole = λ e. cc;
+        read_fault = λ e. cc;
+        write_fault = λ e. cc;
+        read_told = λ _. inr (inr refl);
+        write_told = λ _. inr refl;
+      }
+
+-- an outlet that failed at a match wrote a front of the lines, and there is one
+module _ (q : Plan) (matches : List Match) (old new : OutletState) (f : FailedWithin q matches old new) where
+  lines_are : text q matches ≡ text q f.first ++ (line q f.found ++ text q f.others)
+  lines_are = ap (text q) f.are ∙ text_parts q f.first (f.found ∷ f.others)
+
+  pub failed_within : GrewWithin old.held (text q matches) new.held
+  failed_within =
+      subst (λ (l : List ℕ). GrewWithin old.held l new.held) (sym lines_are)
+      (within_more old.held f.failed.between.held new.held (text q f.first) (line q f.found) (text q f.others) f.failed.took.lines f.failed.front)
+
+  pub failed_some : text q matches ≢ []
+  failed_some none = ends (line q f.found) (text q f.first) (text q f.others) (λ is. cc) (sym lines_are ∙ none)
+    where
+      ends : (own xs more : List ℕ) → own ≢ [] → xs ++ (own ++ more) ≡ [] → ⊥
+      ends [] [] more some is_nil = some refl
+      ends (b ∷ own) [] more some is_nil = cc
+      ends own (x ∷ xs) more some is_nil = cc
+
+-- ---- an input that was driven through a core
+
+-- a sink as an outlet, which took so many matches
+abbrev pub outlet : SinkState → ℕ → OutletState
+outlet s taken = record { held = s.held; taken = taken; faults = s.faults }
+
+-- an input that was read to its end stopped there
+whole_end : (o : Option Stop) → is_whole o ≡ true → o ≡ Some End
+whole_end None is = absurd (cc is)
+whole_end (Some End) is = refl
+whole_end (Some (Failed failure)) is = absurd (cc is)
+whole_end (Some Open) is = absurd (cc is)
+
+-- a fact of an optional value, where it is there
+if_some : {X : Type 0} (P : X → Type 0) (o : Option X) (x : X) → IfSome o P → o ≡ Some x → P x
+if_some P None x holds is = absurd (cc is)
+if_some P (Some y) x holds is = let same : y ≡ x = cc is in subst P same holds
+
+module _ (q : Plan) (grows : Grows) (compiled : IsCompiled q) (origin : SourceState) (last : Standing) (events : List Event) (so_far : ReadSoFar q origin last.source events (stop_in last.state))
+    (before after : SinkState) where
+  abbrev stop_now : Option Stop
+  stop_now = stop_in last.state
+
+  good_whole : Good q (read q so_far.taken last.source.ended).events
+  good_whole = let fits = read_fits q compiled.time so_far.taken last.source.ended in (fits.fit, fits.ordered)
+
+  stopped_at : (s : Stop) → stop_now ≡ Some s → (events ≡ (read q so_far.taken last.source.ended).events) × (s ≡ stop_of (read q so_far.taken last.source.ended) last.source.ended)
+  stopped_at s is = (
+    if_some (λ _. events ≡ (read q so_far.taken last.source.ended).events) stop_now s so_far.has.all is,
+    if_some (λ stop. stop ≡ stop_of (read q so_far.taken last.source.ended) last.source.ended) stop_now s so_far.has.stop is,
+  )
+
+  module _ (n : ℕ) (ended : Bool) (low : n ≤ closed q events ended) (at_end : ended ≡ true → is_whole stop_now ≡ true) where
+    -- the output failed, or memory ran out, with the first lines written
+    pub ran_refused : GrewWithin before.held (text q (seq q events n).matches) after.held → Rose before.faults after.faults → text q (seq q events n).matches ≢ []
+        → Ran (IsPlanRun q) (outside origin before) (outside last.source after) (ending Write)
+    ran_refused = refused q grows compiled.windowed (outside origin before) (outside last.source after) so_far.taken events so_far.has.front.0 stop_now
+        so_far.has.gave so_far.has.no_further so_far.has.front.1 stopped_at so_far.has.fault so_far.has.told good_whole n ended low (λ e. whole_end stop_now (at_end e))
+
+    pub ran_short : GrewWithin before.held (text q (seq q events n).matches) after.held → Ran (IsPlanRun q) (outside origin before) (outside last.source after) (ending Memory)
+    ran_short = short q grows compiled.windowed (outside origin before) (outside last.source after) so_far.taken events so_far.has.front.0 stop_now
+        so_far.has.gave so_far.has.no_further so_far.has.front.1 stopped_at so_far.has.fault so_far.has.told good_whole n ended low (λ e. whole_end stop_now (at_end e))
+
+  -- all windows that the events closed are finished
+  pub ran_done : (s : Stop) (n : ℕ) (ended : Bool) → stop_now ≡ Some s → is_end s ≡ ended → n ≡ closed q events ended
+      → Grew before.held (text q (seq q events n).matches) after.held → after.faults ≡ before.faults
+      → Ran (IsPlanRun q) (outside origin before) (outside last.source after) (ending (status_of s))
+  ran_done s n ended is end all grew no_fault =
+      let whole_is : text q (seq q events n).matches ≡ windows_text q events s = ap (λ (k : ℕ). text q (seq q events k).matches) (all ∙ ap (closed q events) (sym end)) in
+      done q grows compiled.windowed (outside origin before) (outside last.source after) so_far.taken events so_far.has.front.0 stop_now
+      so_far.has.gave so_far.has.no_further so_far.has.front.1 stopped_at so_far.has.fault so_far.has.told good_whole s (status_of s) is refl
+      (subst (λ (l : List ℕ). Grew before.held l after.held) whole_is grew) no_fault
+
+-- an input that stopped before its end stopped for another reason
+not_true : (b : Bool) → not b ≡ true → b ≡ false
+not_true true is = absurd (cc is)
+not_true false is = refl
+
+halted_at : (state : State) → is_halted state ≡ true → (s : Stop) × (stop_in state ≡ Some s) × (is_end s ≡ false)
+halted_at Going is = absurd (cc is)
+halted_at (Stopped s) is = (s, refl, not_true (is_end s) is)
+halted_at Broken is = absurd (cc is)
+
+pub halts : (state : State) (old new : ℕ) → (0 < new → is_halted state ≡ true) → Rose old new → (s : Stop) × (stop_in state ≡ Some s) × (is_end s ≡ false)
+halts state old new halted (inl less) = halted_at state (halted (omega (arith, less)))
+halts state old new halted (inr full) = halted_at state (halted (omega (arith, full)))
+
+-- What a run of a core ended with is what is promised of the run, by why it ended.
+module _ (c : Running) (grows : Grows) (compiled : IsCompiled c.plan) (origin : SourceState) (first last : Standing) (reads : ReadsFrom c.plan origin first)
+    (stopped : Type 0) where
+  module _ (halted : stopped → (s : Stop) × (stop_in last.state ≡ Some s) × (is_end s ≡ false)) (before after : SinkState) (t u : ℕ) (end : Ended) (drove : Drove (λ events. Gives first events last) (is_whole (stop_in last.state)) stopped c (outlet before t) (outlet after u) end)
+      (kept : IsSequential end.core.plan end.core.machine) where
+    abbrev m : Machine
+    m = end.core.machine
+
+    sequential : IsSequential c.plan m
+    sequential = subst (λ (q : Plan). IsSequential q m) drove.plan kept
+
+    so_far : ReadSoFar c.plan origin last.source m.events (stop_in last.state)
+    so_far = reads m.events last drove.given
+
+    emitted_are : text c.plan m.emitted ≡ text c.plan (seq c.plan m.events m.finished).matches
+    emitted_are = ap (text c.plan) sequential.emitted
+
+    ended_by : (w : Why) → end.why ≡ w → Ran (IsPlanRun c.plan) (outside origin before) (outside last.source after) (ending (status_of_end w (stop_in last.state)))
+    ended_by why.Whole is =
+        let ended = drove.whole_input is in
+        let all = drove.finished (inl is) in
+        let at_end = whole_end (stop_in last.state) (drove.ends ended) in
+        subst (λ (o : Option Stop). Ran (IsPlanRun c.plan) (outside origin before) (outside last.source after) (ending (status_of_end why.Whole o))) (sym at_end)
+        (ran_done c.plan grows compiled origin last m.events so_far before after End m.finished m.ended at_end (sym ended) all.0
+        (subst (λ (l : List ℕ). Grew before.held l after.held) emitted_are all.1.lines) (drove.no_fault (λ other. absurd (cc (is, other)))))
+    ended_by why.Stopped is =
+        let stop = drove.stop is in
+        let all = drove.finished (inr is) in
+        let at = halted stop.0 in
+        subst (λ (o : Option Stop). Ran (IsPlanRun c.plan) (outside origin before) (outside last.source after) (ending (status_of_end why.Stopped o))) (sym at.1)
+        (ran_done c.plan grows compiled origin last m.events so_far before after at.0 m.finished m.ended at.1 (at.2 ∙ sym stop.1) all.0
+        (subst (λ (l : List ℕ). Grew before.held l after.held) emitted_are all.1.lines) (drove.no_fault (λ other. absurd (cc (is, other)))))
+    ended_by why.Refused is =
+        let failed = drove.refused is in
+        ran_refused c.plan grows compiled origin last m.events so_far before after m.finished m.ended sequential.finished drove.ends
+        (subst (λ (l : List ℕ). GrewWithin before.held l after.held) emitted_are (failed_within c.plan m.emitted (outlet before t) (outlet after u) failed.1)) failed.0
+        (subst (λ (l : List ℕ). l ≢ []) emitted_are (failed_some c.plan m.emitted (outlet before t) (outlet after u) failed.1))
+    ended_by why.Memory is =
+        ran_short c.plan grows compiled origin last m.events so_far before after m.finished m.ended sequential.finished drove.ends
+        (subst (λ (l : List ℕ). GrewWithin before.held l after.held) emitted_are (drove.short is).within)
+
+    pub ended_ran : Ran (IsPlanRun c.plan) (outside origin before) (outside last.source after) (ending (status_of_end end.why (stop_in last.state)))
+    ended_ran = ended_by end.why refl
+
+  -- memory ran out, and the core is gone
+  pub fell_short : (before after : SinkState) (t u : ℕ) → FellShort (λ events. Gives first events last) (is_whole (stop_in last.state)) c.plan (outlet before t) (outlet after u)
+      → Ran (IsPlanRun c.plan) (outside origin before) (outside last.source after) (ending Memory)
+  fell_short before after t u short =
+      ran_short c.plan grows compiled origin last short.events (reads short.events last short.given) before after (closed c.plan short.events short.input_ended) short.input_ended (omega arith) short.ends short.took.within
+
+-- a run of a plan is one of the same plan, over the same states
+pub as_run : (q p : Plan) → p ≡ q → (old : Outside) (s t : SourceState) (k l : SinkState) (end : Ending) → s ≡ t → k ≡ l → Ran (IsPlanRun p) old (outside s k) end → Ran (IsPlanRun q) old (outside t l) end
+as_run q p same old s t k l end source sink ran = rw (sym source, sym sink, sym same) ran
