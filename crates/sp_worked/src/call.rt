@@ -1,5 +1,6 @@
 ghost use Rattle.std.specs.Prelude.{◌≡◌, ◌<◌};
 
+use crate::hostile::{Fickle, Greatest, Zero};
 use sp_chance::{Even, Markov, Predictor, Steady};
 use sp_io::{MemFiles, MemSink, MemSource};
 use sp_top::spectre;
@@ -87,6 +88,9 @@ impl Call {
         predictors.push(Box::new(alloc, Even::new())?)?;
         predictors.push(Box::new(alloc, Steady::new(STEADY))?)?;
         predictors.push(Box::new(alloc, Markov::new(alloc)?)?)?;
+        predictors.push(Box::new(alloc, Zero)?)?;
+        predictors.push(Box::new(alloc, Greatest)?)?;
+        predictors.push(Box::new(alloc, Fickle { learned: 0 })?)?;
         let mut out = MemSink::new(alloc, self.write_fails, ROOM)?;
         let mut err = MemSink::new(alloc, self.tell_fails, ROOM)?;
         let mut input = MemSource::new(self.input, self.piece.max(1), self.read_fails);

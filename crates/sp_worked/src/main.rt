@@ -6,6 +6,7 @@
 mod call;
 mod escapes;
 mod fault;
+mod hostile;
 mod key;
 mod line;
 mod reader;
