@@ -42,7 +42,7 @@ fn run<I: Intake, O: Outlet>(
         core.finished();
         finished_windows_stay();
         let fed = feed(alloc, core, batch, intake)?;
-        match work_off(alloc, core, batch, predictor, outlet) {
+        match work_off(alloc, core, predictor, outlet) {
             Ok(()) => {}
             Err(OutFault::Failed) => return Ok(Why::Refused),
             Err(OutFault::Memory) => return Ok(Why::Memory),

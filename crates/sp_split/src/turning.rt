@@ -15,6 +15,10 @@ use sp_piece::Piece;
 use sp_window::closed_come_first;
 use std::alloc::{AllocError, Global};
 
+// The most events that a lease may ask for. A root that stands alone reads all that is there: each lease copies
+// the open runs, and nobody waits for a smaller one.
+const MOST_LENT: u32 = 1_024;
+
 /// What a turn came to.
 #[derive(Drop)]
 pub(crate) enum Turn {
@@ -59,16 +63,13 @@ fn bring_home(alloc: Global, core: &mut Core, piece: Piece) -> Result<(), Memory
     }
 }
 
-// The root, which is not done, reads the next events of its window, at most `batch`.
+// The root, which is not done, reads the next events of its window, up to 1,024.
 fn read_on(
     alloc: Global,
     core: &mut Core,
     root: u64,
-    batch: u32,
     predictor: &mut dyn Predictor,
 ) -> Result<Turn, Memory>
-    requires some { 1 ≤ batch }
-    requires most { batch ≤ 1024 }
     requires none_out { core.old.machine.tickets ≡ [] }
     requires root { (v : Version) × (root_in core.old.machine.versions ≡ Some v) × (v.id ≡ root) }
     requires undone { IsSome (refused core.old s.Finish) }
@@ -79,7 +80,7 @@ fn read_on(
     core.plan();
     core.finished();
     closed_come_first();
-    let job = match core.lease(alloc, root, batch) {
+    let job = match core.lease(alloc, root, MOST_LENT) {
         Ok(job) => job,
         Err(CoreFault::Refused(_)) => return Ok(Turn::Idle),
         Err(CoreFault::Memory) => return Err(AllocError),
@@ -92,15 +93,12 @@ fn read_on(
 }
 
 /// One turn of the root: it is finished where it is done, and else reads on; where there is none, the next
-/// window's is made. At most `batch` events are read.
+/// window's is made.
 pub(crate) fn take_turn(
     alloc: Global,
     core: &mut Core,
-    batch: u32,
     predictor: &mut dyn Predictor,
 ) -> Result<Turn, Memory>
-    requires some { 1 ≤ batch }
-    requires most { batch ≤ 1024 }
     requires none_out { core.old.machine.tickets ≡ [] }
     ensures turned { IfOk result (Turned core.old core.new) }
     ensures err { OnErr result (CutOff core.old core.new) }
@@ -110,6 +108,6 @@ pub(crate) fn take_turn(
     };
     match core.finish() {
         Ok(emitted) => Ok(Turn::Finished(emitted)),
-        Err(_) => read_on(alloc, core, root, batch, predictor),
+        Err(_) => read_on(alloc, core, root, predictor),
     }
 }

@@ -15,12 +15,9 @@ use std::alloc::{AllocError, Global};
 fn work_once<O: Outlet>(
     alloc: Global,
     core: &mut Core,
-    batch: u32,
     predictor: &mut dyn Predictor,
     outlet: &mut O,
 ) -> Result<bool, OutFault>
-    requires some { 1 ≤ batch }
-    requires most { batch ≤ 1024 }
     requires none_out { core.old.machine.tickets ≡ [] }
     requires plan { O.plan outlet.old ≡ core.old.plan }
     ensures done { IfOk result (WorkedOff core.old core.new
@@ -33,7 +30,7 @@ fn work_once<O: Outlet>(
     ensures no_fault { result ≢ Err o.Failed → (O.state outlet.new).faults ≡ (O.state outlet.old).faults }
     ensures same { (O.plan outlet.new ≡ O.plan outlet.old) × (O.token outlet.new ≡ O.token outlet.old) }
 {
-    match take_turn(alloc, core, batch, predictor) {
+    match take_turn(alloc, core, predictor) {
         Ok(Turn::Idle) => Ok(false),
         Ok(Turn::Worked) => Ok(true),
         Ok(Turn::Finished(emitted)) => {
@@ -45,16 +42,13 @@ fn work_once<O: Outlet>(
 }
 
 /// Works until nothing is left to do, turn by turn, and puts the matches of each window as it is finished, up to
-/// the first one that the outlet doesn't take. At most `batch` events are read in a turn.
+/// the first one that the outlet doesn't take.
 pub(crate) fn work_off<O: Outlet>(
     alloc: Global,
     core: &mut Core,
-    batch: u32,
     predictor: &mut dyn Predictor,
     outlet: &mut O,
 ) -> Result<(), OutFault>
-    requires some { 1 ≤ batch }
-    requires most { batch ≤ 1024 }
     requires none_out { core.old.machine.tickets ≡ [] }
     requires plan { O.plan outlet.old ≡ core.old.plan }
     ensures done { OnOk result (WorkedOff core.old core.new
@@ -68,7 +62,7 @@ pub(crate) fn work_off<O: Outlet>(
     ensures same { (O.plan outlet.new ≡ O.plan outlet.old) × (O.token outlet.new ≡ O.token outlet.old) }
 {
     for _ in 0..u64::MAX {
-        if !work_once(alloc, core, batch, predictor, outlet)? {
+        if !work_once(alloc, core, predictor, outlet)? {
             return Ok(());
         }
     }
