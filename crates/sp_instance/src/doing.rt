@@ -3,12 +3,21 @@ ghost use Rattle.sp_piece.specs.Pieced.{begun};
 ghost use Rattle.sp_instance.specs.Doing.{IsDone, IsWhole};
 
 use crate::{Gate, Memory};
+use sp_hub::{Naming, Seat};
 use sp_piece::{Job, Piece, Stepped};
 use std::alloc::{AllocError, Global};
 
-/// Does a job at the seat of this number, inside the gate: reads all that it lends. Where memory is refused
-/// the piece is given up, with what it has read.
-pub fn do_job<G: Gate>(alloc: Global, gate: &G, seat: u32, job: Job) -> Piece
+/// Does a job at a seat, inside the gate: reads all that it lends. Where memory is refused the piece is given
+/// up, with what it has read.
+pub fn do_job<L: Naming, G: Gate>(alloc: Global, seat: &Seat<Piece, L>, job: Job, gate: &G) -> Piece
+    ensures job { result.job ≡ job }
+    ensures done { IsDone result }
+{
+    do_job_at(alloc, seat.number(), job, gate)
+}
+
+/// The same at the seat of this number.
+pub(crate) fn do_job_at<G: Gate>(alloc: Global, seat: u32, job: Job, gate: &G) -> Piece
     ensures job { result.job ≡ job }
     ensures done { IsDone result }
 {

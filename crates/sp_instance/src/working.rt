@@ -3,7 +3,8 @@ ghost use Rattle.std.specs.List.{All};
 ghost use Rattle.sp_instance.specs.Doing.{Worked};
 ghost use Rattle.sp_instance.specs.Seats.{PutAll};
 
-use crate::{Gate, Memory, Seated, Workplace, do_job};
+use crate::doing::do_job_at;
+use crate::{Gate, Memory, Seated, Workplace};
 use sp_hub::{Hub, Naming, Seat, Taken};
 use sp_piece::{Job, Piece};
 use std::alloc::Global;
@@ -23,7 +24,7 @@ pub fn work_at<W: Workplace, G: Gate, R: Wait>(rt: &R, alloc: Global, place: &mu
     for _ in rt.forever() {
         match place.take() {
             Taken::Job(job) => {
-                let piece = do_job(alloc, gate, place.number(), job);
+                let piece = do_job_at(alloc, place.number(), job, gate);
                 place.put(piece);
             }
             Taken::Empty => place.wait(),

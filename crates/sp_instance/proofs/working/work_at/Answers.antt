@@ -12,7 +12,7 @@ loop-preserved-in-Job g c = (
   tt,
   tt,
   c.put.ensures.free,
-  one_more _ _ c.in-Job.job c.do_job-piece.result
+  one_more _ _ c.in-Job.job c.do_job_at-piece.result
       (λ (jobs : List Job) (pieces : List Pieced) did. c.put.ensures.did _ _ _ (c.in-Job.ensures.did _ _ _ did))
-      c.do_job-piece.ensures.job c.do_job-piece.ensures.done c.loop.invariant.3,
+      c.do_job_at-piece.ensures.job c.do_job_at-piece.ensures.done c.loop.invariant.3,
 )
