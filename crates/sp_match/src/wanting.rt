@@ -68,6 +68,8 @@ pub(crate) fn want_after(
     ensures { OnOk result (wanted.new.items
         ≡ wanted_all plan.now lefts.now (take (length lefts.now) (all_kept runs.now))) }
 {
+    // Each of the runs may have a pair: the room is made once.
+    wanted.reserve(lefts.len())?;
     for (at, before) in lefts.iter().enumerate() {
         want_one(plan, *before, &runs[at], wanted)?;
     }
