@@ -1,0 +1,12 @@
+pub mod Conflicts
+pub mod CalmRoll
+pub mod CalmSteps
+pub mod CalmFinish
+pub mod CalmStays
+pub mod GuessesStay
+pub mod LiveTickets
+pub mod OutCounted
+pub mod Ready
+pub mod BusyCounted
+pub mod Growing
+pub mod Followed

@@ -1,0 +1,6 @@
+pub mod Calm
+pub mod Counting
+pub mod Guessing
+pub mod Journaled
+pub mod Spreading
+pub mod Laws
