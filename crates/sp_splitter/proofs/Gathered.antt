@@ -1,0 +1,93 @@
+-- What comes of pieces that are given back.
+use Rattle.std.proofs.Common.{◌≡◌, ℕ, ◌+◌, ◌≤◌, Some, refl, ap, ◌∙◌, arith}
+use Rattle.sp_hub.specs.Calls.{collects}
+use Rattle.sp_hub.specs.State.{Posting}
+use Rattle.sp_group.specs.declared.step.Step.TheVariants as s
+use Rattle.sp_rules.specs.Returning.{readings}
+use Rattle.sp_piece.specs.Pieced.{Pieced}
+use Rattle.sp_core.specs.declared.given.Given.{Given}
+use Rattle.sp_core.specs.declared.given.Given.TheVariants as g
+use Rattle.sp_core.specs.Returning.{IsGiven, after_return}
+use Rattle.sp_core.specs.Running.{IsDone, Running}
+use Rattle.sp_spread.specs.Journaled.{readings_entered}
+use Rattle.sp_splitter.specs.Knowing.{Known}
+use Rattle.sp_splitter.specs.Stages.{Collected, Goes, NoneEmitted, ReadByCalls, Went}
+use Rattle.sp_splitter.proofs.Stepping.{back_done, goes_back, goes_homecoming, goes_none, goes_then, none_emitted_back, none_emitted_homecoming, none_read_back, one_read, went_back, went_homecoming, went_none, went_then}
+
+-- a piece was given back, or nothing was done
+pub record Brings (old new : Running) : Type 0 where
+  pub went : (n : ℕ) → Went n old new
+  pub goes : (n : ℕ) → Goes n old new
+  pub emitted : NoneEmitted old new
+  pub read : readings_entered new.journal ≤ readings_entered old.journal + 1
+
+pub brings_none : (old new : Running) → new ≡ old → Brings old new
+brings_none old new same =
+    let read : readings_entered new.journal ≡ readings_entered old.journal = ap (λ (z : Running). readings_entered z.journal) same in
+    record {
+      went = λ n. went_none n old new same;
+      goes = λ n. goes_none n old new same;
+      emitted = ap (λ (z : Running). z.machine.emitted) same;
+      read = omega arith;
+    }
+
+brings_back : (number : ℕ) (old new : Running) → Known old → IsDone (s.Return number) old new → Brings old new
+brings_back number old new known done =
+    let read = none_read_back number old new done in
+    record {
+      went = λ n. went_back n number old new known done;
+      goes = λ n. goes_back n number old new known done;
+      emitted = none_emitted_back number old new done;
+      read = omega arith;
+    }
+
+brings_home : (number times : ℕ) (old new : Running) → Known old → new ≡ after_return old number times → Brings old new
+brings_home number times old new known is = record {
+  went = λ n. went_homecoming n number times old new known is;
+  goes = λ n. goes_homecoming n number times old new known is;
+  emitted = none_emitted_homecoming number times old new is;
+  read = one_read number times old new is;
+}
+
+pub brings_given : (old new : Running) (p : Pieced) (given : Given) → Known old → IsGiven old new p given → Brings old new
+brings_given old new p g.Home known (t, v, out, carries, is) = brings_home p.job.ticket (readings p.read p.closed) old new known is
+brings_given old new p (g.Stale id) known (t, out, of, gone, is) = brings_back p.job.ticket old new known (back_done p.job.ticket t old new out is)
+brings_given old new p (g.NotOut n) known (number, out, is) = brings_none old new is
+brings_given old new p (g.Differs lent back) known (t, v, out, carries, was, is, same) =
+    brings_back p.job.ticket old new known (back_done p.job.ticket t old new out.out same)
+
+-- pieces were collected and given back, one after another
+pub record Gathers (old new : Running) (before after : Posting) : Type 0 where
+  pub went : (n : ℕ) → Went n old new
+  pub goes : (n : ℕ) → Goes n old new
+  pub emitted : NoneEmitted old new
+  pub read : ReadByCalls old new before after
+  pub by : Collected before after
+
+pub gathers_none : (c : Running) (by : Posting) → Gathers c c by by
+gathers_none c by = record {
+  went = λ n. went_none n c c refl;
+  goes = λ n. goes_none n c c refl;
+  emitted = refl;
+  read = omega arith;
+  by = record { last = refl; room = refl; closed = refl };
+}
+
+-- one more
+pub gathers_then : {P : Type 0} (a b c : Running) (first second third : Posting) (piece : P) → Gathers a b first second → Brings b c → third ≡ collects second (Some piece)
+    → Gathers a c first third
+gathers_then a b c first second third piece all one is =
+    let call : third.calls ≡ second.calls + 1 = ap (λ (z : Posting). z.calls) is in
+    let read = all.read in
+    let more = one.read in
+    record {
+      went = λ n. went_then n a b c (all.goes n) (all.went n) (one.went n);
+      goes = λ n. goes_then n a b c (all.goes n) (one.goes n);
+      emitted = one.emitted ∙ all.emitted;
+      read = omega arith;
+      by = record {
+        last = ap (λ (z : Posting). z.last) is ∙ all.by.last;
+        room = ap (λ (z : Posting). z.room) is ∙ all.by.room;
+        closed = ap (λ (z : Posting). z.closed) is ∙ all.by.closed;
+      };
+    }

@@ -1,0 +1,14 @@
+use Rattle.std.proofs.Common.{◌≡◌, ℕ, ◌++◌}
+use Rattle.sp_spread.specs.Calm.{AreCalm}
+use Rattle.sp_splitter.specs.Stages.{Goes, NoneRead, Went, matches_of}
+use Rattle.sp_splitter.proofs.finishing.finish_all.Given as goal
+
+-- what was emitted so far
+abbrev pub invariant-loop : goal.invariant-loop
+invariant-loop l = record {
+  went : (n : ℕ) → Went n l.fn.core l.core;
+  goes : (n : ℕ) → Goes n l.fn.core l.core;
+  emitted : l.core.machine.emitted ≡ l.fn.core.machine.emitted ++ matches_of l.all.items;
+  read : NoneRead l.fn.core l.core;
+  calm : AreCalm l.core.plan l.core.machine;
+}

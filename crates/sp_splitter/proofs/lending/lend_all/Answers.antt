@@ -1,0 +1,52 @@
+use Rattle.std.proofs.Common.{ℕ, List, take, get_or, sym, ap, subst, arith}
+use Rattle.std.proofs.lemmas.List.{take_all, take_more}
+use Rattle.sp_group.specs.declared.step.Step.TheVariants as s
+use Rattle.sp_core.specs.Running.{IsDone, Running}
+use Rattle.sp_splitter.specs.Lending.{Lends}
+use Rattle.sp_splitter.proofs.Leasing.{below_after, kept_more, lends_itself, lends_more, next_passes}
+use Rattle.sp_splitter.proofs.lending.lend_all.Goals as goal
+
+pub lend_one-requires-clause-passes : goal.lend_one-requires-clause-passes
+lend_one-requires-clause-passes c =
+    next_passes c.args.batch c.args.ids.now c.loop-id.id-index 0 c.args.core.now c.loop-id.core c.loop-id-test.true c.requires.apart c.requires.ready c.loop-id.invariant.lends
+
+pub loop-id-init : goal.loop-id-init
+loop-id-init c = record {
+  lends = lends_itself c.args.batch c.args.core.now;
+  kept = omega arith;
+  rising = λ last below. below;
+}
+
+pub loop-id-preserved : goal.loop-id-preserved
+loop-id-preserved c =
+    let id = get_or c.args.ids.now c.loop-id.id-index 0 in
+    let passes = next_passes c.args.batch c.args.ids.now c.loop-id.id-index 0 c.args.core.now c.loop-id.core c.loop-id-test.true c.requires.apart c.requires.ready c.loop-id.invariant.lends in
+    let done : IsDone (s.Lease id c.args.batch) c.loop-id.core c.lend_one.new.core = (passes, c.in_ok-lend_one.ensures.leased) in
+    record {
+      lends = subst (λ (ids : List ℕ). Lends c.args.batch ids c.args.core.now c.lend_one.new.core) (sym (take_more c.args.ids.now c.loop-id.id-index 0 c.loop-id-test.true))
+          (lends_more c.args.batch id (take c.loop-id.id-index c.args.ids.now) c.args.core.now c.loop-id.core c.lend_one.new.core c.known.ensures c.loop-id.invariant.lends done);
+      kept = kept_more c.loop-id.core.machine.next_ticket c.args.kept.now.items c.loop-id.kept.items c.lend_one.new.kept.items c.loop-id.id-index
+          c.in_ok-lend_one.ensures.kept c.loop-id.invariant.kept;
+      rising = λ last below.
+          below_after last id c.args.batch c.loop-id.core c.lend_one.new.core c.loop-id.kept.items c.lend_one.new.kept.items done c.in_ok-lend_one.ensures.kept
+          (c.loop-id.invariant.rising last below);
+    }
+
+pub returns-in_err-lend_one-clause-part : goal.returns-in_err-lend_one-clause-part
+returns-in_err-lend_one-clause-part c = (
+  c.loop-id.id-index,
+  subst (λ (z : Running). Lends c.args.batch (take c.loop-id.id-index c.args.ids.now) c.args.core.now z)
+      (sym c.in_err-lend_one.ensures.err) c.loop-id.invariant.lends,
+)
+
+pub returns-in_err-lend_one-clause-rising : goal.returns-in_err-lend_one-clause-rising
+returns-in_err-lend_one-clause-rising c =
+    let next = ap (λ (z : Running). z.machine.next_ticket) c.in_err-lend_one.ensures.err in
+    λ last below. rw (c.in_err-lend_one.ensures.kept_err, next) (c.loop-id.invariant.rising last below)
+
+pub returns-clause-lends : goal.returns-clause-lends
+returns-clause-lends c =
+    subst (λ (ids : List ℕ). Lends c.args.batch ids c.args.core.now c.loop-id.core) (take_all c.loop-id.id-index c.args.ids.now (omega arith)) c.loop-id.invariant.lends
+
+pub returns-clause-part : goal.returns-clause-part
+returns-clause-part c = (c.loop-id.id-index, c.loop-id.invariant.lends)

@@ -1,0 +1,10 @@
+pub mod Splitting
+pub mod Stages
+pub mod Knowing
+pub mod Rolling
+pub mod Finishing
+pub mod Breeding
+pub mod Bearing
+pub mod Asking
+pub mod Lending
+pub mod Turning

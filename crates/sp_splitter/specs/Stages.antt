@@ -1,0 +1,54 @@
+-- What each stage of a turn does to a core.
+use Rattle.std.specs.Prelude.{◌≡◌, ℕ, ◌+◌, ◌≤◌, List, ◌++◌}
+use Rattle.std.specs.List.{flat_map}
+use Rattle.sp_plan.specs.declared.found.Match.{Match}
+use Rattle.sp_hub.specs.State.{Posting}
+use Rattle.sp_group.specs.Steps.{Spread, out_count}
+use Rattle.sp_core.specs.declared.emitted.Emitted.{Emitted}
+use Rattle.sp_core.specs.Running.{Running}
+use Rattle.sp_spread.specs.Journaled.{fed, readings_entered}
+use Rattle.sp_spread.specs.Spreading.{Spreading}
+
+-- the journal of a core has spread its work, and where it ends in a lease all that can be out is out
+abbrev pub IsSpreading : ℕ → Running → Type 0
+IsSpreading n c = Spreading c.plan c.bound n c.machine c.journal
+
+-- so it is still
+abbrev pub Goes : ℕ → Running → Running → Type 0
+Goes n old new = IsSpreading n old → IsSpreading n new
+
+-- A stage, for n instances: nothing was fed, and matches may have been emitted; the journal is spread; no more tickets are out for live
+-- versions than there may be; and no ticket's number is given twice.
+pub record Went (n : ℕ) (old new : Running) : Type 0 where
+  pub plan : new.plan ≡ old.plan
+  pub bound : new.bound ≡ old.bound
+  pub events : new.machine.events ≡ old.machine.events
+  pub ended : new.machine.ended ≡ old.machine.ended
+  pub fed_are : fed new.journal ≡ fed old.journal
+  pub more : List Match
+  pub emitted : new.machine.emitted ≡ old.machine.emitted ++ more
+  pub spread : IsSpreading n old → Spread new.plan new.bound n new.journal
+  pub few : out_count old.machine ≤ n + 1 → out_count new.machine ≤ n + 1
+  pub tickets : old.machine.next_ticket ≤ new.machine.next_ticket
+
+-- nothing was emitted
+abbrev pub NoneEmitted : Running → Running → Type 0
+NoneEmitted old new = new.machine.emitted ≡ old.machine.emitted
+
+-- nothing that was read came home
+abbrev pub NoneRead : Running → Running → Type 0
+NoneRead old new = readings_entered new.journal ≡ readings_entered old.journal
+
+-- each reading that came into the journal has a call of the poster of its own
+abbrev pub ReadByCalls : Running → Running → Posting → Posting → Type 0
+ReadByCalls old new before after = readings_entered new.journal + before.calls ≤ readings_entered old.journal + after.calls
+
+-- the poster collected, and no more
+pub record Collected (old new : Posting) : Type 0 where
+  pub last : new.last ≡ old.last
+  pub room : new.room ≡ old.room
+  pub closed : new.closed ≡ old.closed
+
+-- all matches of windows that were finished
+abbrev pub matches_of : List Emitted → List Match
+matches_of finished = flat_map (λ emitted. emitted.matches.items) finished

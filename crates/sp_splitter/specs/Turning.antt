@@ -1,0 +1,62 @@
+-- What a turn of a splitter comes to.
+use Rattle.std.specs.Prelude.{◌≡◌, ◌⊎◌, ℕ, ◌+◌, ◌≤◌, List, [], ◌++◌, length}
+use Rattle.sp_chance.specs.declared.chances.Chance.{Chance}
+use Rattle.sp_chance.specs.Shares.{share_of}
+use Rattle.sp_hub.specs.State.{Posting}
+use Rattle.sp_piece.specs.declared.job.Job.{Job}
+use Rattle.sp_group.specs.Steps.{IsLentOut, out_count}
+use Rattle.sp_core.specs.declared.emitted.Emitted.{Emitted}
+use Rattle.sp_core.specs.Running.{Running}
+use Rattle.sp_spread.specs.Calm.{Settled}
+use Rattle.sp_spread.specs.Guessing.{AreGuessed}
+use Rattle.sp_splitter.specs.Breeding.{Breeds, IsWide}
+use Rattle.sp_splitter.specs.Lending.{Leases, DropsStale}
+use Rattle.sp_splitter.specs.Stages.{Goes, ReadByCalls, Went, matches_of}
+
+-- The state of a splitter behind a turn: how many instances there are and what a lease asks for; what the predictor means, and the chances;
+-- the jobs that were kept before, and those that are kept now; and the poster before, and now.
+pub record Outlook : Type 0 where
+  pub instances : ℕ
+  pub batch : ℕ
+  pub means : ℕ → ℕ → ℕ
+  pub chances : List Chance
+  pub kept_before : List Job
+  pub kept : List Job
+  pub before : Posting
+  pub by : Posting
+
+-- Children were made, then what is stale of the kept jobs was given back, then ready versions were leased, and each lease's job is kept.
+pub record SentOut (shares : ℕ → ℕ → ℕ) (n batch : ℕ) (old new : Running) (kept left : List Job) : Type 0 where
+  pub bred : Running
+  pub cleared : Running
+  pub children : Breeds shares n old bred
+  pub kept_then : List Job
+  pub dropped : DropsStale bred cleared kept kept_then
+  pub leases : Leases shares n batch cleared new
+  pub jobs : length left + out_count cleared.machine ≡ length kept_then + out_count new.machine
+
+-- A turn of a core, which emits the matches of these windows.
+pub record Turned (o : Outlook) (old new : Running) (finished : List Emitted) : Type 0 where
+  pub emitted : new.machine.emitted ≡ old.machine.emitted ++ matches_of finished
+  -- no live version is in conflict, no root is done, and there is a root unless its window has not begun
+  pub settled : Settled new.plan new.machine
+  -- as many tickets of live versions are out as may be, or no version is ready
+  pub lent : IsLentOut new.plan new.bound o.instances new.machine
+  -- a job is kept only where no more may be posted
+  pub posted : (o.kept ≡ []) ⊎ (o.instances + 1 ≤ o.by.waiting)
+  -- enough versions are out or ready, or no more could be made
+  pub wide : IsWide (share_of o.chances) o.instances new
+  -- the chances are the predictor's
+  pub guessed : AreGuessed new.plan new.machine o.means (share_of o.chances)
+  -- what was read came home, what was in conflict was rolled, and these windows were finished; then work was sent out
+  pub planted : Running
+  pub went : Went o.instances old planted
+  pub finished_then : planted.machine.emitted ≡ old.machine.emitted ++ matches_of finished
+  pub settled_then : Settled planted.plan planted.machine
+  pub sendable : List Job
+  pub sent : SentOut (share_of o.chances) o.instances o.batch planted new o.kept_before sendable
+  -- the poster collected, and each reading that came home has a call of its own; then each job was posted by a call, or is kept
+  pub collected : Posting
+  pub came : ReadByCalls old new o.before collected
+  pub each : o.by.calls + length o.kept ≡ collected.calls + length sendable
+  pub goes : Goes o.instances old new

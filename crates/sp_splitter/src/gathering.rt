@@ -1,0 +1,79 @@
+// Pieces that are home are given back, and learned from.
+ghost use Rattle.std.specs.Prelude.{◌≡◌, ◌+◌, ◌≤◌, ℕ, false, IsOk, OnOk};
+ghost use Rattle.sp_spread.specs.Journaled.{readings_entered};
+ghost use Rattle.sp_splitter.specs.Stages.{Collected, Goes, NoneEmitted, ReadByCalls, Went};
+
+use crate::Memory;
+use crate::knowing::known;
+use sp_chance::Predictor;
+use sp_core::Core;
+use sp_hub::{Hub, Naming, Poster};
+use sp_match::Moves;
+use sp_piece::{Job, Piece};
+use std::alloc::{AllocError, Global};
+use std::sync::Wait;
+
+// Learns how many events groups wanted before one more event, and after it.
+fn learn_wanted(predictor: &mut dyn Predictor, wanted: &[(u32, u32)]) {
+    for (from, to) in wanted {
+        predictor.learn(*from, *to);
+    }
+}
+
+// Learns from what a piece did, in its order.
+fn learn(predictor: &mut dyn Predictor, moves: &[Moves]) {
+    for of_one_event in moves {
+        learn_wanted(predictor, &of_one_event.wanted);
+    }
+}
+
+// Learns from a piece, where its version is live.
+fn learn_from(predictor: &mut dyn Predictor, core: &Core, piece: &Piece) {
+    if core.tree().get(piece.job().version).is_some() {
+        learn(predictor, piece.moves());
+    }
+}
+
+// Gives a piece back. One whose ticket is not out, and one that is not what was lent, are let go as one whose
+// version is gone: nothing is known of pieces at home.
+fn give_back(alloc: Global, core: &mut Core, piece: Piece) -> Result<(), Memory>
+    ensures went { (n : ℕ) → Went n core.old core.new }
+    ensures goes { (n : ℕ) → Goes n core.old core.new }
+    ensures emitted { NoneEmitted core.old core.new }
+    ensures read { readings_entered core.new.journal ≤ readings_entered core.old.journal + 1 }
+    ensures short { IsOk result → piece.short ≡ false }
+{
+    known(core);
+    let short = piece.short();
+    match core.give_back(alloc, piece) {
+        Ok(_) if short => Err(AllocError),
+        Ok(_) => Ok(()),
+        Err(_) => Err(AllocError),
+    }
+}
+
+/// Collects every piece that is home and gives it back. What came home is learned from, in its order. A piece
+/// that was given up for want of memory is answered as such, once it is given back.
+pub(crate) fn gather<L: Naming, R: Wait>(
+    rt: &R,
+    alloc: Global,
+    core: &mut Core,
+    predictor: &mut dyn Predictor,
+    hub: &Hub<Job, Piece, L>,
+    by: &mut Poster<Piece, L>,
+) -> Result<(), Memory>
+    ensures went { (n : ℕ) → Went n core.old core.new }
+    ensures goes { OnOk result ((n : ℕ) → Goes n core.old core.new) }
+    ensures emitted { NoneEmitted core.old core.new }
+    ensures read { ReadByCalls core.old core.new by.old by.new }
+    ensures by { Collected by.old by.new }
+{
+    for _ in 0..by.waiting() {
+        let Some(piece) = hub.collect(rt, by) else {
+            return Ok(());
+        };
+        learn_from(predictor, core, &piece);
+        give_back(alloc, core, piece)?;
+    }
+    Ok(())
+}

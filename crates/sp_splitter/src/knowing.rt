@@ -1,0 +1,16 @@
+// What is known of every core.
+ghost use Rattle.sp_splitter.specs.Knowing.{Known};
+
+use sp_core::Core;
+use sp_spread::{journals_stay_spread, turns_are_lawful};
+
+// Law: what the core's look-ups and the laws of turns say of it.
+pub(crate) fn known(core: &Core)
+    ensures { Known core.now }
+{
+    turns_are_lawful();
+    journals_stay_spread();
+    core.plan();
+    core.finished();
+    core.journal();
+}

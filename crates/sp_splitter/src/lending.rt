@@ -1,0 +1,141 @@
+// What is ready is leased.
+ghost use Rattle.std.specs.Prelude.{◌≡◌, ◌≤◌, ◌+◌, ◌++◌, ◌∷◌, ℕ, length, [], take, None, IfOk, OnOk, OnErr};
+ghost use Rattle.sp_chance.specs.Shares.{share_of};
+ghost use Rattle.sp_group.specs.declared.step.Step.TheVariants as s;
+ghost use Rattle.sp_group.specs.Steps.{IsLentOut, IsSpreadOut, out_count};
+ghost use Rattle.sp_piece.specs.declared.job.Job as piece;
+ghost use Rattle.sp_core.specs.Running.{after, refused};
+ghost use Rattle.sp_spread.specs.Calm.{Settled};
+ghost use Rattle.sp_spread.specs.Guessing.{AreGuessed};
+ghost use Rattle.sp_splitter.specs.Breeding.{IsWide};
+ghost use Rattle.sp_splitter.specs.Lending.{AreApart, ArePicked, AreReady, Leases, Lends};
+ghost use Rattle.sp_splitter.specs.Splitting.{IsBelowKept};
+ghost use Rattle.sp_splitter.specs.Stages.{Goes, NoneEmitted, NoneRead, Went};
+
+use crate::Memory;
+use crate::knowing::known;
+use sp_chance::Chances;
+use sp_core::{Core, CoreFault};
+use sp_pick::pick;
+use sp_piece::Job;
+use std::alloc::{AllocError, Global};
+use std::collections::VecDeque;
+
+// How many live versions have a ticket out.
+fn out_of(alloc: Global, core: &Core) -> Result<u32, Memory>
+    ensures { IfOk result (λ out. out ≡ out_count core.now.machine) }
+{
+    known(core);
+    let tree = core.tree();
+    tree.live();
+    let mut out = 0u32;
+    let ids = tree.walk(alloc)?;
+    for id in &ids {
+        if let Some(held) = tree.get(*id)
+            && held.out.is_some()
+        {
+            out += 1;
+        }
+    }
+    Ok(out)
+}
+
+// The ready versions that are picked, as many as there are places for `instances` and one more.
+fn picked(alloc: Global, core: &Core, chances: &Chances, instances: u32) -> Result<Vec<u64>, Memory>
+    requires { instances ≤ 16 }
+    ensures picked { IfOk result (λ ids.
+        ArePicked (share_of chances.now) instances core.now ids.items) }
+    ensures ready { IfOk result (λ ids. AreReady core.now ids.items) }
+    ensures apart { IfOk result (λ ids. AreApart ids.items) }
+{
+    let ready = core.ready(alloc)?;
+    let places = (instances + 1).saturating_sub(out_of(alloc, core)?);
+    pick(alloc, core.tree(), chances, &ready, places)
+}
+
+// Leases a version, and keeps its job behind the others.
+fn lend_one(
+    alloc: Global,
+    core: &mut Core,
+    id: u64,
+    batch: u32,
+    kept: &mut VecDeque<Job>,
+) -> Result<(), Memory>
+    requires some { 1 ≤ batch }
+    requires most { batch ≤ 1024 }
+    requires passes { refused core.old (s.Lease id batch) ≡ None }
+    ensures leased { OnOk result (core.new ≡ after core.old (s.Lease id batch)) }
+    ensures kept { OnOk result ((job : piece.Job) × (job.ticket ≡ core.old.machine.next_ticket)
+        × (kept.new.items ≡ kept.old.items ++ job ∷ [])) }
+    ensures err { OnErr result (core.new ≡ core.old) }
+    ensures kept_err { OnErr result (kept.new.items ≡ kept.old.items) }
+{
+    kept.reserve(1)?;
+    match core.lease(alloc, id, batch) {
+        Ok(job) => {
+            kept.push_back_reserved(job);
+            Ok(())
+        }
+        Err(CoreFault::Memory) => Err(AllocError),
+        Err(CoreFault::Refused(_)) => unreachable!(),
+    }
+}
+
+// Leases the versions of these ids, one after another.
+fn lend_all(
+    alloc: Global,
+    core: &mut Core,
+    ids: &[u64],
+    batch: u32,
+    kept: &mut VecDeque<Job>,
+) -> Result<(), Memory>
+    requires some { 1 ≤ batch }
+    requires most { batch ≤ 1024 }
+    requires ready { AreReady core.old ids.now }
+    requires apart { AreApart ids.now }
+    ensures lends { OnOk result (Lends batch ids.now core.old core.new) }
+    ensures kept { OnOk result (length kept.new.items ≡ length kept.old.items + length ids.now) }
+    ensures part { (count : ℕ) × Lends batch (take count ids.now) core.old core.new }
+    ensures rising { (last : ℕ) → IsBelowKept last kept.old.items core.old.machine.next_ticket
+        → IsBelowKept last kept.new.items core.new.machine.next_ticket }
+{
+    for id in ids {
+        known(core);
+        lend_one(alloc, core, *id, batch, kept)?;
+    }
+    Ok(())
+}
+
+/// Leases the versions that are picked of the ready ones, until `instances + 1` tickets of live versions are out
+/// or none is ready, for `batch` events each, and keeps their jobs behind the others, one for each ticket.
+pub(crate) fn lend(
+    alloc: Global,
+    core: &mut Core,
+    chances: &Chances,
+    instances: u32,
+    batch: u32,
+    kept: &mut VecDeque<Job>,
+) -> Result<(), Memory>
+    requires instances { instances ≤ 16 }
+    requires some { 1 ≤ batch }
+    requires most { batch ≤ 1024 }
+    requires settled { Settled core.old.plan core.old.machine }
+    requires spread_out { IsSpreadOut core.old.plan core.old.bound instances core.old.machine }
+    ensures went { Went instances core.old core.new }
+    ensures goes { OnOk result (Goes instances core.old core.new) }
+    ensures emitted { NoneEmitted core.old core.new }
+    ensures read { NoneRead core.old core.new }
+    ensures settled { OnOk result (Settled core.new.plan core.new.machine) }
+    ensures guessed { OnOk result ((m share : ℕ → ℕ → ℕ) → AreGuessed core.old.plan core.old.machine m share
+        → AreGuessed core.new.plan core.new.machine m share) }
+    ensures wide { OnOk result ((share : ℕ → ℕ → ℕ) (n : ℕ) → IsWide share n core.old → IsWide share n core.new) }
+    ensures lent { OnOk result (IsLentOut core.new.plan core.new.bound instances core.new.machine) }
+    ensures kept { OnOk result (length kept.new.items + out_count core.old.machine
+        ≡ length kept.old.items + out_count core.new.machine) }
+    ensures leases { OnOk result (Leases (share_of chances.now) instances batch core.old core.new) }
+    ensures rising { (last : ℕ) → IsBelowKept last kept.old.items core.old.machine.next_ticket
+        → IsBelowKept last kept.new.items core.new.machine.next_ticket }
+{
+    let ids = picked(alloc, core, chances, instances)?;
+    lend_all(alloc, core, &ids, batch, kept)
+}

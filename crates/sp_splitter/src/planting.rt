@@ -1,0 +1,32 @@
+// A root is made where none is live.
+ghost use Rattle.std.specs.Prelude.{ℕ, OnOk};
+ghost use Rattle.sp_spread.specs.Calm.{AreCalm, NoneDone, Settled};
+ghost use Rattle.sp_splitter.specs.Stages.{Goes, NoneEmitted, NoneRead, Went};
+
+use crate::Memory;
+use crate::knowing::known;
+use sp_core::{Core, CoreFault};
+use sp_group::Label;
+use std::alloc::{AllocError, Global};
+
+/// Makes the root of the next window where none is live and that window has begun.
+pub(crate) fn plant(alloc: Global, core: &mut Core) -> Result<(), Memory>
+    requires calm { AreCalm core.old.plan core.old.machine }
+    requires undone { NoneDone core.old.machine }
+    ensures went { (n : ℕ) → Went n core.old core.new }
+    ensures goes { OnOk result ((n : ℕ) → Goes n core.old core.new) }
+    ensures emitted { NoneEmitted core.old core.new }
+    ensures read { NoneRead core.old core.new }
+    ensures settled { OnOk result (Settled core.new.plan core.new.machine) }
+{
+    if core.tree().root().is_some() {
+        return Ok(());
+    }
+    known(core);
+    match core.spawn(alloc, None, Label::empty(alloc)) {
+        Ok(_) => Ok(()),
+        // The next window has not begun.
+        Err(CoreFault::Refused(_)) => Ok(()),
+        Err(CoreFault::Memory) => Err(AllocError),
+    }
+}
