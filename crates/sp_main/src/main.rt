@@ -3,10 +3,13 @@
 #![tactic(auto)]
 
 use sp_chance::{Even, Markov, Predictor, Steady};
+use sp_instance::OpenGate;
 use sp_io::{Sink, StdFiles, StdSink, StdSource};
 use sp_top::spectre;
 use std::alloc::AllocError;
 use std::process::ExitCode;
+use std::sync::Wait;
+use std::thread::Threads;
 use std::{env, io};
 
 // The share that the steady predictor holds for likely, in 65,536ths: three quarters.
@@ -31,8 +34,13 @@ fn words(rt: HostRuntime) -> Result<Vec<String>, AllocError> {
     Ok(words)
 }
 
-// The status of the command line's words, by the predictors that they may choose.
-fn run(rt: HostRuntime, err: &mut StdSink) -> Result<u8, AllocError> {
+// The status of the command line's words, by the predictors that they may choose. Nothing stands round the
+// jobs of the instances, and what a run ended with is dropped.
+fn run<R: Threads + Wait + Sync>(
+    threads: &R,
+    rt: HostRuntime,
+    err: &mut StdSink,
+) -> Result<u8, AllocError> {
     let words = words(rt)?;
     let mut predictors: Vec<Box<dyn Predictor>> = Vec::new(rt.alloc());
     predictors.push(Box::new(rt.alloc(), Even::new())?)?;
@@ -41,20 +49,24 @@ fn run(rt: HostRuntime, err: &mut StdSink) -> Result<u8, AllocError> {
     let mut input = StdSource::new(rt);
     let mut files = StdFiles::new(rt);
     let mut out = StdSink::new(rt, false);
+    let mut report = None;
     Ok(spectre(
+        threads,
         rt.alloc(),
         &words,
         &mut input,
         &mut files,
         &mut out,
         err,
+        &OpenGate,
         predictors,
+        &mut report,
     ))
 }
 
 fn main(rt: HostRuntime) -> ExitCode {
     let mut err = StdSink::new(rt, true);
-    match run(rt, &mut err) {
+    match run(&rt, rt, &mut err) {
         Ok(status) => ExitCode::from(status),
         Err(_) => {
             let _ = err.write_all(b"memory\n");

@@ -23,22 +23,20 @@ use Rattle.sp_split.specs.declared.ended.Why.TheVariants as why
 use Rattle.sp_split.specs.declared.feeding.Fed.{Fed}
 use Rattle.sp_split.specs.declared.feeding.Fed.TheVariants as f
 use Rattle.sp_split.specs.Driving.{Drove, FailedWithin, FellShort}
-use Rattle.sp_split.specs.Journaled.{fed, makes_child, MakesNoChild}
+use Rattle.sp_spread.specs.Journaled.{fed, makes_child, MakesNoChild}
 use Rattle.sp_split.specs.Stages.{AllFinished, FedOn, IsFed, WorkedOn, WorkedTaken, WorkedUntilRefused, WorkedUntilShort}
 use Rattle.sp_split.proofs.Taken.{took_none, took_more, took_first, failed_behind, first_behind}
 
--- the core stands alone, and was fed what the intake gave
-pub record Alone (gave : List Event → Type 0) (first c : Running) : Type 0 where
+-- the core was fed what the intake gave
+pub record Ran (gave : List Event → Type 0) (first c : Running) : Type 0 where
   pub plan : c.plan ≡ first.plan
   pub bound : c.bound ≡ first.bound
   pub given : gave c.machine.events
   pub fed_are : fed c.journal ≡ c.machine.events
-  pub alone : MakesNoChild c.journal
 
--- between two stages: no ticket is out, and the outlet took all that was emitted
+-- between two stages: the outlet took all that was emitted
 pub record Going (gave : List Event → Type 0) (first c : Running) (old new : OutletState) : Type 0 where
-  pub run : Alone gave first c
-  pub none_out : c.machine.tickets ≡ []
+  pub run : Ran gave first c
   pub took : Took first.plan c.machine.emitted old new
   pub no_fault : new.faults ≡ old.faults
 
@@ -50,12 +48,14 @@ going_none gave c s fresh given = subst (λ (d : Running). Going gave c d s s) (
     bound = refl;
     given = given;
     fed_are = refl;
-    alone = All-nil (λ (e : Entry). makes_child e.step ≡ false);
   };
-  none_out = refl;
   took = took_none c.plan s;
   no_fault = refl;
 })
+
+-- no version was made yet
+pub alone_none : (c : Running) → c ≡ begun c.plan c.bound → MakesNoChild c.journal
+alone_none c fresh = subst (λ (d : Running). MakesNoChild d.journal) (sym fresh) (All-nil (λ (e : Entry). makes_child e.step ≡ false))
 
 -- the core was fed
 pub going_fed : (gave gave' : List Event → Type 0) (first c d : Running) (old s : OutletState) → Going gave first c old s → FedOn c d → gave' d.machine.events → Going gave' first d old s
@@ -65,46 +65,52 @@ going_fed gave gave' first c d old s going more given = record {
     bound = more.on.bound ∙ going.run.bound;
     given = given;
     fed_are = more.on.fed_are going.run.fed_are;
-    alone = more.on.alone going.run.alone;
   };
-  none_out = more.tickets ∙ going.none_out;
   took = subst (λ (ms : List Match). Took first.plan ms old s) (sym more.emitted) going.took;
   no_fault = going.no_fault;
 }
 
 module _ (gave : List Event → Type 0) (first c d : Running) (old s t : OutletState) (going : Going gave first c old s) where
-  -- the core worked
-  pub alone_worked : WorkedOn c d → Alone gave first d
-  alone_worked w = record {
-    plan = w.on.plan ∙ going.run.plan;
-    bound = w.on.bound ∙ going.run.bound;
-    given = subst gave (sym w.events) going.run.given;
-    fed_are = w.on.fed_are going.run.fed_are;
-    alone = w.on.alone going.run.alone;
+  -- the core did steps that feed nothing
+  pub ran_on : d.plan ≡ c.plan → d.bound ≡ c.bound → d.machine.events ≡ c.machine.events → (fed c.journal ≡ c.machine.events → fed d.journal ≡ d.machine.events) → Ran gave first d
+  ran_on plan bound events fed_are = record {
+    plan = plan ∙ going.run.plan;
+    bound = bound ∙ going.run.bound;
+    given = subst gave (sym events) going.run.given;
+    fed_are = fed_are going.run.fed_are;
   }
+
+  module _ (ms : List Match) (emitted : d.machine.emitted ≡ c.machine.emitted ++ ms) where
+    pub took_on : Took c.plan ms s t → Took first.plan d.machine.emitted old t
+    took_on so =
+        subst (λ (l : List Match). Took first.plan l old t) (sym emitted)
+        (took_more first.plan c.machine.emitted ms old s t going.took (subst (λ (q : Plan). Took q ms s t) going.run.plan so))
+
+    pub failed_on : FailedWithin c.plan ms s t → FailedWithin first.plan d.machine.emitted old t
+    failed_on so =
+        subst (λ (l : List Match). FailedWithin first.plan l old t) (sym emitted)
+        (failed_behind first.plan c.machine.emitted ms old s t going.took (subst (λ (q : Plan). FailedWithin q ms s t) going.run.plan so))
+
+    pub short_on : TookFirst c.plan ms s t → TookFirst first.plan d.machine.emitted old t
+    short_on so =
+        subst (λ (l : List Match). TookFirst first.plan l old t) (sym emitted)
+        (first_behind first.plan c.machine.emitted ms old s t going.took (subst (λ (q : Plan). TookFirst q ms s t) going.run.plan so))
+
+  -- the core worked alone
+  pub ran_worked : WorkedOn c d → Ran gave first d
+  ran_worked w = ran_on w.on.plan w.on.bound w.events w.on.fed_are
 
   pub took_worked : WorkedTaken c d s t → Took first.plan d.machine.emitted old t
-  took_worked w =
-      subst (λ (ms : List Match). Took first.plan ms old t) (sym w.emitted)
-      (took_more first.plan c.machine.emitted w.matches old s t going.took (subst (λ (q : Plan). Took q w.matches s t) going.run.plan w.so))
+  took_worked w = took_on w.matches w.emitted w.so
 
   pub failed_worked : WorkedUntilRefused c d s t → FailedWithin first.plan d.machine.emitted old t
-  failed_worked w =
-      subst (λ (ms : List Match). FailedWithin first.plan ms old t) (sym w.emitted)
-      (failed_behind first.plan c.machine.emitted w.matches old s t going.took (subst (λ (q : Plan). FailedWithin q w.matches s t) going.run.plan w.so))
+  failed_worked w = failed_on w.matches w.emitted w.so
 
   pub short_worked : WorkedUntilShort c d s t → TookFirst first.plan d.machine.emitted old t
-  short_worked w =
-      subst (λ (ms : List Match). TookFirst first.plan ms old t) (sym w.emitted)
-      (first_behind first.plan c.machine.emitted w.matches old s t going.took (subst (λ (q : Plan). TookFirst q w.matches s t) going.run.plan w.so))
+  short_worked w = short_on w.matches w.emitted w.so
 
-  pub going_worked : WorkedTaken c d s t → d.machine.tickets ≡ [] → t.faults ≡ s.faults → Going gave first d old t
-  going_worked w none same = record {
-    run = alone_worked w.on;
-    none_out = none;
-    took = took_worked w;
-    no_fault = same ∙ going.no_fault;
-  }
+  pub going_worked : WorkedTaken c d s t → t.faults ≡ s.faults → Going gave first d old t
+  going_worked w same = record { run = ran_worked w.on; took = took_worked w; no_fault = same ∙ going.no_fault }
 
 -- the end of input is told only where it was reached
 ends_fed : (fed : Fed) (ended all : Bool) (stopped : Type 0) → IsFed fed ended all stopped → ended ≡ true → all ≡ true
@@ -129,7 +135,7 @@ pub fed_as : (fed other : Fed) (ended all : Bool) (stopped : Type 0) → fed ≡
 fed_as fed other ended all stopped same is = subst (λ (f : Fed). IsFed f ended all stopped) same is
 
 module _ (gave : List Event → Type 0) (all : Bool) (stopped : Type 0) (first c : Running) (old new : OutletState) (fed : Fed) (is : IsFed fed c.machine.ended all stopped)
-    (run : Alone gave first c) where
+    (run : Ran gave first c) where
   ends : c.machine.ended ≡ true → all ≡ true
   ends = ends_fed fed c.machine.ended all stopped is
 
@@ -140,7 +146,6 @@ module _ (gave : List Event → Type 0) (all : Bool) (stopped : Type 0) (first c
     bound = run.bound;
     given = run.given;
     fed_are = run.fed_are;
-    alone = run.alone;
     ends = ends;
     whole_input = λ no. absurd (cc);
     stop = λ no. absurd (cc);
@@ -157,7 +162,6 @@ module _ (gave : List Event → Type 0) (all : Bool) (stopped : Type 0) (first c
     bound = run.bound;
     given = run.given;
     fed_are = run.fed_are;
-    alone = run.alone;
     ends = ends;
     whole_input = λ no. absurd (cc);
     stop = λ no. absurd (cc);
@@ -178,7 +182,6 @@ module _ (gave : List Event → Type 0) (all : Bool) (stopped : Type 0) (first c
       bound = run.bound;
       given = run.given;
       fed_are = run.fed_are;
-      alone = run.alone;
       ends = ends;
       whole_input = λ _. ended;
       stop = λ no. absurd (cc);
@@ -195,7 +198,6 @@ module _ (gave : List Event → Type 0) (all : Bool) (stopped : Type 0) (first c
       bound = run.bound;
       given = run.given;
       fed_are = run.fed_are;
-      alone = run.alone;
       ends = ends;
       whole_input = λ no. absurd (cc);
       stop = λ _. (stops, unended);

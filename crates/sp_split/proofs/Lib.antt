@@ -1,8 +1,12 @@
 pub mod Grew
 pub mod Taken
+pub mod Turns
 pub mod Steps
 pub mod AllDone
 pub mod Lone
+pub mod About
+pub mod Both
+pub mod Behind
 pub mod Finished
 pub mod Added
 pub mod Going

@@ -22,7 +22,7 @@ use Rattle.sp_core.specs.Leasing.{IsLeased}
 use Rattle.sp_core.specs.Running.{Running, IsDone, after, once}
 use Rattle.sp_core.specs.declared.given.Given.TheVariants as g
 use Rattle.sp_split.specs.declared.turning.Turn.TheVariants as t
-use Rattle.sp_split.specs.Journaled.{fed, makes_child, MakesNoChild}
+use Rattle.sp_spread.specs.Journaled.{fed, makes_child, MakesNoChild}
 use Rattle.sp_split.specs.Stages.{CutOff, IsOutAlone, Turned}
 use Rattle.sp_split.proofs.Steps.{SameInput, worked_by, worked_more, worked_step, no_child_once}
 

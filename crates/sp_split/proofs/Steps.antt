@@ -9,7 +9,7 @@ use Rattle.sp_group.specs.declared.step.Step.{Step}
 use Rattle.sp_group.specs.Effects.{effect}
 use Rattle.sp_group.specs.Machine.{Machine}
 use Rattle.sp_core.specs.Running.{Running, after, once}
-use Rattle.sp_split.specs.Journaled.{fed, fed_by, makes_child, MakesNoChild}
+use Rattle.sp_spread.specs.Journaled.{fed, fed_by, makes_child, MakesNoChild}
 use Rattle.sp_split.specs.Stages.{WorkedOn}
 
 -- more entries, none of which makes a version below another

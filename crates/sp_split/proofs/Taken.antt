@@ -55,10 +55,10 @@ took_before q xs x more all a b c are took within same = record {
   count = same ∙ took.count;
 }
 
--- a list of matches with one that stands in it
-split_at : (xs : List Match) (i : ℕ) (x : Match) → i < length xs → x ≡ get_or xs i x → xs ≡ take i xs ++ x ∷ drop (i + 1) xs
-split_at xs i x inside is =
-    sym (take-append-drop i xs) ∙ ap (λ (l : List Match). take i xs ++ l) (drop_more xs i x inside) ∙ ap (λ (y : Match). take i xs ++ y ∷ drop (i + 1) xs) (sym is)
+-- a list with an item that stands in it
+pub split_at : {A : Type 0} (xs : List A) (i : ℕ) (x : A) → i < length xs → x ≡ get_or xs i x → xs ≡ take i xs ++ x ∷ drop (i + 1) xs
+split_at {A} xs i x inside is =
+    sym (take-append-drop i xs) ∙ ap (λ (l : List A). take i xs ++ l) (drop_more xs i x inside) ∙ ap (λ (y : A). take i xs ++ y ∷ drop (i + 1) xs) (sym is)
 
 module _ (q p : Plan) (same : p ≡ q) (xs : List Match) (i : ℕ) (x : Match) (inside : i < length xs) (is : x ≡ get_or xs i x) (a b c : OutletState) (took : Took q (take i xs) a b) where
   -- a match more was taken

@@ -1,16 +1,20 @@
 -- What a run of a core comes to, from an intake to an outlet.
-use Rattle.std.specs.Prelude.{◌≡◌, ◌≢◌, ◌⊎◌, Bool, true, false, List, ◌∷◌, ◌++◌}
+use Rattle.std.specs.Prelude.{◌≡◌, ◌≢◌, ◌⊎◌, ℕ, ◌<◌, ◌≤◌, Bool, true, false, List, [], ◌∷◌, ◌++◌}
+use Rattle.std.specs.List.{count_by}
 use Rattle.sp_io.specs.Outside.{Rose}
 use Rattle.sp_plan.specs.declared.event.Event.{Event}
 use Rattle.sp_plan.specs.declared.found.Match.{Match}
 use Rattle.sp_plan.specs.declared.plan.Plan.{Plan}
 use Rattle.sp_plan.specs.Sequential.{whole}
 use Rattle.sp_plan.specs.Windows.{closed}
+use Rattle.sp_hub.specs.declared.entry.HubEntry.{HubEntry}
+use Rattle.sp_hub.specs.History.{is_call, IsLegal}
+use Rattle.sp_group.specs.Steps.{Spread}
 use Rattle.sp_core.specs.Running.{Running}
 use Rattle.sp_ports.specs.Taking.{OutletState, Took, TookFirst, FailedAt}
-use Rattle.sp_split.specs.declared.ended.Ended.{Ended}
+use Rattle.sp_split.specs.declared.ended.Went.{Went}
 use Rattle.sp_split.specs.declared.ended.Why.TheVariants as why
-use Rattle.sp_split.specs.Journaled.{fed, MakesNoChild}
+use Rattle.sp_spread.specs.Journaled.{fed, returns_read, MakesNoChild}
 
 -- Of a list of matches an outlet failed at one, and took those before it.
 pub record FailedWithin (q : Plan) (matches : List Match) (old new : OutletState) : Type 0 where
@@ -22,14 +26,12 @@ pub record FailedWithin (q : Plan) (matches : List Match) (old new : OutletState
 
 -- A run of a core over what an intake gave. `gave` says which events it gave in the run, `ended` whether the end of its input was
 -- reached, and `stopped` that its count of stops rose.
-pub record Drove (gave : List Event → Type 0) (ended : Bool) (stopped : Type 0) (c : Running) (old new : OutletState) (end : Ended) : Type 0 where
+pub record Drove (gave : List Event → Type 0) (ended : Bool) (stopped : Type 0) (c : Running) (old new : OutletState) (end : Went) : Type 0 where
   pub plan : end.core.plan ≡ c.plan
   pub bound : end.core.bound ≡ c.bound
   -- what was fed is what the intake gave, in its order
   pub given : gave end.core.machine.events
   pub fed_are : fed end.core.journal ≡ end.core.machine.events
-  -- each version was the root from its beginning
-  pub alone : MakesNoChild end.core.journal
   -- input has ended only where the intake reached its end
   pub ends : end.core.machine.ended ≡ true → ended ≡ true
   pub whole_input : end.why ≡ why.Whole → end.core.machine.ended ≡ true
@@ -51,3 +53,11 @@ pub record FellShort (gave : List Event → Type 0) (ended : Bool) (q : Plan) (o
   pub ends : input_ended ≡ true → ended ≡ true
   pub took : TookFirst q (whole q events input_ended).matches old new
   pub no_fault : new.faults ≡ old.faults
+
+-- How a run came about. Without an instance each version was the root from its beginning, and no hub was used. With instances the journal
+-- has spread its work over one place more than there are; and the hub was called at least as often as a piece that was read came home.
+pub record CameAbout (instances : ℕ) (c : Running) (entries : List HubEntry) : Type 0 where
+  pub alone : instances ≡ 0 → MakesNoChild c.journal × (entries ≡ [])
+  pub spread : 0 < instances → Spread c.plan c.bound instances c.journal
+  pub calls : 0 < instances → returns_read c.journal ≤ count_by is_call entries
+  pub legal : IsLegal entries

@@ -1,3 +1,5 @@
-pub mod Journaled
 pub mod Driving
+pub mod Lending
+pub mod Serving
 pub mod Stages
+pub mod Crews

@@ -13,7 +13,7 @@ use Rattle.sp_split.specs.declared.feeding.Fed.TheVariants as f
 use Rattle.sp_split.specs.declared.turning.Turn.{Turn}
 use Rattle.sp_split.specs.declared.turning.Turn.TheVariants as t
 use Rattle.sp_split.specs.Driving.{FailedWithin}
-use Rattle.sp_split.specs.Journaled.{fed, MakesNoChild}
+use Rattle.sp_spread.specs.Journaled.{fed, MakesNoChild}
 
 -- The core took steps: its plan and bound are the same, what stands in the journal as fed are still its events, and no version was made
 -- below another one.

@@ -2,11 +2,12 @@
 ghost use Rattle.std.specs.Prelude.{◌≡◌, ◌≤◌, IfOk, OnErr, List};
 ghost use Rattle.sp_io.specs.Outside.{Rose};
 ghost use Rattle.sp_core.specs.Running.{begun};
+ghost use Rattle.sp_spread.specs.Journaled.{MakesNoChild};
 ghost use Rattle.sp_split.specs.Driving.{Drove, FellShort};
 
 use crate::feeding::{Fed, feed};
 use crate::working::work_off;
-use crate::{Ended, Memory, Why};
+use crate::{Memory, Went, Why};
 use sp_chance::Predictor;
 use sp_core::Core;
 use sp_ports::{Intake, OutFault, Outlet};
@@ -30,6 +31,7 @@ fn run<I: Intake, O: Outlet>(
     ensures ended { IfOk result (λ why. Drove (λ events. I.gave intake.old events intake.new) (I.ended intake.new)
         (Rose (I.stops intake.old) (I.stops intake.new)) core.old (O.state outlet.old) (O.state outlet.new)
         (record { core = core.new; why = why })) }
+    ensures alone { IfOk result (λ why. MakesNoChild core.new.journal) }
     ensures short { OnErr result (FellShort (λ events. I.gave intake.old events intake.new) (I.ended intake.new)
         core.old.plan (O.state outlet.old) (O.state outlet.new)) }
     ensures same { (I.plan intake.new ≡ I.plan intake.old) × (I.token intake.new ≡ I.token intake.old) }
@@ -63,14 +65,14 @@ fn run<I: Intake, O: Outlet>(
 /// count of stops rose, `Refused` only where the outlet's count of faults did; the windows that are closed are
 /// finished for the first two, and all their matches were taken. After want of memory the outlet took the first
 /// matches of what the events given come to.
-pub fn drive<I: Intake, O: Outlet>(
+pub(crate) fn drive_alone<I: Intake, O: Outlet>(
     alloc: Global,
     mut core: Core,
     batch: u32,
     mut predictor: Box<dyn Predictor>,
     intake: &mut I,
     outlet: &mut O,
-) -> Result<Ended, Memory>
+) -> Result<Went, Memory>
     requires fresh { core ≡ begun core.plan core.bound }
     requires some { 1 ≤ batch }
     requires most { batch ≤ 1024 }
@@ -78,11 +80,12 @@ pub fn drive<I: Intake, O: Outlet>(
     requires outlet_plan { O.plan outlet.old ≡ core.plan }
     ensures ended { IfOk result (Drove (λ events. I.gave intake.old events intake.new) (I.ended intake.new)
         (Rose (I.stops intake.old) (I.stops intake.new)) core (O.state outlet.old) (O.state outlet.new)) }
+    ensures alone { IfOk result (λ end. MakesNoChild end.core.journal) }
     ensures short { OnErr result (FellShort (λ events. I.gave intake.old events intake.new) (I.ended intake.new)
         core.plan (O.state outlet.old) (O.state outlet.new)) }
     ensures same { (I.plan intake.new ≡ I.plan intake.old) × (I.token intake.new ≡ I.token intake.old) }
     ensures same_out { (O.plan outlet.new ≡ O.plan outlet.old) × (O.token outlet.new ≡ O.token outlet.old) }
 {
     let why = run(alloc, &mut core, batch, &mut *predictor, intake, outlet)?;
-    Ok(Ended { core, why })
+    Ok(Went { core, why })
 }

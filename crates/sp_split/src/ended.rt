@@ -1,4 +1,5 @@
 use sp_core::Core;
+use sp_hub::History;
 
 /// Why a run has ended.
 #[derive(Clone, Copy, Drop, PartialEq, Eq)]
@@ -13,10 +14,19 @@ pub enum Why {
     Memory,
 }
 
+/// A core that has run, and why it runs no more.
+#[derive(Drop)]
+pub struct Went {
+    pub core: Core,
+    pub why: Why,
+}
+
 /// What a run ended with.
 #[derive(Drop)]
 pub struct Ended {
     /// The core as it stands, with the journal of its steps.
     pub core: Core,
     pub why: Why,
+    /// What the hub did, nothing where there was none.
+    pub history: History,
 }

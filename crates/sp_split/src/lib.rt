@@ -2,15 +2,22 @@
 #![tactic(auto)]
 
 mod alone;
+mod attending;
+mod driving;
 mod ended;
 mod feeding;
+mod filling;
 mod handing;
+mod joining;
+mod lent;
 mod reading;
+mod serving;
 mod turning;
 mod working;
 
-pub use alone::drive;
-pub use ended::{Ended, Why};
+pub use driving::drive;
+pub use ended::{Ended, Went, Why};
+pub use sp_splitter::Splitter;
 
 /// Want of memory. Any call that allocates may answer it, and says what stands after it.
 pub type Memory = std::alloc::AllocError;

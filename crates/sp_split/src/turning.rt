@@ -1,9 +1,9 @@
 // One turn of the root of a core that stands alone.
-ghost use Rattle.std.specs.Prelude.{◌≡◌, ◌≤◌, [], Some, IsSome, IfOk, OnOk, OnErr};
+ghost use Rattle.std.specs.Prelude.{◌≡◌, ◌≤◌, [], Some, IsSome, IsTrue, IfOk, OnOk, OnErr};
 ghost use Rattle.sp_group.specs.Machine.{Version, root_in};
 ghost use Rattle.sp_group.specs.declared.step.Step.TheVariants as s;
 ghost use Rattle.sp_core.specs.Running.{refused};
-ghost use Rattle.sp_split.specs.Stages.{CutOff, IsOutAlone, Turned};
+ghost use Rattle.sp_split.specs.Stages.{AllFinished, CutOff, IsOutAlone, Turned};
 ghost use Rattle.sp_split.specs.declared.turning.Turn.TheVariants as t;
 
 use crate::Memory;
@@ -15,7 +15,7 @@ use sp_piece::Piece;
 use sp_window::closed_come_first;
 use std::alloc::{AllocError, Global};
 
-// The most events that a lease may ask for. A root that stands alone reads all that is there: each lease copies
+// The most events that a lease may ask for. A root that stands alone reads as many as it can: each lease copies
 // the open runs, and nobody waits for a smaller one.
 const MOST_LENT: u32 = 1_024;
 
@@ -63,7 +63,24 @@ fn bring_home(alloc: Global, core: &mut Core, piece: Piece) -> Result<(), Memory
     }
 }
 
-// The root, which is not done, reads the next events of its window, up to 1,024.
+// Whether the root can wait: all closed windows are finished, so that its own is open, and one lease holds all
+// that is unread of it. A lease in the middle of a window costs copies of its open runs, and brings no match on.
+fn can_wait(core: &Core, root: u64) -> bool
+    ensures { IsTrue result → AllFinished core.now }
+{
+    if core.windows().closed() != core.finished() {
+        return false;
+    }
+    match core.tree().get(root) {
+        Some(held) => {
+            let next = held.first as usize + held.position as usize;
+            core.events().len() < next + MOST_LENT as usize
+        }
+        None => false,
+    }
+}
+
+// The root, which is not done, reads the next events of its window, up to 1,024; or it waits for more.
 fn read_on(
     alloc: Global,
     core: &mut Core,
@@ -80,6 +97,9 @@ fn read_on(
     core.plan();
     core.finished();
     closed_come_first();
+    if can_wait(core, root) {
+        return Ok(Turn::Idle);
+    }
     let job = match core.lease(alloc, root, MOST_LENT) {
         Ok(job) => job,
         Err(CoreFault::Refused(_)) => return Ok(Turn::Idle),

@@ -35,9 +35,9 @@ refused predictors words none before old = (
   },
 )
 
--- a run has from 1 to 4096 live versions and batches of 1 to 1024 events, and a trace has a bound from 1 to 4096
+-- a run has from 1 to 4096 live versions, batches of 1 to 1024 events and at most 16 instances, and a trace has a bound from 1 to 4096
 abbrev IsBounded : Command → Type 0
-IsBounded (run place speed) = ((1 ≤ speed.live) × (speed.live ≤ 4096)) × ((1 ≤ speed.batch) × (speed.batch ≤ 1024))
+IsBounded (run place speed) = ((1 ≤ speed.live) × (speed.live ≤ 4096)) × ((1 ≤ speed.batch) × (speed.batch ≤ 1024)) × (speed.instances ≤ 16)
 IsBounded (plain place) = Unit {0}
 IsBounded (trace place schedule bound) = (1 ≤ bound) × (bound ≤ 4096)
 
@@ -55,7 +55,8 @@ asks_bounded : (place : Place) (first : List ℕ) (options : List (List ℕ)) (c
 asks_bounded place _ _ _ (runs options speed are) =
     let live = said_bounded 1 4096 64 (omega arith) (omega arith) (value_of (codes "--live") options) speed.live are.live in
     let batch = said_bounded 1 1024 64 (omega arith) (omega arith) (value_of (codes "--batch") options) speed.batch are.batch in
-    (live, batch)
+    let instances = said_bounded 0 16 2 (omega arith) (omega arith) (value_of (codes "--instances") options) speed.instances are.instances in
+    (live, batch, instances.1)
 asks_bounded place _ _ _ plains = tt
 asks_bounded place _ _ _ (traces options schedule bound are) = options_bounded options schedule bound are
 

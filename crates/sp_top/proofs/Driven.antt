@@ -31,7 +31,7 @@ use Rattle.sp_ports.specs.Taking.{OutletState}
 use Rattle.sp_group.specs.Machine.{Machine}
 use Rattle.sp_rules.specs.Schedules.{IsSequential}
 use Rattle.sp_core.specs.Running.{Running}
-use Rattle.sp_split.specs.declared.ended.Ended.{Ended}
+use Rattle.sp_split.specs.declared.ended.Went.{Went}
 use Rattle.sp_split.specs.declared.ended.Why.{Why}
 use Rattle.sp_split.specs.declared.ended.Why.TheVariants as why
 use Rattle.sp_split.specs.Driving.{FailedWithin, Drove, FellShort}
@@ -185,14 +185,14 @@ abbrev pub outlet : SinkState → ℕ → OutletState
 outlet s taken = record { held = s.held; taken = taken; faults = s.faults }
 
 -- an input that was read to its end stopped there
-whole_end : (o : Option Stop) → is_whole o ≡ true → o ≡ Some End
+pub whole_end : (o : Option Stop) → is_whole o ≡ true → o ≡ Some End
 whole_end None is = absurd (cc is)
 whole_end (Some End) is = refl
 whole_end (Some (Failed failure)) is = absurd (cc is)
 whole_end (Some Open) is = absurd (cc is)
 
 -- a fact of an optional value, where it is there
-if_some : {X : Type 0} (P : X → Type 0) (o : Option X) (x : X) → IfSome o P → o ≡ Some x → P x
+pub if_some : {X : Type 0} (P : X → Type 0) (o : Option X) (x : X) → IfSome o P → o ≡ Some x → P x
 if_some P None x holds is = absurd (cc is)
 if_some P (Some y) x holds is = let same : y ≡ x = cc is in subst P same holds
 
@@ -248,7 +248,7 @@ halts state old new halted (inr full) = halted_at state (halted (omega (arith, f
 -- What a run of a core ended with is what is promised of the run, by why it ended.
 module _ (c : Running) (grows : Grows) (compiled : IsCompiled c.plan) (origin : SourceState) (first last : Standing) (reads : ReadsFrom c.plan origin first)
     (stopped : Type 0) where
-  module _ (halted : stopped → (s : Stop) × (stop_in last.state ≡ Some s) × (is_end s ≡ false)) (before after : SinkState) (t u : ℕ) (end : Ended) (drove : Drove (λ events. Gives first events last) (is_whole (stop_in last.state)) stopped c (outlet before t) (outlet after u) end)
+  module _ (halted : stopped → (s : Stop) × (stop_in last.state ≡ Some s) × (is_end s ≡ false)) (before after : SinkState) (t u : ℕ) (end : Went) (drove : Drove (λ events. Gives first events last) (is_whole (stop_in last.state)) stopped c (outlet before t) (outlet after u) end)
       (kept : IsSequential end.core.plan end.core.machine) where
     abbrev m : Machine
     m = end.core.machine

@@ -10,6 +10,7 @@ mod OneCommand
 mod OneOutcome
 mod OneRun
 mod Pairs
+mod Reporting
 mod Running
 mod Tracing
 mod Words

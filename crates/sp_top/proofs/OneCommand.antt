@@ -40,8 +40,9 @@ one_speed : (options : List (List ℕ)) (s t : Speed) → AreRunOptions options 
 one_speed options s t one other =
     let live = one_bound_said 1 4096 64 (value_of (codes "--live") options) s.live t.live one.live other.live in
     let batch = one_bound_said 1 1024 64 (value_of (codes "--batch") options) s.batch t.batch one.batch other.batch in
+    let instances = one_bound_said 0 16 2 (value_of (codes "--instances") options) s.instances t.instances one.instances other.instances in
     let predictor = one_said IsWord (codes "markov") (λ text x y is also. is ∙ sym also) (value_of (codes "--predictor") options) s.predictor t.predictor one.predictor other.predictor in
-    λ i. record { live = live i; batch = batch i; predictor = predictor i }
+    λ i. record { live = live i; batch = batch i; instances = instances i; predictor = predictor i }
 
 -- the first letter of a word
 abbrev letter_of : List ℕ → ℕ

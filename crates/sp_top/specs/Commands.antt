@@ -9,10 +9,12 @@ use Rattle.sp_top.specs.declared.command.Run.{Run}
 use Rattle.sp_top.specs.declared.command.Trace.{Trace}
 use Rattle.sp_top.specs.declared.options.Speed.{Speed as FoundSpeed}
 
--- How a run works: how many versions may be live, how many events are fed or lent at a time, and the name of the predictor.
+-- How a run works: how many versions may be live, how many events are fed or lent at a time, how many instances read, and the name of the
+-- predictor.
 pub record Speed : Type 0 where
   pub live : ℕ
   pub batch : ℕ
+  pub instances : ℕ
   pub predictor : List ℕ
 
 -- A run of the query that stands there, so fast; one window by window; or a run of the machine over the schedule in the file of a name, with
@@ -29,13 +31,14 @@ pub data IsAt : List ℕ → List ℕ → Place → Type 0 where
 
 -- the names of a run's options
 abbrev pub IsRunOption : List ℕ → Type 0
-IsRunOption name = (name ≡ codes "--live") ⊎ ((name ≡ codes "--batch") ⊎ (name ≡ codes "--predictor"))
+IsRunOption name = (name ≡ codes "--live") ⊎ ((name ≡ codes "--batch") ⊎ ((name ≡ codes "--instances") ⊎ (name ≡ codes "--predictor")))
 
 -- The options of a run: each may be left out, and stands there once at most, in any order.
 pub record AreRunOptions (words : List (List ℕ)) (speed : Speed) : Type 0 where
   pub options : AreOptions IsRunOption words
   pub live : Says (IsBound 1 4096) 64 (value_of (codes "--live") words) speed.live
   pub batch : Says (IsBound 1 1024) 64 (value_of (codes "--batch") words) speed.batch
+  pub instances : Says (IsBound 0 16) 2 (value_of (codes "--instances") words) speed.instances
   pub predictor : Says IsWord (codes "markov") (value_of (codes "--predictor") words) speed.predictor
 
 -- The options of a trace: the schedule's file, and the bound, which may be left out; each once, in any order.
@@ -96,7 +99,12 @@ GivesFiles predictors words names =
 
 -- the command that was found
 abbrev pub speed_of : FoundSpeed → Speed
-speed_of found = record { live = found.live; batch = found.batch; predictor = found.predictor.now }
+speed_of found = record {
+  live = found.live;
+  batch = found.batch;
+  instances = found.instances;
+  predictor = found.predictor.now;
+}
 
 abbrev pub run_of : Run → Command
 run_of found = run (place_of found.place) (speed_of found.speed)

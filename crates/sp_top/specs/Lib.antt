@@ -5,6 +5,7 @@ pub mod Predictors
 pub mod Run
 pub mod Trace
 pub mod Outcome
+pub mod Report
 pub mod Alike
 pub mod OneOutcome
 pub mod Completes

@@ -13,6 +13,7 @@ mod plain;
 mod run;
 mod top;
 mod trace;
+mod workshop;
 
 pub use law::{completes, one_outcome, plans_run_alike};
 pub use top::spectre;

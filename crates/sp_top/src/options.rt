@@ -22,6 +22,8 @@ pub(crate) struct Speed<'a> {
     pub(crate) live: u32,
     /// The most events that are fed or lent at a time.
     pub(crate) batch: u32,
+    /// How many instances read, each on a thread of its own.
+    pub(crate) instances: u32,
     /// The name of the predictor.
     pub(crate) predictor: &'a str,
 }
@@ -46,6 +48,13 @@ const BATCH: Bounds = Bounds {
     least: 1,
     greatest: 1024,
     default: 64,
+};
+
+// How many instances.
+const INSTANCES: Bounds = Bounds {
+    least: 0,
+    greatest: 16,
+    default: 2,
 };
 
 // The predictor where no option names one.
@@ -88,7 +97,7 @@ fn value_at<'a>(words: &'a [String], name: &str) -> Option<&'a str>
 fn is_run_option(name: &str) -> bool
     ensures { IsTrue result ↔ IsRunOption name.now }
 {
-    name == "--live" || name == "--batch" || name == "--predictor"
+    matches!(name, "--live" | "--batch" | "--instances" | "--predictor")
 }
 
 // Whether the words are options of a run, each with its value, and none of them twice.
@@ -127,10 +136,12 @@ pub(crate) fn run_options<'a>(words: &'a [String]) -> Option<Speed<'a>>
     }
     let live = bound_at(words, "--live", LIVE)?;
     let batch = bound_at(words, "--batch", BATCH)?;
+    let instances = bound_at(words, "--instances", INSTANCES)?;
     let predictor = value_at(words, "--predictor").unwrap_or(PREDICTOR);
     Some(Speed {
         live,
         batch,
+        instances,
         predictor,
     })
 }

@@ -10,9 +10,11 @@ ghost use Rattle.sp_intake.specs.Standing.{ReadsFrom};
 ghost use Rattle.sp_answer.specs.Outcome.{ending};
 ghost use Rattle.sp_answer.specs.Promise.{filed, Served};
 ghost use Rattle.sp_answer.specs.Ran.{outside, Ran};
-ghost use Rattle.sp_top.specs.Commands.{files_of, run_of};
+ghost use Rattle.sp_load.specs.Places.{place_of};
+ghost use Rattle.sp_top.specs.Commands.{files_of, run_of, speed_of};
 ghost use Rattle.sp_top.specs.Ends as ends;
 ghost use Rattle.sp_top.specs.Outcome.{CommandOutcome};
+ghost use Rattle.sp_top.specs.Report.{ReportsPlace, ReportsPlan, WhereDone};
 ghost use Rattle.sp_top.specs.Run.{IsPlanRun};
 
 use crate::command::Run;
@@ -20,9 +22,11 @@ use crate::ends::{status_of, status_of_refusal};
 use crate::lines::Lines;
 use crate::options::Speed;
 use crate::plain::shared;
+use crate::workshop::{Answer, Workshop};
 use sp_answer::Status;
 use sp_chance::Predictor;
 use sp_core::Core;
+use sp_instance::Gate;
 use sp_intake::{EventReader, Input, Stop};
 use sp_io::{Files, Sink, Source};
 use sp_load::plan_at;
@@ -30,7 +34,8 @@ use sp_plan::{Memory, Plan};
 use sp_split::{Why, drive};
 use sp_window::growth;
 use std::alloc::Global;
-use std::sync::Arc;
+use std::sync::{Arc, Wait};
+use std::thread::Threads;
 
 // The status of a run that ended so, where its input gives no more for this reason.
 fn status_of_end(why: Why, stop: Option<Stop>) -> Status
@@ -54,17 +59,18 @@ fn core_of(alloc: Global, plan: &Arc<Plan>, live: u32) -> Result<Core, Memory>
 }
 
 // Drives a core from the input to the output.
-fn drive_core<S: Source, K: Sink>(
-    alloc: Global,
+fn drive_core<S: Source, K: Sink, G: Gate, R: Threads + Wait + Sync>(
+    shop: &Workshop<'_, G, R>,
     core: Core,
-    batch: u32,
+    speed: Speed,
     predictor: Box<dyn Predictor>,
     input: &mut Input<'_, S>,
     lines: &mut Lines<'_, K>,
-) -> Status
+) -> Answer
     requires fresh { core ≡ begun core.plan core.bound }
-    requires some { 1 ≤ batch }
-    requires most { batch ≤ 1024 }
+    requires bound { core.bound ≡ speed.live }
+    requires batch { (1 ≤ speed.batch) × (speed.batch ≤ 1024) }
+    requires instances { speed.instances ≤ 16 }
     requires compiled { IsCompiled core.plan }
     requires plan_in { plan_in input.old.events.reader.kept ≡ core.plan }
     requires unstopped { input.old.events.stops ≡ 0 }
@@ -74,19 +80,34 @@ fn drive_core<S: Source, K: Sink>(
         → Ran (IsPlanRun core.plan)
         (outside origin (K.state lines.old.out.now))
         (outside (S.state input.new.source.now) (K.state lines.new.out.now))
-        (ending result) }
+        (ending result.status) }
+    ensures report { (origin : SourceState)
+        → ReadsFrom core.plan origin (standing (S.state input.old.source.now) input.old.events)
+        → WhereDone (ReportsPlan core.plan (speed_of speed.entry)
+        origin.left (S.state input.new.source.now).left) result.status result.ended }
     ensures same_in { input.new.source.ghost_name ≡ input.old.source.ghost_name }
     ensures same_out { lines.new.out.ghost_name ≡ lines.old.out.ghost_name }
 {
+    let Speed {
+        instances,
+        batch,
+        ..
+    } = speed;
+    let Workshop { rt, alloc, gate } = shop;
     // A law: while the input has not ended, the matches so far begin those of any longer input.
     growth();
-    match drive(alloc, core, batch, predictor, input, lines) {
+    match drive(
+        *rt, *alloc, core, instances, batch, predictor, input, lines, *gate,
+    ) {
         Ok(ended) => {
-            // It tells what every core keeps.
+            // They tell what every core keeps, and that the journal leads to its state.
             ended.core.finished();
-            status_of_end(ended.why, input.stop())
+            ended.core.journal();
+            let status = status_of_end(ended.why, input.stop());
+            let ended = Some(ended);
+            Answer { status, ended }
         }
-        Err(_) => Status::Memory,
+        Err(_) => Answer::of(Status::Memory),
     }
 }
 
@@ -96,69 +117,70 @@ fn take_back<T>(lent: &mut T)
 {}
 
 // Runs a plan over the input.
-fn run_plan<S: Source, K: Sink>(
-    alloc: Global,
+fn run_plan<S: Source, K: Sink, G: Gate, R: Threads + Wait + Sync>(
+    shop: &Workshop<'_, G, R>,
     plan: Plan,
     speed: Speed,
     predictor: Box<dyn Predictor>,
     input: &mut S,
     out: &mut K,
-) -> Status
+) -> Answer
     requires compiled { IsCompiled plan }
     requires live { (1 ≤ speed.live) × (speed.live ≤ 4096) }
     requires batch { (1 ≤ speed.batch) × (speed.batch ≤ 1024) }
+    requires instances { speed.instances ≤ 16 }
     requires not_ended { (S.state input.old).ended ≡ false }
-    ensures { Ran (IsPlanRun plan)
+    ensures ran { Ran (IsPlanRun plan)
         (outside (S.state input.old) (K.state out.old))
         (outside (S.state input.new) (K.state out.new))
-        (ending result) }
+        (ending result.status) }
+    ensures report { WhereDone (ReportsPlan plan (speed_of speed.entry)
+        (S.state input.old).left (S.state input.new).left) result.status result.ended }
 {
+    let alloc = shop.alloc;
     let Ok(plan) = shared(alloc, plan) else {
-        return Status::Memory;
+        return Answer::of(Status::Memory);
     };
     let Ok(core) = core_of(alloc, &plan, speed.live) else {
-        return Status::Memory;
+        return Answer::of(Status::Memory);
     };
     let Ok(events) = EventReader::new(alloc, &plan) else {
-        return Status::Memory;
+        return Answer::of(Status::Memory);
     };
     let mut reading = Input::over(input, events);
     let taken = 0;
     let mut lines = Lines { plan, out, taken };
-    let status = drive_core(
-        alloc,
-        core,
-        speed.batch,
-        predictor,
-        &mut reading,
-        &mut lines,
-    );
+    let answer = drive_core(shop, core, speed, predictor, &mut reading, &mut lines);
     take_back(reading.into_source());
     take_back(lines.into_sink());
-    status
+    answer
 }
 
 /// Runs the query that stands there over the input, by the speculative engine.
-pub(crate) fn run<S: Source, F: Files, K: Sink>(
-    alloc: Global,
+pub(crate) fn run<S: Source, F: Files, K: Sink, G: Gate, R: Threads + Wait + Sync>(
+    shop: &Workshop<'_, G, R>,
     asked: Run,
     predictor: Box<dyn Predictor>,
     input: &mut S,
     files: &mut F,
     out: &mut K,
-) -> Status
+) -> Answer
     requires live { (1 ≤ asked.speed.live) × (asked.speed.live ≤ 4096) }
     requires batch { (1 ≤ asked.speed.batch) × (asked.speed.batch ≤ 1024) }
+    requires instances { asked.speed.instances ≤ 16 }
     requires not_ended { (S.state input.old).ended ≡ false }
-    ensures { Served (files_of (run_of asked.entry)) (CommandOutcome (run_of asked.entry))
+    ensures served { Served (files_of (run_of asked.entry)) (CommandOutcome (run_of asked.entry))
         (filed (F.held files.old) (F.faults files.old))
         (filed (F.held files.new) (F.faults files.new))
         (outside (S.state input.old) (K.state out.old))
         (outside (S.state input.new) (K.state out.new))
-        (ending result) }
+        (ending result.status) }
+    ensures report { WhereDone (ReportsPlace (F.held files.old) (place_of asked.entry.place)
+        (speed_of asked.entry.speed) (S.state input.old).left (S.state input.new).left)
+        result.status result.ended }
 {
-    match plan_at(alloc, asked.place, files) {
-        Ok(plan) => run_plan(alloc, plan, asked.speed, predictor, input, out),
-        Err(refusal) => status_of_refusal(refusal),
+    match plan_at(shop.alloc, asked.place, files) {
+        Ok(plan) => run_plan(shop, plan, asked.speed, predictor, input, out),
+        Err(refusal) => Answer::of(status_of_refusal(refusal)),
     }
 }

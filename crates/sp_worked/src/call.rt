@@ -2,12 +2,15 @@ ghost use Rattle.std.specs.Prelude.{◌≡◌, ◌<◌};
 
 use crate::hostile::{Fickle, Greatest, Zero};
 use sp_chance::{Even, Markov, Predictor, Steady};
+use sp_instance::OpenGate;
 use sp_io::{MemFiles, MemSink, MemSource};
 use sp_top::spectre;
 use std::alloc::{AllocError, Global};
+use std::sync::Wait;
+use std::thread::Threads;
 
 /// What the program leaves when it ends.
-#[derive(Drop, PartialEq)]
+#[derive(Clone, Drop, PartialEq)]
 pub(crate) struct Outcome {
     pub(crate) status: u8,
     pub(crate) output: Vec<u8>,
@@ -15,7 +18,7 @@ pub(crate) struct Outcome {
 }
 
 /// Words and the objects in memory that they are run over. A call's number counts from 1.
-#[derive(Drop)]
+#[derive(Clone, Drop)]
 pub(crate) struct Call {
     /// The name of a single call in place of the whole program, and empty for that.
     pub(crate) single: String,
@@ -36,6 +39,9 @@ pub(crate) struct Call {
 // What the sinks have room for.
 const ROOM: u32 = 1_000_000;
 
+// The option that says how many instances a run has.
+const INSTANCES: &str = "--instances";
+
 // The share that the steady predictor holds for likely, in 65,536ths.
 const STEADY: u32 = 49_152;
 
@@ -55,11 +61,25 @@ fn outcome_of(
     })
 }
 
+// Whether a word is among the words.
+fn has_word(words: &[String], word: &str) -> bool {
+    for one in words {
+        if one.as_str() == word {
+            return true;
+        }
+    }
+    false
+}
+
 impl Call {
     /// What the program leaves, or what a single call answers as the output.
-    pub(crate) fn outcome(self, alloc: Global) -> Result<Outcome, AllocError> {
+    pub(crate) fn outcome<R: Threads + Wait + Sync>(
+        self,
+        rt: &R,
+        alloc: Global,
+    ) -> Result<Outcome, AllocError> {
         if self.single.is_empty() {
-            self.run(alloc)
+            self.run(rt, alloc)
         } else {
             self.answered(alloc)
         }
@@ -82,8 +102,25 @@ impl Call {
         })
     }
 
+    /// Whether it is a run of the whole program whose words name no number of instances.
+    pub(crate) fn leaves_instances(&self) -> bool {
+        let words = self.words.as_slice();
+        let is_run = match words {
+            [first, ..] => first.as_str() == "run",
+            [] => false,
+        };
+        self.single.is_empty() && is_run && !has_word(words, INSTANCES)
+    }
+
+    /// Puts the two words that ask for no instance behind the others.
+    pub(crate) fn ask_for_none(&mut self, alloc: Global) -> Result<(), AllocError> {
+        self.words.push(String::from_str(alloc, INSTANCES)?)?;
+        self.words.push(String::from_str(alloc, "0")?)?;
+        Ok(())
+    }
+
     // What the program leaves.
-    fn run(self, alloc: Global) -> Result<Outcome, AllocError> {
+    fn run<R: Threads + Wait + Sync>(self, rt: &R, alloc: Global) -> Result<Outcome, AllocError> {
         let mut predictors: Vec<Box<dyn Predictor>> = Vec::new(alloc);
         predictors.push(Box::new(alloc, Even::new())?)?;
         predictors.push(Box::new(alloc, Steady::new(STEADY))?)?;
@@ -96,8 +133,18 @@ impl Call {
         let mut input = MemSource::new(self.input, self.piece.max(1), self.read_fails);
         let mut files = MemFiles::new(self.files, self.load_fails);
         let words = self.words.as_slice();
+        let mut report = None;
         let status = spectre(
-            alloc, words, &mut input, &mut files, &mut out, &mut err, predictors,
+            rt,
+            alloc,
+            words,
+            &mut input,
+            &mut files,
+            &mut out,
+            &mut err,
+            &OpenGate,
+            predictors,
+            &mut report,
         );
         drop(input);
         drop(files);

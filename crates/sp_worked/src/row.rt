@@ -1,8 +1,8 @@
 use crate::call::{Call, Outcome};
-use std::alloc::Global;
+use std::alloc::{AllocError, Global};
 
 /// A worked row: what it shows, a call, and what is to come of it.
-#[derive(Drop)]
+#[derive(Clone, Drop)]
 pub(crate) struct Row {
     pub(crate) name: String,
     pub(crate) call: Call,
@@ -31,5 +31,13 @@ impl Row {
                 error: Vec::new(alloc),
             },
         }
+    }
+
+    /// The same row without an instance.
+    pub(crate) fn alone(&self, alloc: Global) -> Result<Row, AllocError> {
+        let mut row = self.clone()?;
+        row.name.push_str(", without an instance")?;
+        row.call.ask_for_none(alloc)?;
+        Ok(row)
     }
 }

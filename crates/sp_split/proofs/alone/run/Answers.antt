@@ -7,7 +7,7 @@ use Rattle.sp_plan.specs.declared.plan.Plan.{Plan}
 use Rattle.sp_plan.specs.Compiled.{IsCompiled}
 use Rattle.sp_ports.specs.Giving.{AreGood}
 use Rattle.sp_split.specs.declared.feeding.Fed.TheVariants as f
-use Rattle.sp_split.proofs.Going.{Going, going_fed, going_worked, alone_worked, took_worked, failed_worked, short_worked, rose_from, fed_since, fed_as, drove_refused, drove_short, drove_whole, drove_stopped, fell_short}
+use Rattle.sp_split.proofs.Going.{Going, going_fed, going_worked, ran_worked, took_worked, failed_worked, short_worked, rose_from, fed_since, fed_as, drove_refused, drove_short, drove_whole, drove_stopped, fell_short}
 use Rattle.sp_split.proofs.Taken.{took_first}
 use Rattle.sp_split.proofs.alone.run.Goals as goal
 
@@ -36,7 +36,7 @@ returns-in-Err-Failed-clause-ended g c =
     let is = fed_since c.in_ok-fed.fed c.feed.new.core.machine.ended c.work_off.new.core.machine.ended (g.I.Intake.ended c.feed.new.intake)
     (g.I.Intake.stops first) (g.I.Intake.stops c.loop.intake) (g.I.Intake.stops c.feed.new.intake) worked.on.ended c.loop.invariant.never_falls c.in_ok-fed.ensures.is in
     drove_refused G (g.I.Intake.ended c.feed.new.intake) (Rose (g.I.Intake.stops first) (g.I.Intake.stops c.feed.new.intake)) c.args.core.now c.work_off.new.core old new c.in_ok-fed.fed is
-    (alone_worked G c.args.core.now c.feed.new.core c.work_off.new.core old s new going worked.on) (rose_from old.faults s.faults new.faults c.loop.invariant.going.no_fault (c.in-Err-Failed.ensures.rose (cc)))
+    (ran_worked G c.args.core.now c.feed.new.core c.work_off.new.core old s new going worked.on) (rose_from old.faults s.faults new.faults c.loop.invariant.going.no_fault (c.in-Err-Failed.ensures.rose (cc)))
     (failed_worked G c.args.core.now c.feed.new.core c.work_off.new.core old s new going worked)
 
 pub returns-in-Err-Memory-clause-ended : goal.returns-in-Err-Memory-clause-ended
@@ -52,7 +52,7 @@ returns-in-Err-Memory-clause-ended g c =
     let is = fed_since c.in_ok-fed.fed c.feed.new.core.machine.ended c.work_off.new.core.machine.ended (g.I.Intake.ended c.feed.new.intake)
     (g.I.Intake.stops first) (g.I.Intake.stops c.loop.intake) (g.I.Intake.stops c.feed.new.intake) worked.on.ended c.loop.invariant.never_falls c.in_ok-fed.ensures.is in
     drove_short G (g.I.Intake.ended c.feed.new.intake) (Rose (g.I.Intake.stops first) (g.I.Intake.stops c.feed.new.intake)) c.args.core.now c.work_off.new.core old new c.in_ok-fed.fed is
-    (alone_worked G c.args.core.now c.feed.new.core c.work_off.new.core old s new going worked.on) (short_worked G c.args.core.now c.feed.new.core c.work_off.new.core old s new going worked)
+    (ran_worked G c.args.core.now c.feed.new.core c.work_off.new.core old s new going worked.on) (short_worked G c.args.core.now c.feed.new.core c.work_off.new.core old s new going worked)
     (c.in-Err-Memory.ensures.no_fault (λ no. cc) ∙ c.loop.invariant.going.no_fault)
 
 pub returns-in-End-clause-ended : goal.returns-in-End-clause-ended
@@ -69,7 +69,7 @@ returns-in-End-clause-ended g c =
     (g.I.Intake.stops first) (g.I.Intake.stops c.loop.intake) (g.I.Intake.stops c.feed.new.intake) worked.on.ended c.loop.invariant.never_falls c.in_ok-fed.ensures.is in
     let ended = fed_as c.in_ok-fed.fed f.End c.work_off.new.core.machine.ended (g.I.Intake.ended c.feed.new.intake) (Rose (g.I.Intake.stops first) (g.I.Intake.stops c.feed.new.intake)) c.in-End.is is in
     drove_whole G (g.I.Intake.ended c.feed.new.intake) (Rose (g.I.Intake.stops first) (g.I.Intake.stops c.feed.new.intake)) c.args.core.now c.work_off.new.core old new c.in_ok-fed.fed is
-    (alone_worked G c.args.core.now c.feed.new.core c.work_off.new.core old s new going worked.on) (c.in-Ok.ensures.done.all refl) (took_worked G c.args.core.now c.feed.new.core c.work_off.new.core old s new going worked)
+    (ran_worked G c.args.core.now c.feed.new.core c.work_off.new.core old s new going worked.on) (c.in-Ok.ensures.done.all refl) (took_worked G c.args.core.now c.feed.new.core c.work_off.new.core old s new going worked)
     (c.in-Ok.ensures.no_fault (λ no. cc) ∙ c.loop.invariant.going.no_fault) ended.0
 
 pub returns-in-Stop-clause-ended : goal.returns-in-Stop-clause-ended
@@ -86,7 +86,7 @@ returns-in-Stop-clause-ended g c =
     (g.I.Intake.stops first) (g.I.Intake.stops c.loop.intake) (g.I.Intake.stops c.feed.new.intake) worked.on.ended c.loop.invariant.never_falls c.in_ok-fed.ensures.is in
     let stopped = fed_as c.in_ok-fed.fed f.Stop c.work_off.new.core.machine.ended (g.I.Intake.ended c.feed.new.intake) (Rose (g.I.Intake.stops first) (g.I.Intake.stops c.feed.new.intake)) c.in-Stop.is is in
     drove_stopped G (g.I.Intake.ended c.feed.new.intake) (Rose (g.I.Intake.stops first) (g.I.Intake.stops c.feed.new.intake)) c.args.core.now c.work_off.new.core old new c.in_ok-fed.fed is
-    (alone_worked G c.args.core.now c.feed.new.core c.work_off.new.core old s new going worked.on) (c.in-Ok.ensures.done.all refl) (took_worked G c.args.core.now c.feed.new.core c.work_off.new.core old s new going worked)
+    (ran_worked G c.args.core.now c.feed.new.core c.work_off.new.core old s new going worked.on) (c.in-Ok.ensures.done.all refl) (took_worked G c.args.core.now c.feed.new.core c.work_off.new.core old s new going worked)
     (c.in-Ok.ensures.no_fault (λ no. cc) ∙ c.loop.invariant.going.no_fault) stopped.1 stopped.0
 
 pub loop-preserved : goal.loop-preserved
@@ -103,7 +103,9 @@ loop-preserved g c =
     (g.I.Intake.stops first) (g.I.Intake.stops c.loop.intake) (g.I.Intake.stops c.feed.new.intake) worked.on.ended c.loop.invariant.never_falls c.in_ok-fed.ensures.is in
     let more = fed_as c.in_ok-fed.fed f.More c.work_off.new.core.machine.ended (g.I.Intake.ended c.feed.new.intake) (Rose (g.I.Intake.stops first) (g.I.Intake.stops c.feed.new.intake)) c.in-More.is is in
     record {
-      going = going_worked G c.args.core.now c.feed.new.core c.work_off.new.core old s new going worked c.in-Ok.ensures.done.none_out (c.in-Ok.ensures.no_fault (λ no. cc));
+      going = going_worked G c.args.core.now c.feed.new.core c.work_off.new.core old s new going worked (c.in-Ok.ensures.no_fault (λ no. cc));
+      alone = worked.on.on.alone (c.feed.ensures.on.on.alone c.loop.invariant.alone);
+      none_out = c.in-Ok.ensures.done.none_out;
       unended = more;
       plan = c.feed.ensures.same.0 ∙ c.loop.invariant.plan;
       token = c.feed.ensures.same.1 ∙ c.loop.invariant.token;

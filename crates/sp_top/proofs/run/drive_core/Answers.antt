@@ -1,14 +1,19 @@
 use denote.Param.Send.{sendable}
 use Rattle.std.proofs.Common.{◌∙◌, ap, sym, subst}
 use Rattle.sp_io.specs.Outside.{Rose}
+use Rattle.sp_group.specs.Steps.{replay}
 use Rattle.sp_intake.specs.Asked.{standing}
 use Rattle.sp_intake.proofs.Crossing.{input_sent}
 use Rattle.sp_answer.specs.Outcome.{ending}
 use Rattle.sp_answer.specs.Ran.{outside, Ran}
 use Rattle.sp_answer.specs.declared.status.Status.{Status}
+use Rattle.sp_split.specs.declared.ended.Went.{Went}
+use Rattle.sp_top.specs.Commands.{speed_of}
 use Rattle.sp_top.specs.Ends.{status_of_end}
 use Rattle.sp_top.specs.Run.{IsPlanRun}
-use Rattle.sp_top.proofs.Driven.{halts, ended_ran, fell_short}
+use Rattle.sp_top.specs.declared.workshop.Answer.{Answer}
+use Rattle.sp_top.proofs.Driven.{outlet, halts, ended_ran, fell_short}
+use Rattle.sp_top.proofs.Reporting.{reports_plan}
 use Rattle.sp_top.proofs.run.drive_core.Goals as goal
 
 pub drive-requires-send-I : goal.drive-requires-send-I
@@ -23,12 +28,28 @@ returns-in-Ok-clause-ran g c origin reads =
     let last = standing (g.S.Source.state new.source.now) new.events in
     let before = g.K.Sink.state c.args.lines.now.out.now in
     let after = g.K.Sink.state c.drive.new.outlet.out.now in
+    let went : Went = record { core = c.in-Ok.ended.core; why = c.in-Ok.ended.why } in
     let ran =
     ended_ran c.args.core c.growth.ensures c.requires.compiled origin first last reads (Rose old.events.stops new.events.stops)
     (halts new.events.state old.events.stops new.events.stops c.stop.ensures.halted) before after c.args.lines.now.taken c.drive.new.outlet.taken
-    c.in-Ok.ended c.in-Ok.ensures.ended c.finished.ensures.reached.sequential in
+    went c.in-Ok.ensures.ended c.finished.ensures.reached.sequential in
     subst (λ (s : Status). Ran (IsPlanRun q) (outside origin before) (outside last.source after) (ending s))
-    (sym (c.status_of_end.ensures ∙ ap (status_of_end c.in-Ok.ended.why) c.stop.ensures.stop)) ran
+    (sym (c.status_of_end-status.ensures ∙ ap (status_of_end c.in-Ok.ended.why) c.stop.ensures.stop)) ran
+
+pub returns-in-Ok-clause-report : goal.returns-in-Ok-clause-report
+returns-in-Ok-clause-report g c origin reads done =
+    let old = c.args.input.now in
+    let new = c.drive.new.intake in
+    let first = standing (g.S.Source.state old.source.now) old.events in
+    let last = standing (g.S.Source.state new.source.now) new.events in
+    let before = g.K.Sink.state c.args.lines.now.out.now in
+    let after = g.K.Sink.state c.drive.new.outlet.out.now in
+    let core = c.in-Ok.ended.core in
+    let replays = sym (ap (replay core.plan core.bound) c.journal.ensures.entries) ∙ c.journal.ensures.replays in
+    reports_plan c.args.core origin first last reads (Rose old.events.stops new.events.stops)
+    (halts new.events.state old.events.stops new.events.stops c.stop.ensures.halted) (outlet before c.args.lines.now.taken) (outlet after c.drive.new.outlet.taken)
+    (speed_of c.args.speed) c.in-Ok.ended c.in-Ok.ensures.ended c.requires.bound replays c.in-Ok.ensures.about
+    (sym (c.status_of_end-status.ensures ∙ ap (status_of_end c.in-Ok.ended.why) c.stop.ensures.stop) ∙ done)
 
 pub returns-in-Err-clause-ran : goal.returns-in-Err-clause-ran
 returns-in-Err-clause-ran g c origin reads =
@@ -38,4 +59,6 @@ returns-in-Err-clause-ran g c origin reads =
     let last = standing (g.S.Source.state new.source.now) new.events in
     let before = g.K.Sink.state c.args.lines.now.out.now in
     let after = g.K.Sink.state c.drive.new.outlet.out.now in
-    fell_short c.args.core c.growth.ensures c.requires.compiled origin first last reads (Rose old.events.stops new.events.stops) before after c.args.lines.now.taken c.drive.new.outlet.taken c.in-Err.ensures.short
+    let ran =
+    fell_short c.args.core c.growth.ensures c.requires.compiled origin first last reads (Rose old.events.stops new.events.stops) before after c.args.lines.now.taken c.drive.new.outlet.taken c.in-Err.ensures.short in
+    subst (λ (a : Answer). Ran (IsPlanRun c.args.core.plan) (outside origin before) (outside last.source after) (ending a.status)) (sym c.of.ensures) ran

@@ -1,22 +1,41 @@
-use Rattle.std.proofs.Common.{Err, ap}
+use Rattle.std.proofs.Common.{Err, ap, sym, subst, ◌∙◌}
 use Rattle.sp_load.specs.Places.{place_of}
-use Rattle.sp_answer.specs.Promise.{Filed, filed}
+use Rattle.sp_answer.specs.Outcome.{ending}
+use Rattle.sp_answer.specs.Promise.{Filed, filed, Served}
 use Rattle.sp_answer.specs.Ran.{Outside, outside}
+use Rattle.sp_top.specs.Commands.{files_at, speed_of}
+use Rattle.sp_top.specs.Run.{RunOutcome}
+use Rattle.sp_top.specs.Report.{ReportsPlace, WhereDone}
+use Rattle.sp_top.specs.declared.workshop.Answer.{Answer}
 use Rattle.sp_top.proofs.Running.{ran_served, refused_served}
+use Rattle.sp_top.proofs.Reporting.{of_place, refused_undone}
 use Rattle.sp_top.proofs.run.run.Goals as goal
 
-pub returns-in-Ok : goal.returns-in-Ok
-returns-in-Ok g c =
+pub returns-in-Ok-clause-served : goal.returns-in-Ok-clause-served
+returns-in-Ok-clause-served g c =
     let before : Filed = filed (g.F.Files.held c.args.files.now) (g.F.Files.faults c.args.files.now) in
     let after : Filed = filed (g.F.Files.held c.plan_at.new.files) (g.F.Files.faults c.plan_at.new.files) in
     let old : Outside = outside (g.S.Source.state c.args.input.now) (g.K.Sink.state c.args.out.now) in
     let new : Outside = outside (g.S.Source.state c.run_plan.new.input) (g.K.Sink.state c.run_plan.new.out) in
-    ran_served (place_of c.args.asked.place) before after old c.plan_at.ensures.held new c.in-Ok.plan c.run_plan.result c.in-Ok.ensures.plan (c.in-Ok.ensures.no_fault (λ e. cc)) c.run_plan.ensures
+    ran_served (place_of c.args.asked.place) before after old c.plan_at.ensures.held new c.in-Ok.plan c.run_plan.result.status c.in-Ok.ensures.plan (c.in-Ok.ensures.no_fault (λ e. cc)) c.run_plan.ensures.ran
 
-pub returns-in-Err : goal.returns-in-Err
-returns-in-Err g c =
+pub returns-in-Ok-clause-report : goal.returns-in-Ok-clause-report
+returns-in-Ok-clause-report g c =
+    of_place (g.F.Files.held c.args.files.now) (place_of c.args.asked.place) (speed_of c.args.asked.speed) _ _ c.in-Ok.plan c.in-Ok.ensures.plan c.run_plan.result.status c.run_plan.result.ended c.run_plan.ensures.report
+
+pub returns-in-Err-clause-served : goal.returns-in-Err-clause-served
+returns-in-Err-clause-served g c =
+    let place = place_of c.args.asked.place in
     let before : Filed = filed (g.F.Files.held c.args.files.now) (g.F.Files.faults c.args.files.now) in
     let after : Filed = filed (g.F.Files.held c.plan_at.new.files) (g.F.Files.faults c.plan_at.new.files) in
     let old : Outside = outside (g.S.Source.state c.args.input.now) (g.K.Sink.state c.args.out.now) in
-    refused_served (place_of c.args.asked.place) before after old c.plan_at.ensures.held c.in-Err.refusal c.status_of_refusal.result c.status_of_refusal.ensures c.in-Err.ensures.refused
-    (λ is. c.in-Err.ensures.fault (ap Err is)) (λ other. c.in-Err.ensures.no_fault (λ e. other cc))
+    let served =
+    refused_served place before after old c.plan_at.ensures.held c.in-Err.refusal c.status_of_refusal.result c.status_of_refusal.ensures c.in-Err.ensures.refused
+    (λ is. c.in-Err.ensures.fault (ap Err is)) (λ other. c.in-Err.ensures.no_fault (λ e. other cc)) in
+    subst (λ (a : Answer). Served (files_at place) (RunOutcome place) before after old old (ending a.status)) (sym c.of.ensures) served
+
+pub returns-in-Err-clause-report : goal.returns-in-Err-clause-report
+returns-in-Err-clause-report g c =
+    let left = (g.S.Source.state c.args.input.now).left in
+    subst (λ (a : Answer). WhereDone (ReportsPlace (g.F.Files.held c.args.files.now) (place_of c.args.asked.place) (speed_of c.args.asked.speed) left left) a.status a.ended) (sym c.of.ensures)
+    (λ done. refused_undone c.in-Err.refusal (sym c.status_of_refusal.ensures ∙ done))

@@ -6,40 +6,55 @@ use Rattle.sp_intake.specs.Asked.{standing}
 use Rattle.sp_intake.specs.Standing.{ReadsFrom}
 use Rattle.sp_intake.proofs.Gave.{gave_none}
 use Rattle.sp_intake.proofs.Since.{no_further_none}
-use Rattle.sp_answer.specs.Ran.{Outside, outside}
-use Rattle.sp_top.specs.Run.{windows_text}
+use Rattle.sp_answer.specs.Outcome.{ending}
+use Rattle.sp_answer.specs.Ran.{Outside, outside, Ran}
+use Rattle.sp_top.specs.Commands.{speed_of}
+use Rattle.sp_top.specs.Run.{windows_text, IsPlanRun}
+use Rattle.sp_top.specs.declared.workshop.Answer.{Answer}
 use Rattle.sp_top.proofs.Running.{unread}
 use Rattle.sp_top.proofs.Driven.{as_run}
+use Rattle.sp_top.proofs.Reporting.{as_report}
 use Rattle.sp_top.proofs.run.run_plan.Goals as goal
 
-pub returns-in_default : goal.returns-in_default
-returns-in_default g c =
+pub returns-in_default-clause-ran : goal.returns-in_default-clause-ran
+returns-in_default-clause-ran g c =
     let q = c.args.plan in
     let state = g.S.Source.state c.args.input.now in
     let old : Outside = outside state (g.K.Sink.state c.args.out.now) in
-    unread windows_text q old old [] (gave_none state.left) (no_further_none q) refl
+    subst (λ (a : Answer). Ran (IsPlanRun q) old old (ending a.status)) (sym c.of.ensures) (unread windows_text q old old [] (gave_none state.left) (no_further_none q) refl)
 
-pub returns-in_default-core_of : goal.returns-in_default-core_of
-returns-in_default-core_of g c =
+pub returns-in_default-core_of-clause-ran : goal.returns-in_default-core_of-clause-ran
+returns-in_default-core_of-clause-ran g c =
     let q = c.args.plan in
     let state = g.S.Source.state c.args.input.now in
     let old : Outside = outside state (g.K.Sink.state c.args.out.now) in
-    unread windows_text q old old [] (gave_none state.left) (no_further_none q) refl
+    subst (λ (a : Answer). Ran (IsPlanRun q) old old (ending a.status)) (sym c.of-in_default-core_of.ensures) (unread windows_text q old old [] (gave_none state.left) (no_further_none q) refl)
 
-pub returns-in_default-new : goal.returns-in_default-new
-returns-in_default-new g c =
+pub returns-in_default-new-clause-ran : goal.returns-in_default-new-clause-ran
+returns-in_default-new-clause-ran g c =
     let q = c.args.plan in
     let state = g.S.Source.state c.args.input.now in
     let old : Outside = outside state (g.K.Sink.state c.args.out.now) in
-    unread windows_text q old old [] (gave_none state.left) (no_further_none q) refl
+    subst (λ (a : Answer). Ran (IsPlanRun q) old old (ending a.status)) (sym c.of-in_default-new.ensures) (unread windows_text q old old [] (gave_none state.left) (no_further_none q) refl)
 
-pub returns : goal.returns
-returns g c =
+pub returns-clause-ran : goal.returns-clause-ran
+returns-clause-ran g c =
     let q = arc_value c.in-Ok.plan in
     let origin = g.S.Source.state c.args.input.now in
     let made = c.over-reading.result in
     let first = standing (g.S.Source.state made.source.now) made.events in
     let core_is : c.in-Ok-core_of.core.plan ≡ q = ap (λ (core : Running). core.plan) c.in-Ok-core_of.ensures in
     let from : ReadsFrom q origin first = rw (c.over-reading.ensures.events, c.over-reading.ensures.source) (c.in-Ok-new.ensures.fresh origin c.requires.not_ended) in
-    let ran = c.drive_core-status.ensures.ran origin (subst (λ (p : Plan). ReadsFrom p origin first) (sym core_is) from) in
+    let ran = c.drive_core-answer.ensures.ran origin (subst (λ (p : Plan). ReadsFrom p origin first) (sym core_is) from) in
     as_run c.args.plan c.in-Ok-core_of.core.plan (core_is ∙ c.in-Ok.ensures) _ _ _ _ _ _ (search rules) (search rules) ran
+
+pub returns-clause-report : goal.returns-clause-report
+returns-clause-report g c =
+    let q = arc_value c.in-Ok.plan in
+    let origin = g.S.Source.state c.args.input.now in
+    let made = c.over-reading.result in
+    let first = standing (g.S.Source.state made.source.now) made.events in
+    let core_is : c.in-Ok-core_of.core.plan ≡ q = ap (λ (core : Running). core.plan) c.in-Ok-core_of.ensures in
+    let from : ReadsFrom q origin first = rw (c.over-reading.ensures.events, c.over-reading.ensures.source) (c.in-Ok-new.ensures.fresh origin c.requires.not_ended) in
+    let report = c.drive_core-answer.ensures.report origin (subst (λ (p : Plan). ReadsFrom p origin first) (sym core_is) from) in
+    as_report c.args.plan c.in-Ok-core_of.core.plan (core_is ∙ c.in-Ok.ensures) (speed_of c.args.speed) origin.left _ _ (search rules) _ _ report

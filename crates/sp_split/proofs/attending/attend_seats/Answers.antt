@@ -1,0 +1,28 @@
+-- The closure that each instance runs captures four references; the hub may be shared since its jobs and pieces may cross.
+use denote.Param.Send.{IsSync}
+use denote.Param.{param}
+use Rattle.std.proofs.alloc.Global.TheSendSync as global
+use Rattle.sp_hub.proofs.exchange.Hub.TheSendSync as hub
+use Rattle.sp_hub.specs.contracts.exchange.Hub as hub_row
+use Rattle.sp_piece.specs.contracts.job.Job as job
+use Rattle.sp_piece.specs.contracts.piece.Piece as piece
+use Rattle.sp_piece.specs.contracts.job.JobNamed.TheImpl as job_named
+use Rattle.sp_piece.specs.contracts.piece.PieceNamed.TheImpl as piece_named
+use Rattle.sp_piece.proofs.Crossing.{job_sent, piece_sent}
+use Rattle.sp_split.proofs.attending.attend_seats.Goals as goal
+
+pub for_each_mut-requires-sync-F : goal.for_each_mut-requires-sync-F
+for_each_mut-requires-sync-F g c κs within =
+    let shared : IsSync (hub_row.the_row job.the_row piece.the_row (param 0 g.row.L) job_named.ghosts piece_named.ghosts g.L.Ledger) = hub.the_sync job.the_row piece.the_row (param 0 g.row.L) job_named.ghosts piece_named.ghosts g.L.Ledger job_sent piece_sent in
+    record {
+      shared = λ x b o κ. (
+        (
+          (λ q. tt, c.type_bounds.sync-R.shared x.0.now _ _ _),
+          (
+            (λ q. tt, global.the_sync.shared x.1.now _ _ κ),
+            ((λ q. tt, shared.shared x.2.now _ _ _), ((λ q. tt, c.type_bounds.sync-G.shared x.3.now _ _ _), tt)),
+          ),
+        ),
+        λ q. tt,
+      );
+    }

@@ -1,0 +1,100 @@
+use denote.Param.Send.{sendable}
+use Rattle.std.proofs.Common.{◌≡◌, ◌+◌, ◌<◌, List, None, length, sym, ap, subst, arith}
+use Rattle.std.specs.Prelude.{vec_len}
+use Rattle.std.specs.List.{All}
+use Rattle.std.proofs.lemmas.List.FromFn.{length-map-range_with_len}
+use Rattle.sp_io.specs.Outside.{Rose}
+use Rattle.sp_plan.specs.declared.event.Event.{Event}
+use Rattle.sp_hub.specs.State.{Extent, Sitting}
+use Rattle.sp_hub.specs.Calls.{fresh_seat}
+use Rattle.sp_hub.proofs.Seats.{all_free}
+use Rattle.sp_piece.proofs.Crossing.{job_sent, piece_sent}
+use Rattle.sp_split.specs.Crews.{Crewed}
+use Rattle.sp_split.specs.Serving.{Ends}
+use Rattle.sp_split.proofs.About.{ends_with, fell_at_once}
+use Rattle.sp_split.proofs.joining.under.Goals as goal
+
+pub new-requires-send-J : goal.new-requires-send-J
+new-requires-send-J g c κs within = search (job_sent, sendable) depth 20
+
+pub new-requires-send-P : goal.new-requires-send-P
+new-requires-send-P g c κs within = search (piece_sent, sendable) depth 20
+
+pub returns-in-Err-clause-ends : goal.returns-in-Err-clause-ends
+returns-in-Err-clause-ends g c =
+    let intake = c.args.ways.intake in
+    record {
+      drove = tt;
+      about = tt;
+      short = fell_at_once (λ (events : List Event). g.I.Intake.gave intake events intake) (g.I.Intake.ended intake) c.args.splitter.core.plan (g.O.Outlet.state c.args.ways.outlet) (g.I.Intake.gave_none intake);
+    }
+
+pub part-seat-requires-clause-some : goal.part-seat-requires-clause-some
+part-seat-requires-clause-some g c =
+    let are = ap length c.in-Ok.ensures.seats in
+    let count = length-map-range_with_len fresh_seat 0 c.args.opened.seats in
+    let places = c.requires.places.0 in
+    let held = c.in-Ok.made.2.ok in
+    omega arith
+
+pub part-seat-requires-clause-free : goal.part-seat-requires-clause-free
+part-seat-requires-clause-free g c = subst (All (λ (s : Sitting). s.holding ≡ None)) (sym c.in-Ok.ensures.seats) (all_free c.args.opened.seats)
+
+pub beside-crew-requires-clause-some : goal.beside-crew-requires-clause-some
+beside-crew-requires-clause-some g c =
+    let are = ap length c.in-Ok.ensures.seats in
+    let count = length-map-range_with_len fresh_seat 0 c.args.opened.seats in
+    let places = c.requires.places.0 in
+    let held = c.in-Ok.made.2.ok in
+    let fewer = c.part-seat.ensures.len in
+    let others = c.part-seat.result.1.ok in
+    let some = c.requires.instances.0 in
+    let crew = ap (λ (x : Crewed). length x.seats) c.of-crew.ensures in
+    omega arith
+
+pub beside-crew-requires-clause-free : goal.beside-crew-requires-clause-free
+beside-crew-requires-clause-free g c κs within =
+    subst (λ (x : Crewed). All (λ (s : Sitting). s.holding ≡ None) x.seats) (sym c.of-crew.ensures) c.part-seat.ensures.others
+
+pub wind_up-history-requires-clause-whole : goal.wind_up-history-requires-clause-whole
+wind_up-history-requires-clause-whole g c =
+    let are = ap length c.in-Ok.ensures.seats in
+    let count = length-map-range_with_len fresh_seat 0 c.args.opened.seats in
+    let held = c.in-Ok.made.2.ok in
+    let fewer = c.part-seat.ensures.len in
+    let others = c.part-seat.result.1.ok in
+    let same = c.beside-crew.ensures.len in
+    let crew = ap (λ (x : Crewed). length x.seats) c.of-crew.ensures in
+    let back = ap length c.into_seats.ensures.seats in
+    let kept = c.into_seats.result.ok in
+    let seats = ap (λ (h : Extent). h.seats) c.in-Ok.ensures.hub in
+    omega arith
+
+pub wind_up-history-requires-clause-room : goal.wind_up-history-requires-clause-room
+wind_up-history-requires-clause-room g c =
+    let room = c.part-seat.ensures.room in
+    let others = c.part-seat.result.1.ok in
+    let same = c.beside-crew.ensures.len in
+    let kept_room = c.beside-crew.ensures.room in
+    let crew = ap (λ (x : Crewed). length x.seats) c.of-crew.ensures in
+    let crew_room = ap (λ (x : Crewed). x.room) c.of-crew.ensures in
+    let back = ap length c.into_seats.ensures.seats in
+    let back_room = c.into_seats.ensures.room in
+    let kept = c.into_seats.result.ok in
+    omega arith
+
+pub returns-clause-ends : goal.returns-clause-ends
+returns-clause-ends g c =
+    let first = c.args.ways.intake in
+    let last = c.beside-crew.result.2.intake in
+    let G = λ (events : List Event). g.I.Intake.gave first events last in
+    let all = g.I.Intake.ended last in
+    let stopped = Rose (g.I.Intake.stops first) (g.I.Intake.stops last) in
+    let n = c.args.splitter.instances in
+    let start = c.args.splitter.core in
+    let old = g.O.Outlet.state c.args.ways.outlet in
+    let new = g.O.Outlet.state c.beside-crew.result.2.outlet in
+    let history = c.wind_up-history.result in
+    subst (λ r. Ends G all stopped n start old new r) (sym c.with_history.ensures)
+    (ends_with G all stopped n start old new c.beside-crew.result.1.end c.beside-crew.result.1.by.calls history c.beside-crew.ensures.served c.requires.instances.0
+    c.wind_up-history.ensures.calls c.wind_up-history.ensures.legal c.returns_follow_readings.ensures)

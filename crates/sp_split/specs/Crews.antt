@@ -1,0 +1,7 @@
+-- The seats of instances, as contracts see them.
+use Rattle.std.specs.Prelude.{ℕ, List}
+use Rattle.sp_hub.specs.State.{Sitting}
+
+pub record Crewed : Type 0 where
+  pub seats : List Sitting
+  pub room : ℕ

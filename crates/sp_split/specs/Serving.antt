@@ -1,0 +1,71 @@
+-- What a splitter does between an intake and an outlet.
+use Rattle.std.specs.Prelude.{◌≡◌, ℕ, ◌+◌, ◌≤◌, Bool, false, List, None, Ok, Err, IfOk, OnErr}
+use Rattle.std.specs.declared.result.Result.{Result}
+use Rattle.sp_plan.specs.declared.event.Event.{Event}
+use Rattle.sp_plan.specs.declared.found.Match.{Match}
+use Rattle.sp_plan.specs.declared.plan.Plan.{Plan}
+use Rattle.sp_hub.specs.State.{Posting, Sitting}
+use Rattle.sp_hub.specs.declared.exchange.History.{History}
+use Rattle.sp_piece.specs.declared.job.Job.{Job}
+use Rattle.sp_group.specs.Steps.{Spread}
+use Rattle.sp_core.specs.Running.{Running, begun}
+use Rattle.sp_ports.specs.Taking.{OutletState}
+use Rattle.sp_spread.specs.Journaled.{readings_entered}
+use Rattle.sp_splitter.specs.Splitting.{IsBelowKept}
+use Rattle.sp_splitter.specs.Stages.{Goes, Went}
+use Rattle.sp_split.specs.declared.ended.Ended as ended_as
+use Rattle.sp_split.specs.declared.ended.Went as went
+use Rattle.sp_split.specs.Driving.{CameAbout, Drove, FellShort}
+use Rattle.sp_split.specs.Stages.{FedOn}
+
+-- The core was fed, and no more: no ticket was lent, nothing that was read came home, and the journal is as spread as before.
+pub record Filled (old new : Running) : Type 0 where
+  pub on : FedOn old new
+  pub next_ticket : new.machine.next_ticket ≡ old.machine.next_ticket
+  pub read : readings_entered new.journal ≡ readings_entered old.journal
+  pub goes : (n : ℕ) → Goes n old new
+
+-- A splitter may take a turn: it has at most 16 instances; it leases for 1 to 1,024 events; its poster has not closed the hub, and has room for one ticket more than
+-- there are instances; and the ticket that was posted last is below those of the jobs that are kept.
+pub record CanTurn (instances batch : ℕ) (kept : List Job) (next_ticket : ℕ) (by : Posting) : Type 0 where
+  pub few : instances ≤ 16
+  pub some : 1 ≤ batch
+  pub most : batch ≤ 1024
+  pub room : by.room ≡ instances + 1
+  pub unclosed : by.closed ≡ false
+  pub last : IsBelowKept by.last kept next_ticket
+
+-- A turn for n instances, and of the matches that it emitted this is so.
+pub record WentWith (n : ℕ) (old new : Running) (fact : List Match → Type 0) : Type 0 where
+  pub went : Went n old new
+  pub so : fact went.more
+
+-- How a run with n instances came about: its journal is spread, and the poster made a call for each reading that stands in it.
+pub record CameBy (n : ℕ) (c : Running) (calls : ℕ) : Type 0 where
+  pub spread : Spread c.plan c.bound n c.journal
+  pub read : readings_entered c.journal ≤ calls
+
+-- A splitter served n instances, and ended so, with so many calls of its poster.
+pub record Serves {E : Type 0} (gave : List Event → Type 0) (ended : Bool) (stopped : Type 0) (n : ℕ) (c : Running) (old new : OutletState) (end : Result went.Went E) (calls : ℕ) : Type 0 where
+  pub drove : IfOk end (λ went. Drove gave ended stopped c old new went)
+  pub came : IfOk end (λ went. CameBy n went.core calls)
+  pub short : OnErr end (FellShort gave ended c.plan old new)
+
+-- A splitter may begin to serve: its core has done no step, its seat holds nothing, and the ways in and out are those of its plan.
+pub record MayServe (c : Running) (instances batch : ℕ) (kept : List Job) (by : Posting) (seat : Sitting) (intake outlet : Plan) : Type 0 where
+  pub fresh : c ≡ begun c.plan c.bound
+  pub can : CanTurn instances batch kept c.machine.next_ticket by
+  pub free : seat.holding ≡ None
+  pub intake_plan : intake ≡ c.plan
+  pub outlet_plan : outlet ≡ c.plan
+
+-- A run with n instances ended so, with what its hub did.
+pub record Ends {E : Type 0} (gave : List Event → Type 0) (ended : Bool) (stopped : Type 0) (n : ℕ) (c : Running) (old new : OutletState) (end : Result ended_as.Ended E) : Type 0 where
+  pub drove : IfOk end (λ e. Drove gave ended stopped c old new (record { core = e.core; why = e.why }))
+  pub about : IfOk end (λ e. CameAbout n e.core e.history.entries)
+  pub short : OnErr end (FellShort gave ended c.plan old new)
+
+-- how a run ended, with what its hub did
+abbrev pub ending : {E : Type 0} → History → Result went.Went E → Result ended_as.Ended E
+ending history (Ok w) = Ok (record { core = w.core; why = w.why; history = history })
+ending history (Err e) = Err e

@@ -1,0 +1,136 @@
+// A core and its instances, from an intake to an outlet.
+ghost use Rattle.std.specs.Prelude.{◌≡◌, ◌≤◌, ◌<◌, [], IfOk, OnErr};
+ghost use Rattle.sp_io.specs.Outside.{Rose};
+ghost use Rattle.sp_core.specs.Running.{begun};
+ghost use Rattle.sp_split.specs.Driving.{CameAbout, Drove, FellShort};
+ghost use Rattle.sp_split.specs.Serving.{Ends};
+
+use crate::alone::drive_alone;
+use crate::joining::{Ways, under};
+use crate::lent::{LentIntake, LentOutlet, take_back};
+use crate::{Ended, Memory, Went};
+use sp_chance::Predictor;
+use sp_core::Core;
+use sp_hub::{History, Opened};
+use sp_instance::Gate;
+use sp_ports::{Intake, Outlet};
+use sp_splitter::Splitter;
+use sp_text::Listed;
+use std::alloc::Global;
+use std::marker::Brand;
+use std::sync::Wait;
+use std::thread::Threads;
+
+/// Runs a core that has done no step from an intake to an outlet: events are fed, up to `batch` at a time, 1 to
+/// 1,024, windows are worked on and finished, and their matches put, until the intake gives no more. So many
+/// instances, 0 to 16, each on a thread of its own where one can be made, read what the splitter leases, `batch`
+/// events at a time, each job inside the gate; without one all is done on this thread, no speculative version is
+/// made, and it always returns. `Whole` comes only where the intake reached the end of its input, `Stopped` only
+/// where its count of stops rose, `Refused` only where the outlet's count of faults did; the windows that are
+/// closed are finished for the first two, and all their matches were taken. After want of memory the outlet took
+/// the first matches of what the events given come to.
+pub fn drive<I: Intake, O: Outlet, G: Gate, R: Threads + Wait + Sync>(
+    rt: &R,
+    alloc: Global,
+    core: Core,
+    instances: u32,
+    batch: u32,
+    predictor: Box<dyn Predictor>,
+    intake: &mut I,
+    outlet: &mut O,
+    gate: &G,
+) -> Result<Ended, Memory>
+    requires fresh { core ≡ begun core.plan core.bound }
+    requires instances { instances ≤ 16 }
+    requires some { 1 ≤ batch }
+    requires most { batch ≤ 1024 }
+    requires intake_plan { I.plan intake.old ≡ core.plan }
+    requires outlet_plan { O.plan outlet.old ≡ core.plan }
+    ensures ended { IfOk result (λ end. Drove (λ events. I.gave intake.old events intake.new) (I.ended intake.new)
+        (Rose (I.stops intake.old) (I.stops intake.new)) core (O.state outlet.old) (O.state outlet.new)
+        (record { core = end.core; why = end.why })) }
+    ensures about { IfOk result (λ end. CameAbout instances end.core end.history.entries) }
+    ensures short { OnErr result (FellShort (λ events. I.gave intake.old events intake.new) (I.ended intake.new)
+        core.plan (O.state outlet.old) (O.state outlet.new)) }
+    ensures same { (I.plan intake.new ≡ I.plan intake.old) × (I.token intake.new ≡ I.token intake.old) }
+    ensures same_out { (O.plan outlet.new ≡ O.plan outlet.old) × (O.token outlet.new ≡ O.token outlet.old) }
+{
+    if instances == 0 {
+        return drive_lone(alloc, core, batch, predictor, intake, outlet);
+    }
+    let splitter = Splitter::new(alloc, core, instances, batch, predictor)?;
+    drive_shared(rt, alloc, splitter, intake, outlet, gate)
+}
+
+// Without an instance: there is no hub.
+#[tactic(auto, using(crate::proofs::About::came_alone))]
+fn drive_lone<I: Intake, O: Outlet>(
+    alloc: Global,
+    core: Core,
+    batch: u32,
+    predictor: Box<dyn Predictor>,
+    intake: &mut I,
+    outlet: &mut O,
+) -> Result<Ended, Memory>
+    requires fresh { core ≡ begun core.plan core.bound }
+    requires some { 1 ≤ batch }
+    requires most { batch ≤ 1024 }
+    requires intake_plan { I.plan intake.old ≡ core.plan }
+    requires outlet_plan { O.plan outlet.old ≡ core.plan }
+    ensures ends { Ends (λ events. I.gave intake.old events intake.new) (I.ended intake.new)
+        (Rose (I.stops intake.old) (I.stops intake.new)) 0 core (O.state outlet.old) (O.state outlet.new) result }
+    ensures same { (I.plan intake.new ≡ I.plan intake.old) × (I.token intake.new ≡ I.token intake.old) }
+    ensures same_out { (O.plan outlet.new ≡ O.plan outlet.old) × (O.token outlet.new ≡ O.token outlet.old) }
+{
+    let Went { core, why } = drive_alone(alloc, core, batch, predictor, intake, outlet)?;
+    let history = no_history(alloc);
+    Ok(Ended { core, why, history })
+}
+
+// What no hub did.
+fn no_history(alloc: Global) -> History
+    ensures { result.entries ≡ [] }
+{
+    History {
+        entries: Listed::of(Vec::new(alloc)),
+        takes: Listed::of(Vec::new(alloc)),
+        puts: Listed::of(Vec::new(alloc)),
+    }
+}
+
+// With instances, to which the splitter leases. The ways in and out are lent to the thread that it runs on.
+fn drive_shared<I: Intake, O: Outlet, G: Gate, R: Threads + Wait + Sync>(
+    rt: &R,
+    alloc: Global,
+    splitter: Splitter,
+    intake: &mut I,
+    outlet: &mut O,
+    gate: &G,
+) -> Result<Ended, Memory>
+    requires fresh { splitter.core ≡ begun splitter.core.plan splitter.core.bound }
+    requires instances { (0 < splitter.instances) × (splitter.instances ≤ 16) }
+    requires batch { (1 ≤ splitter.batch) × (splitter.batch ≤ 1024) }
+    requires kept { splitter.kept.items ≡ [] }
+    requires intake_plan { I.plan intake.old ≡ splitter.core.plan }
+    requires outlet_plan { O.plan outlet.old ≡ splitter.core.plan }
+    ensures ends { Ends (λ events. I.gave intake.old events intake.new) (I.ended intake.new)
+        (Rose (I.stops intake.old) (I.stops intake.new)) splitter.instances splitter.core
+        (O.state outlet.old) (O.state outlet.new) result }
+    ensures same { (I.plan intake.new ≡ I.plan intake.old) × (I.token intake.new ≡ I.token intake.old) }
+    ensures same_out { (O.plan outlet.new ≡ O.plan outlet.old) × (O.token outlet.new ≡ O.token outlet.old) }
+{
+    let places = splitter.instances + 1;
+    let opened = Opened::new(alloc, places, places)?;
+    let lent = Ways {
+        intake: LentIntake { inner: intake },
+        outlet: LentOutlet { inner: outlet },
+    };
+    let (ended, back) = under::<Brand, _, _, _, _>(rt, alloc, opened, splitter, gate, lent);
+    let Ways {
+        intake: LentIntake { inner: intake },
+        outlet: LentOutlet { inner: outlet },
+    } = back;
+    take_back(intake);
+    take_back(outlet);
+    ended
+}

@@ -1,0 +1,180 @@
+// A splitter and its instances side by side, at a hub of their own.
+ghost use Rattle.std.specs.Prelude.{◌≡◌, ◌≤◌, ◌<◌, ◌+◌, [], None, List, length, vec_len, vec_capacity};
+ghost use Rattle.std.specs.List.{All, count_by};
+ghost use Rattle.std.specs.Thread.{IsSync};
+ghost use Rattle.sp_io.specs.Outside.{Rose};
+ghost use Rattle.sp_hub.specs.History.{IsLegal, is_call};
+ghost use Rattle.sp_core.specs.Running.{begun};
+ghost use Rattle.sp_split.specs.Serving.{Ends, MayServe, Serves, ending};
+
+use crate::attending::{Crew, attend_all};
+use crate::serving::{Desk, Served, serve};
+use crate::{Ended, Memory, Went};
+use sp_hub::{History, Hub, Naming, Opened, Poster, Seat};
+use sp_instance::Gate;
+use sp_piece::{Job, Piece};
+use sp_ports::{Intake, Outlet};
+use sp_splitter::Splitter;
+use sp_spread::returns_follow_readings;
+use std::alloc::{AllocError, Global};
+use std::sync::Wait;
+use std::thread;
+use std::thread::Threads;
+
+/// The way in and the way out.
+#[derive(Drop)]
+pub(crate) struct Ways<I: Intake, O: Outlet> {
+    pub(crate) intake: I,
+    pub(crate) outlet: O,
+}
+
+// The splitter's own seat, and those of its instances.
+fn part<L: Naming>(seats: Vec<Seat<Piece, L>>) -> (Seat<Piece, L>, Vec<Seat<Piece, L>>)
+    requires some { 0 < vec_len seats }
+    requires free { All (λ s. s.holding ≡ None) seats.items }
+    ensures mine { result.0.holding ≡ None }
+    ensures others { All (λ s. s.holding ≡ None) result.1.items }
+    ensures len { vec_len result.1 + 1 ≡ vec_len seats }
+    ensures room { vec_len result.1 < vec_capacity result.1 }
+{
+    let mut seats = seats;
+    let mine = seats.remove(0);
+    (mine, seats)
+}
+
+// Runs the instances on threads of their own, and the splitter on this one, until it closes the hub.
+fn beside<L: Naming + Send + Sync, I: Intake, O: Outlet, G: Gate, R: Threads + Wait + Sync>(
+    rt: &R,
+    alloc: Global,
+    hub: &Hub<Job, Piece, L>,
+    crew: Crew<L>,
+    gate: &G,
+    desk: Desk<L>,
+    ways: Ways<I, O>,
+) -> (Crew<L>, Served<L>, Ways<I, O>)
+    requires some { 0 < length crew.seats }
+    requires free { All (λ s. s.holding ≡ None) crew.seats }
+    requires may { MayServe desk.splitter.core desk.splitter.instances desk.splitter.batch
+        desk.splitter.kept.items desk.by desk.seat (I.plan ways.intake) (O.plan ways.outlet) }
+    ensures len { length result.0.seats ≡ length crew.seats }
+    ensures room { result.0.room ≡ crew.room }
+    ensures served { Serves (λ events. I.gave ways.intake events result.2.intake) (I.ended result.2.intake)
+        (Rose (I.stops ways.intake) (I.stops result.2.intake)) desk.splitter.instances desk.splitter.core
+        (O.state ways.outlet) (O.state result.2.outlet) result.1.end result.1.by.calls }
+    ensures same { (I.plan result.2.intake ≡ I.plan ways.intake) × (I.token result.2.intake ≡ I.token ways.intake) }
+    ensures same_out { (O.plan result.2.outlet ≡ O.plan ways.outlet)
+        × (O.token result.2.outlet ≡ O.token ways.outlet) }
+{
+    // Where no thread can be made the second branch runs first, and closes the hub. The other way round the
+    // instances would wait for jobs, and the splitter would never begin.
+    let (crew, (served, ways)) = thread::join(
+        rt,
+        || -> Crew<L>
+            requires { IsSync R.row × (0 < length crew.seats) × All (λ s. s.holding ≡ None) crew.seats }
+            ensures { (length result.seats ≡ length crew.seats) × (result.room ≡ crew.room) }
+        {
+            let mut crew = crew;
+            attend_all(rt, alloc, hub, gate, &mut crew);
+            crew
+        },
+        || -> (Served<L>, Ways<I, O>)
+            requires { MayServe desk.splitter.core desk.splitter.instances desk.splitter.batch
+                desk.splitter.kept.items desk.by desk.seat (I.plan ways.intake) (O.plan ways.outlet) }
+            ensures served { Serves (λ events. I.gave ways.intake events result.1.intake)
+                (I.ended result.1.intake) (Rose (I.stops ways.intake) (I.stops result.1.intake))
+                desk.splitter.instances desk.splitter.core (O.state ways.outlet)
+                (O.state result.1.outlet) result.0.end result.0.by.calls }
+            ensures same { (I.plan result.1.intake ≡ I.plan ways.intake)
+                × (I.token result.1.intake ≡ I.token ways.intake) }
+            ensures same_out { (O.plan result.1.outlet ≡ O.plan ways.outlet)
+                × (O.token result.1.outlet ≡ O.token ways.outlet) }
+        {
+            let mut ways = ways;
+            let served = serve(
+                rt,
+                alloc,
+                hub,
+                gate,
+                desk,
+                &mut ways.intake,
+                &mut ways.outlet,
+            );
+            (served, ways)
+        },
+    );
+    (crew, served, ways)
+}
+
+// What the hub did, once all its seats are back.
+fn wind_up<L: Naming>(
+    hub: Hub<Job, Piece, L>,
+    by: Poster<Piece, L>,
+    others: Vec<Seat<Piece, L>>,
+    mine: Seat<Piece, L>,
+) -> History
+    requires whole { vec_len others + 1 ≡ hub.seats }
+    requires room { vec_len others < vec_capacity others }
+    ensures legal { IsLegal result.entries }
+    ensures calls { by.calls ≤ count_by is_call result.entries }
+{
+    let mut seats = others;
+    seats.push_reserved(mine);
+    match hub.finish(by, seats) {
+        Ok(history) => history,
+        Err(_) => unreachable!(),
+    }
+}
+
+/// Runs a splitter whose core has done no step, and its instances, at a hub that is opened for them; the ways in
+/// and out come back as they stand then.
+pub(crate) fn under<
+    L: Naming + Send + Sync,
+    I: Intake,
+    O: Outlet,
+    G: Gate,
+    R: Threads + Wait + Sync,
+>(
+    rt: &R,
+    alloc: Global,
+    opened: Opened<Piece>,
+    splitter: Splitter,
+    gate: &G,
+    ways: Ways<I, O>,
+) -> (Result<Ended, Memory>, Ways<I, O>)
+    requires name { (opened.name ≡ L.name) × (opened.parts ≡ L.parts) }
+    requires places { (opened.seats ≡ splitter.instances + 1) × (opened.room ≡ splitter.instances + 1) }
+    requires fresh { splitter.core ≡ begun splitter.core.plan splitter.core.bound }
+    requires instances { (0 < splitter.instances) × (splitter.instances ≤ 16) }
+    requires batch { (1 ≤ splitter.batch) × (splitter.batch ≤ 1024) }
+    requires kept { splitter.kept.items ≡ [] }
+    requires intake_plan { I.plan ways.intake ≡ splitter.core.plan }
+    requires outlet_plan { O.plan ways.outlet ≡ splitter.core.plan }
+    ensures ends { Ends (λ events. I.gave ways.intake events result.1.intake) (I.ended result.1.intake)
+        (Rose (I.stops ways.intake) (I.stops result.1.intake)) splitter.instances splitter.core
+        (O.state ways.outlet) (O.state result.1.outlet) result.0 }
+    ensures same { (I.plan result.1.intake ≡ I.plan ways.intake) × (I.token result.1.intake ≡ I.token ways.intake) }
+    ensures same_out { (O.plan result.1.outlet ≡ O.plan ways.outlet)
+        × (O.token result.1.outlet ≡ O.token ways.outlet) }
+{
+    // It counts readings, and the returns behind them.
+    returns_follow_readings();
+    let (hub, by, seats) = match Hub::<Job, Piece, L>::new(alloc, opened) {
+        Ok(made) => made,
+        Err(AllocError) => return (Err(AllocError), ways),
+    };
+    let (seat, others) = part(seats);
+    let desk = Desk { splitter, by, seat };
+    let crew = Crew::of(others);
+    let (crew, served, ways) = beside(rt, alloc, &hub, crew, gate, desk, ways);
+    let Served { by, seat, end } = served;
+    let history = wind_up(hub, by, crew.into_seats(), seat);
+    (with_history(end, history), ways)
+}
+
+// How it ended, with what the hub did.
+fn with_history(end: Result<Went, Memory>, history: History) -> Result<Ended, Memory>
+    ensures { result ≡ ending history end }
+{
+    let Went { core, why } = end?;
+    Ok(Ended { core, why, history })
+}

@@ -1,0 +1,193 @@
+-- What a run that was done ended with, as what is reported of it.
+use Rattle.std.proofs.Common.{◌≡◌, ◌≢◌, inl, ◌⊎◌, ⊎_elim, ℕ, Bool, true, false, List, [], ◌∷◌, length, map, filter, Option, Some, None, refl, ap, sym, subst, ◌∙◌}
+use Rattle.std.specs.Prelude.{ℤ, pos, ◌+ℤ◌, ◌*ℤ◌, unsigned_abs, find, IfSome, if◌then◌else◌}
+use Rattle.std.specs.List.{filter_map, cons_option, last_or, range_with_len}
+use Rattle.std.specs.Option.{option_map}
+use Rattle.sp_io.specs.Outside.{SourceState, Told, ToldFiles}
+use Rattle.sp_plan.specs.declared.event.Event.{Event}
+use Rattle.sp_plan.specs.declared.plan.Plan.{Plan}
+use Rattle.sp_plan.specs.declared.plan.Length.{Length}
+use Rattle.sp_plan.specs.declared.plan.Opening.{Opening}
+use Rattle.sp_plan.specs.declared.plan.Opening.TheVariants.{EveryEvents, EveryTime, When}
+use Rattle.sp_plan.specs.Windows.{Numbered, Window, closed, windows, windows_by, window_from, within, window_within, number_or, duration, spans}
+use Rattle.sp_group.specs.Steps.{replay}
+use Rattle.sp_intake.specs.Reading.{read, stop_of, is_end}
+use Rattle.sp_intake.specs.Standing.{Standing, stop_in, is_whole, Gives, ReadsFrom}
+use Rattle.sp_intake.specs.declared.input.Stop.{Stop}
+use Rattle.sp_intake.specs.declared.input.Stop.TheVariants.{End, Failed, Open}
+use Rattle.sp_intake.specs.declared.input.Failure.TheVariants.{Row, Limit}
+use Rattle.sp_load.specs.Places.{Place}
+use Rattle.sp_load.specs.Queries.{IsPlanAt}
+use Rattle.sp_load.specs.declared.refusal.Refusal.{Refusal}
+use Rattle.sp_load.specs.declared.refusal.Refusal.TheVariants as r
+use Rattle.sp_answer.specs.Outcome.{number_of}
+use Rattle.sp_answer.specs.declared.status.Status.{Status}
+use Rattle.sp_answer.specs.declared.status.Status.TheVariants.{Done, Memory, Usage, Query, Input, Read, Write, Limited, Schedule}
+use Rattle.sp_ports.specs.Taking.{OutletState}
+use Rattle.sp_core.specs.Running.{Running}
+use Rattle.sp_split.specs.declared.ended.Ended.{Ended}
+use Rattle.sp_split.specs.declared.ended.Why.{Why}
+use Rattle.sp_split.specs.declared.ended.Why.TheVariants as why
+use Rattle.sp_split.specs.Driving.{Drove, CameAbout}
+use Rattle.sp_top.specs.Commands.{Command, Speed, run, IsCommand, IsCall, IsNoCall}
+use Rattle.sp_top.specs.Ends.{status_of, status_of_end, status_of_refusal}
+use Rattle.sp_top.specs.Report.{Reported, ReportsPlan, ReportsPlace, WhereDone, Reporting}
+use Rattle.sp_top.proofs.Driven.{whole_end, if_some}
+use Rattle.sp_top.proofs.OneCommand.{one_command}
+use Rattle.sp_top.proofs.Running.{only_ended}
+
+-- ---- once the input has ended each window is closed
+
+abbrev shut : List Window → List Window
+shut ws = filter (λ w. w.closed) ws
+
+-- a closed window comes first
+one_shut : (w : Window) (ws : List Window) → w.closed ≡ true → shut (w ∷ ws) ≡ w ∷ shut ws
+one_shut w ws closes = ap (λ (b : Bool). if b then w ∷ shut ws else shut ws) closes
+
+all_shut : (f : Numbered → Window) → ((x : Numbered) → (f x).closed ≡ true) → (xs : List Numbered) → shut (map f xs) ≡ map f xs
+all_shut f own [] = refl
+all_shut f own (x ∷ xs) = one_shut (f x) (map f xs) (own x) ∙ ap (λ (ws : List Window). f x ∷ ws) (all_shut f own xs)
+
+given_shut : (o : Option Window) (ws : List Window) → IfSome o (λ w. w.closed ≡ true) → shut ws ≡ ws → shut (cons_option o ws) ≡ cons_option o ws
+given_shut None ws closes rest = rest
+given_shut (Some w) ws closes rest = one_shut w ws closes ∙ ap (λ (l : List Window). w ∷ l) rest
+
+some_shut : (f : ℕ → Option Window) → ((k : ℕ) → IfSome (f k) (λ w. w.closed ≡ true)) → (ks : List ℕ) → shut (filter_map f ks) ≡ filter_map f ks
+some_shut f own [] = refl
+some_shut f own (k ∷ ks) = given_shut (f k) (filter_map f ks) (own k) (some_shut f own ks)
+
+if_mapped : (f : Numbered → Window) → ((x : Numbered) → (f x).closed ≡ true) → (o : Option Numbered) → IfSome (option_map f o) (λ w. w.closed ≡ true)
+if_mapped f own None = tt
+if_mapped f own (Some x) = own x
+
+within_shut : (from until : ℤ) (events : List Event) → IfSome (window_within from until events true) (λ w. w.closed ≡ true)
+within_shut from until events =
+    let own = within from until events in
+    if_mapped (λ x. record { first = x.0; last = number_or x.0 (last_or None own); closed = true }) (λ x. refl) (find (λ _. true) own)
+
+all_windows_shut : (o : Opening) (l : Length) (events : List Event) → shut (windows_by o l events true) ≡ windows_by o l events true
+all_windows_shut (EveryEvents s) l events = all_shut (window_from l events true) (λ x. refl) _
+all_windows_shut (When p) l events = all_shut (window_from l events true) (λ x. refl) _
+all_windows_shut (EveryTime s) l events =
+    some_shut (λ k. window_within (pos k *ℤ s) (pos k *ℤ s +ℤ duration l) events true) (λ k. within_shut (pos k *ℤ s) (pos k *ℤ s +ℤ duration l) events) (range_with_len 0 (spans (unsigned_abs s) events))
+
+pub all_closed : (q : Plan) (events : List Event) → closed q events true ≡ length (windows q events true)
+all_closed q events = ap length (all_windows_shut q.opening q.length events)
+
+-- ---- a run of a plan
+
+-- a reading that ends with success stops at the end of its input
+only_end : (stop : Stop) → status_of stop ≡ Done → is_end stop ≡ true
+only_end End is = refl
+only_end (Failed (Row code row column)) is = cc
+only_end (Failed (Limit limit)) is = cc
+only_end Open is = cc
+
+module _ (c : Running) (origin : SourceState) (first last : Standing) (reads : ReadsFrom c.plan origin first) (stopped : Type 0)
+    (halted : stopped → (s : Stop) × (stop_in last.state ≡ Some s) × (is_end s ≡ false)) (before after : OutletState) (speed : Speed) (end : Ended)
+    (drove : Drove (λ events. Gives first events last) (is_whole (stop_in last.state)) stopped c before after (record { core = end.core; why = end.why }))
+    (bound : c.bound ≡ speed.live) (replays : replay end.core.plan end.core.bound end.core.journal ≡ end.core.machine) (about : CameAbout speed.instances end.core end.history.entries) where
+  reported_by : (w : Why) → end.why ≡ w → status_of_end w (stop_in last.state) ≡ Done → ReportsPlan c.plan speed origin.left last.source.left end
+  reported_by why.Whole is done =
+      let m = end.core.machine in
+      let over = drove.whole_input is in
+      let at_end = whole_end (stop_in last.state) (drove.ends over) in
+      let so_far = reads m.events last drove.given in
+      let r = read c.plan so_far.taken last.source.ended in
+      let events : m.events ≡ r.events = if_some (λ _. m.events ≡ r.events) (stop_in last.state) End so_far.has.all at_end in
+      let stop : End ≡ stop_of r last.source.ended = if_some (λ s. s ≡ stop_of r last.source.ended) (stop_in last.state) End so_far.has.stop at_end in
+      let ended = only_ended r last.source.ended r.stopped (sym (ap status_of stop)) in
+      let finished = (drove.finished (inl is)).0 in (
+        drove.plan,
+        so_far.taken,
+        so_far.has.gave,
+        record {
+          whole = is;
+          bound = drove.bound ∙ bound;
+          events = events ∙ (λ i. (read (sym drove.plan i) so_far.taken (ended i)).events);
+          ended = over;
+          finished = finished ∙ (λ i. closed (sym drove.plan i) m.events (over i)) ∙ all_closed end.core.plan m.events;
+          feeds = drove.fed_are;
+          replays = replays;
+          about = about;
+        },
+      )
+  reported_by why.Stopped is done =
+      let stop = halted (drove.stop is).0 in
+      let status : status_of stop.0 ≡ Done = subst (λ (o : Option Stop). status_of_end why.Stopped o ≡ Done) stop.1 done in
+      let ends = only_end stop.0 status in
+      absurd (cc (ends, stop.2))
+  reported_by why.Refused is done = absurd (cc done)
+  reported_by why.Memory is done = absurd (cc done)
+
+  -- what a run that was done ended with is what is reported of it
+  pub reports_plan : status_of_end end.why (stop_in last.state) ≡ Done → ReportsPlan c.plan speed origin.left last.source.left end
+  reports_plan = reported_by end.why refl
+
+-- a run of a plan is one of the same plan, over the same bytes
+pub as_report : (q p : Plan) → p ≡ q → (speed : Speed) (old new left : Told) → new ≡ left → (status : Status) (ended : Option Ended)
+    → WhereDone (ReportsPlan p speed old new) status ended → WhereDone (ReportsPlan q speed old left) status ended
+as_report q p same speed old new left source status ended report = rw (sym source, sym same) report
+
+-- ---- a run of the query that stands there
+
+pub of_place : (held : ToldFiles) (place : Place) (speed : Speed) (old new : Told) (q : Plan) → IsPlanAt held place q → (status : Status) (ended : Option Ended)
+    → WhereDone (ReportsPlan q speed old new) status ended → WhereDone (ReportsPlace held place speed old new) status ended
+of_place held place speed old new q plan status None report = report
+of_place held place speed old new q plan status (Some e) report = λ done.
+    let own = report done in
+    (subst (IsPlanAt held place) (sym own.0) plan, own.1, own.2, own.3)
+
+-- a refusal is told by another status
+pub refused_undone : (refusal : Refusal) → status_of_refusal refusal ≢ Done
+refused_undone r.Memory is = cc
+refused_undone r.Read is = cc
+refused_undone (r.Limited limit) is = cc
+refused_undone (r.Query code at) is = cc
+
+-- ---- a call
+
+module _ (predictors words : List (List ℕ)) (held : ToldFiles) (old new : Told) where
+  -- words that are a run
+  pub of_run : (place : Place) (speed : Speed) → IsCall predictors words (run place speed) → (status : Status) (ended : Option Ended)
+      → WhereDone (ReportsPlace held place speed old new) status ended → Reporting predictors words held old new status ended
+  of_run place speed call status None report = λ _ _ _. report
+  of_run place speed call status (Some e) report = λ done.
+      let own = report done in
+      record { place = place; speed = speed; call = call; plan = own.0; taken = own.1; gave = own.2; reports = own.3 }
+
+  -- words that are no call
+  pub of_none : IsNoCall predictors words → (status : Status) → Reporting predictors words held old new status None
+  of_none none status place speed call = absurd (none (run place speed) call)
+
+  -- words that are another command
+  pub of_other : (command : Command) → IsCommand words command → ((place : Place) (speed : Speed) → command ≡ run place speed → ⊥) → (status : Status)
+      → Reporting predictors words held old new status None
+  of_other command is other status place speed call = absurd (other place speed (one_command words command (run place speed) is call.0))
+
+  -- what is reported once the line of the status was told
+  pub told : (status line : Status) (ended report : Option Ended) (result : ℕ) → (line ≡ status) ⊎ (line ≡ Memory) → Reporting predictors words held old new status ended
+      → (line ≡ Done → report ≡ ended) → (line ≢ Done → report ≡ None) → result ≡ number_of line → Reported predictors words held old new result report
+  told status line ended report result of_line reporting done other is = by line refl
+    where
+      none : line ≢ Done → (result ≡ 0 → ⊥) → Reported predictors words held old new result report
+      none undone nonzero = subst (Reported predictors words held old new result) (sym (other undone)) (λ _ _ _. nonzero)
+
+      some : line ≡ Done → (o : Option Ended) → Reporting predictors words held old new Done o → Reported predictors words held old new result o
+      some own None given = λ place speed call _. given place speed call refl
+      some own (Some e) given = (is ∙ ap number_of own, given refl)
+
+      status_is : line ≡ Done → status ≡ Done
+      status_is own = ⊎_elim (λ same. sym same ∙ own) (λ short. absurd (cc (short, own))) of_line
+
+      by : (l : Status) → line ≡ l → Reported predictors words held old new result report
+      by Done own = subst (Reported predictors words held old new result) (sym (done own)) (some own ended (subst (λ (s : Status). Reporting predictors words held old new s ended) (status_is own) reporting))
+      by Memory own = none (λ e. cc (own, e)) (λ e. cc (own, is, e))
+      by Usage own = none (λ e. cc (own, e)) (λ e. cc (own, is, e))
+      by (Query code place) own = none (λ e. cc (own, e)) (λ e. cc (own, is, e))
+      by (Input code row column) own = none (λ e. cc (own, e)) (λ e. cc (own, is, e))
+      by Read own = none (λ e. cc (own, e)) (λ e. cc (own, is, e))
+      by Write own = none (λ e. cc (own, e)) (λ e. cc (own, is, e))
+      by (Limited limit) own = none (λ e. cc (own, e)) (λ e. cc (own, is, e))
+      by (Schedule at) own = none (λ e. cc (own, e)) (λ e. cc (own, is, e))

@@ -1,0 +1,65 @@
+-- What is reported of a call: the core of a run that was done, as it ended, with the histories of core and hub.
+use Rattle.std.specs.Prelude.{◌≡◌, ◌≢◌, ℕ, true, List, length, Option, Some, None}
+use Rattle.sp_io.specs.Outside.{Told, ToldFiles, Gave}
+use Rattle.sp_plan.specs.declared.plan.Plan.{Plan}
+use Rattle.sp_plan.specs.Windows.{windows}
+use Rattle.sp_group.specs.Steps.{replay}
+use Rattle.sp_spread.specs.Journaled.{fed}
+use Rattle.sp_split.specs.declared.ended.Ended.{Ended}
+use Rattle.sp_split.specs.declared.ended.Why.TheVariants as why
+use Rattle.sp_split.specs.Driving.{CameAbout}
+use Rattle.sp_intake.specs.Reading.{read}
+use Rattle.sp_load.specs.Places.{Place}
+use Rattle.sp_load.specs.Queries.{IsPlanAt}
+use Rattle.sp_answer.specs.declared.status.Status.{Status}
+use Rattle.sp_answer.specs.declared.status.Status.TheVariants.{Done}
+use Rattle.sp_top.specs.Commands.{Speed, run, IsCall}
+
+-- A run of this speed over the whole input, which had these bytes, ended so.
+pub record Reports (speed : Speed) (bytes : List ℕ) (e : Ended) : Type 0 where
+  pub whole : e.why ≡ why.Whole
+  pub bound : e.core.bound ≡ speed.live
+  -- all windows of the events that the bytes give are finished
+  pub events : e.core.machine.events ≡ (read e.core.plan bytes true).events
+  pub ended : e.core.machine.ended ≡ true
+  pub finished : e.core.machine.finished ≡ length (windows e.core.plan e.core.machine.events true)
+  -- the journal tells how it came to that: these events were fed, and its steps, taken again, lead to the same state
+  pub feeds : fed e.core.journal ≡ e.core.machine.events
+  pub replays : replay e.core.plan e.core.bound e.core.journal ≡ e.core.machine
+  -- and the entries of the hub which instances had a part in it
+  pub about : CameAbout speed.instances e.core e.history.entries
+
+-- The words are a run, and it ended so: by a plan of the query that stands there, over the bytes that were taken.
+pub record ReportsCall (predictors words : List (List ℕ)) (held : ToldFiles) (old new : Told) (e : Ended) : Type 0 where
+  pub place : Place
+  pub speed : Speed
+  pub call : IsCall predictors words (run place speed)
+  pub plan : IsPlanAt held place e.core.plan
+  pub taken : List ℕ
+  pub gave : Gave old taken new
+  pub reports : Reports speed taken e
+
+-- what is reported of a call that answered this number: the end of a run where it was done, and else nothing
+abbrev pub Reported : List (List ℕ) → List (List ℕ) → ToldFiles → Told → Told → ℕ → Option Ended → Type 0
+Reported predictors words held old new result (Some e) = (result ≡ 0) × ReportsCall predictors words held old new e
+Reported predictors words held old new result None = (place : Place) (speed : Speed) → IsCall predictors words (run place speed) → result ≢ 0
+
+-- ---- before the line of the status is told
+
+-- a run of this plan ended so
+abbrev pub ReportsPlan : Plan → Speed → Told → Told → Ended → Type 0
+ReportsPlan q speed old new e = (e.core.plan ≡ q) × (bytes : List ℕ) × Gave old bytes new × Reports speed bytes e
+
+-- a run of the query that stands there ended so
+abbrev pub ReportsPlace : ToldFiles → Place → Speed → Told → Told → Ended → Type 0
+ReportsPlace held place speed old new e = IsPlanAt held place e.core.plan × (bytes : List ℕ) × Gave old bytes new × Reports speed bytes e
+
+-- where the status is that it was done, there is an end, and it is such a one
+abbrev pub WhereDone : (Ended → Type 0) → Status → Option Ended → Type 0
+WhereDone Is status (Some e) = status ≡ Done → Is e
+WhereDone Is status None = status ≢ Done
+
+-- the same of a call whose words are a run; for other words there is no end
+abbrev pub Reporting : List (List ℕ) → List (List ℕ) → ToldFiles → Told → Told → Status → Option Ended → Type 0
+Reporting predictors words held old new status (Some e) = status ≡ Done → ReportsCall predictors words held old new e
+Reporting predictors words held old new status None = (place : Place) (speed : Speed) → IsCall predictors words (run place speed) → status ≢ Done
