@@ -3,11 +3,13 @@ ghost use Rattle.std.specs.Prelude.{◌≡◌, None};
 
 use crate::meeting::Meeting;
 use sp_chance::{Even, Predictor};
+use sp_group::{Entry, Step};
 use sp_instance::{Gate, OpenGate};
 use sp_io::{MemFiles, MemSink, MemSource};
 use sp_split::Ended;
 use sp_top::spectre;
 use std::alloc::{AllocError, Global};
+use std::process::Abort;
 use std::sync::Wait;
 use std::test::*;
 use std::thread::Threads;
@@ -85,6 +87,24 @@ fn two_versions_are_in_work_at_once(rt: HostRuntime) -> Result<(), Fail> {
 }
 
 #[test]
+fn a_report_shows_speculation(rt: HostRuntime) -> Result<(), Fail> {
+    let mut report = None;
+    let words = [
+        "run",
+        "-q",
+        ALL_USED,
+        "--instances",
+        "2",
+        "--predictor",
+        "even",
+    ];
+    let status = status_of(&rt, rt.alloc(), &words, 4, &OpenGate, &mut report)?;
+    assert_eq!(rt; status, 0);
+    let ended = report.ok_or("a report")?;
+    shows_speculation(&rt, ended.core.journal())
+}
+
+#[test]
 fn plain_reports_nothing(rt: HostRuntime) -> Result<(), Fail> {
     let mut report = None;
     let words = ["plain", "-q", ALL_USED];
@@ -92,4 +112,41 @@ fn plain_reports_nothing(rt: HostRuntime) -> Result<(), Fail> {
     assert_eq!(rt; status, 0);
     assert!(rt; report.is_none());
     Ok(())
+}
+
+// A root and a child under the guess that nothing completes were made before anything was leased, and both were
+// leased before anything came back.
+fn shows_speculation<R: Abort>(rt: &R, journal: &[Entry]) -> Result<(), Fail> {
+    let lease = journal.iter().position(is_lease).ok_or("a lease")?;
+    let back = journal.iter().position(is_return).ok_or("a return")?;
+    assert!(rt; journal.iter().take(lease).any(spawns_root));
+    assert!(rt; journal.iter().take(lease).any(spawns_child));
+    assert!(rt; journal.iter().take(back).any(leases_root));
+    assert!(rt; journal.iter().take(back).any(leases_child));
+    Ok(())
+}
+
+fn is_lease(entry: &Entry) -> bool {
+    matches!(&entry.step, Step::Lease { .. })
+}
+
+fn is_return(entry: &Entry) -> bool {
+    matches!(&entry.step, Step::Return { .. })
+}
+
+fn spawns_root(entry: &Entry) -> bool {
+    matches!(&entry.step, Step::Spawn { parent: None, label } if label.runs().is_empty())
+}
+
+// Below the first version.
+fn spawns_child(entry: &Entry) -> bool {
+    matches!(&entry.step, Step::Spawn { parent: Some(1), label } if label.runs().is_empty())
+}
+
+fn leases_root(entry: &Entry) -> bool {
+    matches!(&entry.step, Step::Lease { version: 1, .. })
+}
+
+fn leases_child(entry: &Entry) -> bool {
+    matches!(&entry.step, Step::Lease { version: 2, .. })
 }
