@@ -1,8 +1,8 @@
 ghost use Rattle.std.specs.Prelude.{◌≡◌, ◌<◌};
 
+use crate::gates::{Delayed, Delays};
 use crate::hostile::{Fickle, Greatest, Zero};
 use sp_chance::{Even, Markov, Predictor, Steady};
-use sp_instance::OpenGate;
 use sp_io::{MemFiles, MemSink, MemSource};
 use sp_top::spectre;
 use std::alloc::{AllocError, Global};
@@ -34,6 +34,8 @@ pub(crate) struct Call {
     pub(crate) write_fails: Vec<(u32, u32)>,
     /// The same of the error output.
     pub(crate) tell_fails: Vec<(u32, u32)>,
+    /// Which of a run's jobs are delayed.
+    pub(crate) delayed: Delayed,
 }
 
 // What the sinks have room for.
@@ -119,6 +121,16 @@ impl Call {
         Ok(())
     }
 
+    /// The command `plain` with the same query, which is a word, over the same input.
+    pub(crate) fn as_plain(&self, alloc: Global) -> Result<Call, AllocError> {
+        let mut plain = self.clone()?;
+        plain.words.truncate(3);
+        if let Some(first) = plain.words.first_mut() {
+            *first = String::from_str(alloc, "plain")?;
+        }
+        Ok(plain)
+    }
+
     // What the program leaves.
     fn run<R: Threads + Wait + Sync>(self, rt: &R, alloc: Global) -> Result<Outcome, AllocError> {
         let mut predictors: Vec<Box<dyn Predictor>> = Vec::new(alloc);
@@ -133,6 +145,7 @@ impl Call {
         let mut input = MemSource::new(self.input, self.piece.max(1), self.read_fails);
         let mut files = MemFiles::new(self.files, self.load_fails);
         let words = self.words.as_slice();
+        let gate = Delays::new(self.delayed);
         let mut report = None;
         let status = spectre(
             rt,
@@ -142,7 +155,7 @@ impl Call {
             &mut files,
             &mut out,
             &mut err,
-            &OpenGate,
+            &gate,
             predictors,
             &mut report,
         );

@@ -1,6 +1,7 @@
 // One line of a row: a key, how often it stands there, and a text.
 use crate::escapes::Text;
 use crate::fault::Fault;
+use crate::gates::delayed_by;
 use crate::key::Key;
 use crate::row::Row;
 use std::alloc::{AllocError, Global};
@@ -62,6 +63,22 @@ fn put_event(alloc: Global, time: u32, letter: u8, to: &mut Vec<u8>) -> Result<(
     push(to, b'\n')
 }
 
+// The letters of scattered rows.
+const LETTERS: [u8; 4] = *b"abcx";
+
+// Appends the header `at,k`, and so many rows with the times 1, 2, 3 and so on, whose letters look drawn by lot
+// and are the same in each run.
+fn put_scattered(alloc: Global, count: u32, to: &mut Vec<u8>) -> Result<(), Fault> {
+    to.extend_from_slice(b"at,k\n")?;
+    let mut drawn = 7u32;
+    for before in 0..count {
+        drawn = drawn.wrapping_mul(1_664_525).wrapping_add(1_013_904_223);
+        let letter = LETTERS[(drawn >> 20) as usize % 4];
+        put_event(alloc, before + 1, letter, to)?;
+    }
+    Ok(())
+}
+
 // Appends the words of a text, parted by blanks.
 fn put_words(alloc: Global, text: &str, words: &mut Vec<String>) -> Result<(), Fault> {
     for word in text.split_whitespace() {
@@ -100,6 +117,10 @@ impl Line {
                 None => Err(Fault::Bad("a content without its file")),
             },
             Key::Events => self.put_events(alloc, &mut row.call.input),
+            Key::AsPlain => {
+                row.is_as_plain = true;
+                Ok(())
+            }
             _ => self.put_text(alloc, row),
         }
     }
@@ -136,6 +157,11 @@ impl Line {
             Key::Words => put_words(alloc, text, &mut row.call.words),
             Key::Word => put_word(text.repeat(alloc, self.times as usize), &mut row.call.words),
             Key::File => put_file(alloc, text, &mut row.call.files),
+            Key::Scattered => put_scattered(alloc, number(text)?, &mut row.call.input),
+            Key::Gate => {
+                row.call.delayed = delayed_by(text)?;
+                Ok(())
+            }
             _ => self.put_numbers(text, row),
         }
     }

@@ -6,6 +6,7 @@
 mod call;
 mod escapes;
 mod fault;
+mod gates;
 mod hostile;
 mod key;
 mod line;
@@ -71,8 +72,15 @@ fn run_row<R: Threads + Wait + Sync>(
     let Row {
         name,
         call,
-        expected,
+        mut expected,
+        is_as_plain,
     } = row;
+    if is_as_plain {
+        expected.output = call
+            .as_plain(rt.alloc())?
+            .outcome(threads, rt.alloc())?
+            .output;
+    }
     let came = call.outcome(threads, rt.alloc())?;
     if came == expected {
         return Ok(true);

@@ -1,4 +1,5 @@
 use crate::call::{Call, Outcome};
+use crate::gates::Delayed;
 use std::alloc::{AllocError, Global};
 
 /// A worked row: what it shows, a call, and what is to come of it.
@@ -7,6 +8,8 @@ pub(crate) struct Row {
     pub(crate) name: String,
     pub(crate) call: Call,
     pub(crate) expected: Outcome,
+    /// Whether the output is to be that of `plain` with the same query over the same input.
+    pub(crate) is_as_plain: bool,
 }
 
 impl Row {
@@ -24,12 +27,14 @@ impl Row {
                 load_fails: Vec::new(alloc),
                 write_fails: Vec::new(alloc),
                 tell_fails: Vec::new(alloc),
+                delayed: Delayed::None,
             },
             expected: Outcome {
                 status: 0,
                 output: Vec::new(alloc),
                 error: Vec::new(alloc),
             },
+            is_as_plain: false,
         }
     }
 

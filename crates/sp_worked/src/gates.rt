@@ -1,0 +1,77 @@
+// Gates that delay some of the jobs: whichever they are, a run is to come to the same.
+use crate::fault::Fault;
+use sp_instance::Gate;
+use std::sync::atomic::AtomicU64;
+use std::sync::atomic::Ordering::SeqCst;
+
+// How often a delay looks whether it is over.
+const LOOKS: u32 = 100_000;
+
+/// Which jobs are delayed.
+#[derive(Clone, Copy, Drop)]
+pub(crate) enum Delayed {
+    None,
+    /// The first one that was leased.
+    First,
+    /// Those that are done at the seat of this number.
+    AtSeat(u32),
+    /// Every second one.
+    Odd,
+}
+
+/// The jobs that a word says.
+pub(crate) fn delayed_by(word: &str) -> Result<Delayed, Fault> {
+    Ok(match word {
+        "open" => Delayed::None,
+        "first" => Delayed::First,
+        "seat0" => Delayed::AtSeat(0),
+        "seat1" => Delayed::AtSeat(1),
+        "odd" => Delayed::Odd,
+        _ => return Err(Fault::Bad("no such gate")),
+    })
+}
+
+/// Delays these jobs before they are done.
+#[derive(Drop)]
+pub(crate) struct Delays {
+    delayed: Delayed,
+    // How many wait: a number that a thread has to look at.
+    waiting: AtomicU64,
+}
+
+impl Delays {
+    pub(crate) fn new(delayed: Delayed) -> Delays {
+        Delays {
+            delayed,
+            waiting: AtomicU64::new(0),
+        }
+    }
+
+    // Whether the job of this ticket is delayed at the seat of this number.
+    fn delays(&self, seat: u32, ticket: u64) -> bool {
+        match self.delayed {
+            Delayed::None => false,
+            Delayed::First => ticket == 1,
+            Delayed::AtSeat(number) => seat == number,
+            Delayed::Odd => ticket % 2 == 1,
+        }
+    }
+}
+
+impl Gate for Delays {
+    fn enter(&self, seat: u32, ticket: u64) {
+        if !self.delays(seat, ticket) {
+            return;
+        }
+        self.waiting.fetch_add(1, SeqCst);
+        for _ in 0..LOOKS {
+            // Never so few while this one waits.
+            if self.waiting.load(SeqCst) == 0 {
+                return;
+            }
+        }
+        self.waiting.fetch_sub(1, SeqCst);
+    }
+
+    fn leave(&self, _seat: u32, _ticket: u64) {}
+}
