@@ -4,5 +4,6 @@ mod Whole
 mod Counting
 mod Columns
 mod Codes
+mod Ring
 mod Worked
 mod Ordered
