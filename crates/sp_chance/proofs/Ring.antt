@@ -37,11 +37,6 @@ turned-around codes =
     ∙ take_all (length codes) codes (omega arith)
     ∙ sym (append-nil codes)
 
--- at the last place all of it is written
-all-set : (codes : List ℕ) (p x : ℕ) → p + 1 ≡ length codes → slice_set codes p x ≡ take p codes ++ x ∷ []
-all-set codes p x last =
-    sym (take_all (p + 1) (slice_set codes p x) (omega (arith, length-set codes p x))) ∙ take_more_set codes p x (omega arith)
-
 -- the place behind, round the ring
 behind : (codes : List ℕ) (p q x : ℕ) → length codes ≡ 256 → p < 256 → q ≡ (p + 1) % 256
     → around (slice_set codes p x) q ≡ drop 1 (around codes p ++ x ∷ [])

@@ -2,7 +2,7 @@
 use Rattle.std.specs.Prelude.{◌≡◌, ℕ, ◌+◌, ◌-◌, ◌/◌, ◌≤◌, Bool, List, [], ◌∷◌, ◌++◌, min, All, fold, length, nat_le, ◌==◌, ◌&&◌, if◌then◌else◌}
 use Rattle.circular_buffer.specs.Buffer.{keep_last}
 use Rattle.sp_chance.specs.Matrices.{at, first, power}
-use Rattle.sp_chance.specs.Counted.{IsMove, first_columns}
+use Rattle.sp_chance.specs.Counted.{IsMove, HasColumns}
 
 -- the last pairs, how many were learned since matrices were built, and of which pairs these were built
 pub record Learned : Type 0 where
@@ -58,9 +58,15 @@ pub record IsSound (ring built : List (ℕ × ℕ)) : Type 0 where
   pub moves : All IsMove built
   pub few : length built ≤ 256
 
+-- of which pairs numbers are at hand, and for how many states
+pub record AtHand : Type 0 where
+  pub pairs : List (ℕ × ℕ)
+  pub rows : ℕ
+
 -- the numbers at hand are those of the pairs beside them, and there is room to work others out
-pub record AreAtHand (pairs : List (ℕ × ℕ)) (columns one current next : List ℕ) : Type 0 where
-  pub kept : columns ≡ first_columns (first pairs)
+pub record AreAtHand (hand : AtHand) (columns one current next : List ℕ) : Type 0 where
+  pub kept : HasColumns hand.rows (first hand.pairs) columns
+  pub most : hand.rows ≤ 33
   pub size : length columns ≡ 528
   pub first_size : length one ≡ 1089
   pub current_size : length current ≡ 1089
