@@ -9,6 +9,7 @@ mod finishing;
 mod gathering;
 mod guessing;
 mod knowing;
+mod learning;
 mod lending;
 mod planting;
 mod posting;
@@ -16,6 +17,7 @@ mod rolling;
 mod splitter;
 mod turning;
 
+pub use learning::learn;
 pub use splitter::Splitter;
 use std::alloc::AllocError;
 
