@@ -1,32 +1,30 @@
 -- Blocks of equal names: how they stay right, and how they lead to the last event of a name.
 use Rattle.std.proofs.Common.{◌≡◌, ◌≢◌, ℕ, ◌+◌, ◌-◌, ◌<◌, ◌≤◌, arith, Bool, true, false, cond, List, [], ◌∷◌, ◌++◌, length, get_or, take, drop, map, filter, eqb, Option, Some, None, refl, sym, ◌∙◌, ap, subst, take-append-drop, append_assoc}
-use Rattle.std.specs.List.{All, last_or, slice_get}
+use Rattle.std.specs.List.{All, last_or}
 use Rattle.std.specs.Option.{option_map}
-use Rattle.std.proofs.lemmas.Option.{slice_get_within, get_or_from_slice_get}
-use Rattle.std.proofs.lemmas.List.{drop_more, drop_all, take_all, drop-append-le, take-append-le, length-append, length-take-le}
+use Rattle.std.proofs.lemmas.List.{append-nil, drop_more, drop_all, take_all, drop-append-le, take-append-le, length-append, length-take-le}
 use Rattle.std.proofs.lemmas.List.Elements.{All-nil, All-head, All-tail, All-push, filter-append}
 use Rattle.sp_plan.specs.declared.event.Event.{Event}
-use Rattle.sp_plan.specs.declared.bound.Pair.{Pair}
+use Rattle.sp_plan.specs.declared.pairs.Pair.{Pair}
 use Rattle.sp_plan.specs.Blocks.{seen, IsBlock, Blocked}
 use Rattle.sp_plan.proofs.LastBound.{last_or-push, last_hit}
 
-append_none : (xs : List Pair) → xs ++ [] ≡ xs
-append_none [] = refl
-append_none (x ∷ xs) = ap (λ l. x ∷ l) (append_none xs)
-
 -- ---- blocks of longer and of shorter lists
 
-pub blocked_front : (front xs ys : List Pair) → Blocked front (xs ++ ys) → Blocked front xs
+blocked_front : (front xs ys : List Pair) → Blocked front (xs ++ ys) → Blocked front xs
 blocked_front front [] ys h = tt
 blocked_front front (p ∷ xs) ys h = (h.0, blocked_front (front ++ p ∷ []) xs ys h.1)
 
+pub blocked_take : (n : ℕ) (xs : List Pair) → Blocked [] xs → Blocked [] (take n xs)
+blocked_take n xs h = blocked_front [] (take n xs) (drop n xs) (subst (Blocked []) (sym (take-append-drop n xs)) h)
+
 pub blocked_push : (front xs : List Pair) (p : Pair) → Blocked front xs → IsBlock (front ++ xs) p.name p.block → Blocked front (xs ++ p ∷ [])
-blocked_push front [] p h here = (subst (λ l. IsBlock l p.name p.block) (append_none front) here, tt)
+blocked_push front [] p h here = (subst (λ l. IsBlock l p.name p.block) (append-nil front) here, tt)
 blocked_push front (x ∷ xs) p h here =
     (h.0, blocked_push (front ++ x ∷ []) xs p h.1 (subst (λ l. IsBlock l p.name p.block) (sym (append_assoc front (x ∷ []) xs)) here))
 
 block_at : (front xs ys : List Pair) (p : Pair) → Blocked front (xs ++ p ∷ ys) → IsBlock (front ++ xs) p.name p.block
-block_at front [] ys p h = subst (λ l. IsBlock l p.name p.block) (sym (append_none front)) h.0
+block_at front [] ys p h = subst (λ l. IsBlock l p.name p.block) (sym (append-nil front)) h.0
 block_at front (x ∷ xs) ys p h = subst (λ l. IsBlock l p.name p.block) (append_assoc front (x ∷ []) xs) (block_at (front ++ x ∷ []) xs ys p h.1)
 
 split_at : (ps : List Pair) (i : ℕ) (d : Pair) → i < length ps → ps ≡ take i ps ++ (get_or ps i d ∷ drop (i + 1) ps)
@@ -59,23 +57,22 @@ block_anew front p name differs =
       other = rw (take_all (length ps) ps short, last_or-push None front p) differs;
     }
 
-last_split : (ps : List Pair) (p : Pair) → slice_get ps (length ps - 1) ≡ Some p → ps ≡ take (length ps - 1) ps ++ p ∷ []
-last_split ps p h =
+last_split : (ps : List Pair) (p : Pair) → 0 < length ps → p ≡ get_or ps (length ps - 1) p → ps ≡ take (length ps - 1) ps ++ p ∷ []
+last_split ps p some one =
     let i = length ps - 1 in
-    let inside : i < length ps = slice_get_within ps i p h in
-    let one : get_or ps i p ≡ p = get_or_from_slice_get ps i p p h in
-    let past : length ps ≤ i + 1 = omega (arith, inside) in
-    split_at ps i p inside ∙ (λ k. take i ps ++ (one k ∷ drop_all (i + 1) ps past k))
+    let inside : i < length ps = omega arith in
+    let past : length ps ≤ i + 1 = omega arith in
+    split_at ps i p inside ∙ (λ k. take i ps ++ (sym one k ∷ drop_all (i + 1) ps past k))
 
-pub block_own : (ps : List Pair) (p : Pair) (name : ℕ) → Blocked [] ps → slice_get ps (length ps - 1) ≡ Some p → p.name ≡ name → IsBlock ps name p.block
-block_own ps p name h last same =
-    let split = last_split ps p last in
+pub block_own : (ps : List Pair) (p : Pair) (name : ℕ) → Blocked [] ps → 0 < length ps → p ≡ get_or ps (length ps - 1) p → p.name ≡ name → IsBlock ps name p.block
+block_own ps p name h some last same =
+    let split = last_split ps p some last in
     let here = block_at [] (take (length ps - 1) ps) [] p (subst (Blocked []) split h) in
     subst (λ n. IsBlock ps n p.block) same (subst (λ l. IsBlock l p.name p.block) (sym split) (block_goes_on (take (length ps - 1) ps) p here))
 
-pub block_next : (ps : List Pair) (p : Pair) (name : ℕ) → slice_get ps (length ps - 1) ≡ Some p → p.name ≢ name → IsBlock ps name (length ps)
-block_next ps p name last differs =
-    subst (λ l. IsBlock l name (length l)) (sym (last_split ps p last)) (block_anew (take (length ps - 1) ps) p name differs)
+pub block_next : (ps : List Pair) (p : Pair) (name : ℕ) → 0 < length ps → p ≡ get_or ps (length ps - 1) p → p.name ≢ name → IsBlock ps name (length ps)
+block_next ps p name some last differs =
+    subst (λ l. IsBlock l name (length l)) (sym (last_split ps p some last)) (block_anew (take (length ps - 1) ps) p name differs)
 
 -- ---- from block to block
 

@@ -2,7 +2,7 @@
 use Rattle.std.specs.Prelude.{◌≡◌, ◌≢◌, ℕ, ◌≤◌, List, [], ◌∷◌, ◌++◌, length, take, drop, None, IfSome}
 use Rattle.std.specs.List.{All, last_or}
 use Rattle.sp_plan.specs.declared.event.Event.{Event}
-use Rattle.sp_plan.specs.declared.bound.Pair.{Pair}
+use Rattle.sp_plan.specs.declared.pairs.Pair.{Pair}
 
 -- the name and the event of a pair
 abbrev pub seen : Pair → ℕ × Event
