@@ -6,7 +6,7 @@ use Rattle.std.proofs.lemmas.List.{append-nil, drop_more, drop_all, take_all, dr
 use Rattle.std.proofs.lemmas.List.Elements.{All-nil, All-head, All-tail, All-push, filter-append}
 use Rattle.sp_plan.specs.declared.event.Event.{Event}
 use Rattle.sp_plan.specs.declared.pairs.Pair.{Pair}
-use Rattle.sp_plan.specs.Blocks.{seen, IsBlock, Blocked}
+use Rattle.sp_plan.specs.Blocks.{seen, IsBlock, Blocked, named, last_named}
 use Rattle.sp_plan.proofs.LastBound.{last_or-push, last_hit}
 
 -- ---- blocks of longer and of shorter lists
@@ -112,9 +112,40 @@ last_seen name o [] = refl
 last_seen name o (p ∷ ps) =
     last_choice (eqb p.name name) o p (filter (λ (pair : ℕ × Event). eqb pair.0 name) (map seen ps)) (filter (λ (x : Pair). eqb x.name name) ps) (last_seen name (Some p) ps) (last_seen name o ps)
 
-pub found_last : (ps : List Pair) (i : ℕ) (d : Pair) (name : ℕ) → i < length ps → eqb (get_or ps i d).name name ≡ true → filter (λ p. eqb p.name name) (drop (i + 1) ps) ≡ []
-    → last_or None (filter (λ (pair : ℕ × Event). eqb pair.0 name) (map seen ps)) ≡ Some (seen (get_or ps i d))
-found_last ps i d name inside own none = last_seen name None ps ∙ ap (option_map seen) (last_hit (λ (p : Pair). eqb p.name name) ps i d inside own none)
+-- ---- the walk from the end to the front
 
-pub found_none : (ps : List Pair) (name : ℕ) → filter (λ (p : Pair). eqb p.name name) ps ≡ [] → last_or None (filter (λ (pair : ℕ × Event). eqb pair.0 name) (map seen ps)) ≡ None
-found_none ps name none = last_seen name None ps ∙ ap (λ (l : List Pair). option_map seen (last_or None l)) none
+pub walk_hit : (ps : List Pair) (left name : ℕ) (pair : Pair) → 0 < left → left ≤ length ps → pair ≡ get_or ps (left - 1) pair → named name (drop left ps) ≡ [] → eqb pair.name name ≡ true
+    → Some pair ≡ last_named name ps
+walk_hit ps left name pair some within item none own =
+    let one : (left - 1) + 1 ≡ left = omega arith in
+    let behind : named name (drop ((left - 1) + 1) ps) ≡ [] = rw one none in
+    let hit : eqb (get_or ps (left - 1) pair).name name ≡ true = subst (λ (p : Pair). eqb p.name name ≡ true) item own in
+    ap Some item ∙ sym (last_hit (λ (p : Pair). eqb p.name name) ps (left - 1) pair (omega arith) hit behind)
+
+-- what holds where the walk goes on
+pub record Walked (ps : List Pair) (left name : ℕ) : Type 0 where
+  pub within : left ≤ length ps
+  pub none : named name (drop left ps) ≡ []
+
+pub walk_on : (ps : List Pair) (left name : ℕ) (pair : Pair) → Blocked [] ps → 0 < left → Walked ps left name → pair ≡ get_or ps (left - 1) pair → eqb pair.name name ≡ false
+    → (pair.block < left) × Walked ps pair.block name
+walk_on ps left name pair blocks some walked item other =
+    let at = left - 1 in
+    let inside : at < length ps = omega (arith, walked.within) in
+    let one : at + 1 ≡ left = omega arith in
+    let behind : named name (drop (at + 1) ps) ≡ [] = rw one walked.none in
+    let missed : eqb (get_or ps at pair).name name ≡ false = subst (λ (p : Pair). eqb p.name name ≡ false) item other in
+    let block : (get_or ps at pair).block ≤ at = block_within ps at pair inside blocks in
+    let same : pair.block ≡ (get_or ps at pair).block = ap (λ (p : Pair). p.block) item in
+    let passed = block_passed ps at pair name inside blocks missed behind in (
+      omega (arith, block, same),
+      record {
+        within = omega (arith, block, same, inside);
+        none = subst (λ (p : Pair). named name (drop p.block ps) ≡ []) (sym item) passed;
+      },
+    )
+
+pub walk_past : (ps : List Pair) (left name : ℕ) → left ≡ 0 → named name (drop left ps) ≡ [] → None ≡ last_named name ps
+walk_past ps left name start none =
+    let all : named name ps ≡ [] = subst (λ n. named name (drop n ps) ≡ []) start none in
+    sym (ap (λ (l : List Pair). last_or None l) all)

@@ -130,14 +130,9 @@ impl Bound {
     pub fn get(&self, name: u8) -> Option<&Event>
         ensures { option_copied result ≡ option_map (λ pair. pair.1) (last_bound name self.now) }
     {
-        let mut left = self.pairs.len();
-        while left > 0 {
-            let pair = self.pairs.at(left - 1);
-            if pair.name == name {
-                return Some(pair.event.event());
-            }
-            left = pair.block;
+        match self.pairs.last_of(name) {
+            Some(pair) => Some(pair.event.event()),
+            None => None,
         }
-        None
     }
 }

@@ -1,5 +1,7 @@
 // Pairs of a name and an event, in a list that its copies share page by page.
-ghost use Rattle.std.specs.Prelude.{◌≡◌, ◌++◌, ◌∷◌, [], ◌<◌, ◌-◌, length, take, IfOk, OnOk, OnErr, slice_index_or};
+ghost use Rattle.std.specs.Prelude.{◌≡◌, ◌++◌, ◌∷◌, [], ◌<◌, ◌≤◌, ◌-◌, length, take, drop, IfOk, OnOk, OnErr, slice_index_or};
+ghost use Rattle.std.specs.Option.{option_copied};
+ghost use Rattle.sp_plan.specs.Blocks.{Blocked, named, last_named};
 
 use crate::{Memory, SharedEvent};
 use std::alloc::{AllocError, AllocFailed, Global};
@@ -20,19 +22,6 @@ pub(crate) struct Pair {
     pub(crate) name: u8,
     pub(crate) block: usize,
     pub(crate) event: SharedEvent,
-}
-
-impl Pair {
-    // The same pair once more. No event is copied.
-    fn share(&self) -> Result<Pair, Memory>
-        ensures { IfOk result (λ pair. pair ≡ self.now) }
-    {
-        Ok(Pair {
-            name: self.name,
-            block: self.block,
-            event: self.event.share()?,
-        })
-    }
 }
 
 // Pairs that no longer change, as many as fill a page. The handles that `share` makes are of the same page.
@@ -75,7 +64,7 @@ fn shared_pages(alloc: Global, pages: &[Page]) -> Result<Vec<Page>, Memory>
 {
     let mut shared = Vec::with_capacity(alloc, pages.len())?;
     for page in pages {
-        shared.push(page.share()?)?;
+        shared.push_reserved(page.share()?);
     }
     Ok(shared)
 }
@@ -86,7 +75,11 @@ fn shared_pairs(alloc: Global, pairs: &[Pair]) -> Result<Vec<Pair>, Memory>
 {
     let mut shared = Vec::with_capacity(alloc, pairs.len())?;
     for pair in pairs {
-        shared.push(pair.share()?)?;
+        shared.push_reserved(Pair {
+            name: pair.name,
+            block: pair.block,
+            event: pair.event.share()?,
+        });
     }
     Ok(shared)
 }
@@ -142,6 +135,41 @@ impl Pairs {
         } else {
             &self.pages[place / PAGE].pairs()[place % PAGE]
         }
+    }
+
+    // The last pair of the name, None exactly where there is none. Takes one step for each block of
+    // equal names from there to the end.
+    pub(crate) fn last_of(&self, name: u8) -> Option<&Pair>
+        requires { Blocked [] self.now }
+        ensures { option_copied result ≡ last_named name self.now }
+    {
+        let mut left = self.len();
+        while left > self.paged {
+            let pair = &self.tail[left - 1 - self.paged];
+            if pair.name == name {
+                return Some(pair);
+            }
+            left = pair.block;
+        }
+        self.last_before(left, name)
+    }
+
+    // The same, where it is known that none stands at that place or behind it.
+    fn last_before(&self, place: usize, name: u8) -> Option<&Pair>
+        requires blocked { Blocked [] self.now }
+        requires within { place ≤ length self.now }
+        requires none { named name (drop place self.now) ≡ [] }
+        ensures { option_copied result ≡ last_named name self.now }
+    {
+        let mut left = place;
+        while left > 0 {
+            let before = self.at(left - 1);
+            if before.name == name {
+                return Some(before);
+            }
+            left = before.block;
+        }
+        None
     }
 
     // Makes a page of the pairs behind the pages where they fill one. Behind a page of which pairs were
