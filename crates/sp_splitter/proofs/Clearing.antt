@@ -25,7 +25,8 @@ use Rattle.sp_core.specs.Running.{IsDone, Running, after}
 use Rattle.sp_core.specs.Showing.{IsTreeOf}
 use Rattle.sp_spread.specs.Laws.{IsStale}
 use Rattle.sp_splitter.specs.Knowing.{Known}
-use Rattle.sp_splitter.specs.Lending.{Clears, returned_all}
+use Rattle.sp_splitter.specs.Keeping.{Clears}
+use Rattle.sp_splitter.specs.Lending.{returned_all}
 use Rattle.sp_splitter.specs.Splitting.{RiseBetween, IsBelowKept}
 use Rattle.sp_splitter.specs.Stages.{Went}
 use Rattle.sp_splitter.proofs.Stepping.{back_done, goes_back, goes_then}

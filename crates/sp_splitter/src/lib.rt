@@ -4,6 +4,7 @@
 #![tactic(auto)]
 
 mod breeding;
+mod counting;
 mod dropping;
 mod finishing;
 mod gathering;

@@ -3,7 +3,7 @@ use Rattle.std.specs.List.{sum}
 use Rattle.sp_group.specs.Family.{entry_at}
 use Rattle.sp_tree.specs.Grown.{kin}
 use Rattle.sp_core.proofs.HeldByIds.{counted}
-use Rattle.sp_splitter.proofs.lending.out_of.Given as goal
+use Rattle.sp_splitter.proofs.counting.count_out.Given as goal
 
 abbrev pub invariant-loop-id : goal.invariant-loop-id
 invariant-loop-id l = record {

@@ -6,7 +6,7 @@ use Rattle.sp_tree.specs.Grown.{Entry, kin}
 use Rattle.sp_version.specs.declared.version.Version.{Version}
 use Rattle.sp_core.proofs.HeldByIds.{by_ids, counted}
 use Rattle.sp_splitter.proofs.Leasing.{out_total}
-use Rattle.sp_splitter.proofs.lending.out_of.Goals as goal
+use Rattle.sp_splitter.proofs.counting.count_out.Goals as goal
 
 pub overflow_add-out : goal.overflow_add-out
 overflow_add-out c =
