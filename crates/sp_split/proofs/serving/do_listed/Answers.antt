@@ -1,6 +1,6 @@
 use denote.Param.Send.{sendable}
 use Rattle.sp_piece.proofs.Crossing.{job_sent, piece_sent}
-use Rattle.sp_split.proofs.attending.attend.Goals as goal
+use Rattle.sp_split.proofs.serving.do_listed.Goals as goal
 
 pub take-requires-send-J : goal.take-requires-send-J
 take-requires-send-J g c κs within = search (job_sent, sendable) depth 20
@@ -13,9 +13,3 @@ put-requires-send-J g c κs within = search (job_sent, sendable) depth 20
 
 pub put-requires-send-P : goal.put-requires-send-P
 put-requires-send-P g c κs within = search (piece_sent, sendable) depth 20
-
-pub wait_job-requires-send-J : goal.wait_job-requires-send-J
-wait_job-requires-send-J g c κs within = search (job_sent, sendable) depth 20
-
-pub wait_job-requires-send-P : goal.wait_job-requires-send-P
-wait_job-requires-send-P g c κs within = search (piece_sent, sendable) depth 20
