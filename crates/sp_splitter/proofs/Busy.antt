@@ -4,7 +4,6 @@ use Rattle.std.proofs.lemmas.List.{length-map, length-reverse}
 use Rattle.sp_plan.specs.declared.plan.Plan.{Plan}
 use Rattle.sp_group.specs.Machine as machine
 use Rattle.sp_group.specs.Machine.{Machine}
-use Rattle.sp_version.specs.declared.version.Version.{Version}
 use Rattle.sp_core.specs.Suppressing.{ready_ids}
 use Rattle.sp_spread.specs.Counting.{ready_versions}
 

@@ -1,5 +1,5 @@
 -- Tickets whose versions are gone return with nothing read, one after another; and which of the kept jobs are left then.
-use Rattle.std.proofs.Common.{◌≡◌, ℕ, zero, suc, ◌+◌, ◌-◌, ◌<◌, ◌≤◌, ◌⊎◌, inl, inr, Bool, true, false, cond, is_some, is_none, List, [], ◌∷◌, ◌++◌, length, take, drop, map, filter, get_or, Option, None, Some, Bor, ◌==◌, refl, sym, ap, subst, ◌∙◌, append_assoc, add-one, arith}
+use Rattle.std.proofs.Common.{◌≡◌, ℕ, zero, suc, ◌+◌, ◌<◌, ◌≤◌, ◌⊎◌, inl, inr, Bool, true, false, cond, is_some, is_none, List, [], ◌∷◌, ◌++◌, length, take, drop, map, filter, get_or, Option, None, Some, Bor, ◌==◌, refl, sym, ap, subst, ◌∙◌, append_assoc, add-one, arith}
 use Rattle.std.specs.List.{All, remove}
 use Rattle.std.proofs.lemmas.List.Elements.{All-push}
 use Rattle.std.specs.Option.{option_copied}
