@@ -1,6 +1,6 @@
 -- For how many events a version is leased, by what the tree holds of it and of its parent.
-use Rattle.std.proofs.Common.{◌≡◌, ℕ, ◌+◌, ◌-◌, Bool, not, ◌||◌, List, Option, None, Some, sym, ap, ◌∙◌}
-use Rattle.std.specs.Prelude.{min, max, nat_le, if◌then◌else◌}
+use Rattle.std.proofs.Common.{◌≡◌, ℕ, ◌+◌, ◌-◌, ◌*◌, Bool, not, ◌||◌, List, Option, None, Some, sym, ap, ◌∙◌}
+use Rattle.std.specs.Prelude.{min, max, nat_le, nat_lt, if◌then◌else◌}
 use Rattle.std.specs.Option.{option_map}
 use Rattle.sp_plan.specs.WindowNumbers.{first, size}
 use Rattle.sp_group.specs.Family.{entry_at}
@@ -14,14 +14,15 @@ use Rattle.sp_core.specs.Showing.{IsTreeOf}
 use Rattle.sp_core.proofs.Entries.{Found, found, found_of_all, not_found, version_found}
 use Rattle.sp_splitter.specs.Lending.{asked, asked_of, asked_behind, consumes, is_free, next_read, parent_in}
 
--- whether a parent keeps nothing that it has yet to read from a child, by what the tree holds of both
-abbrev pub free_between : Running → Version → Version → Bool
-free_between c parent held =
-    parent.done || (nat_le (parent.first + size c.plan c.machine.events parent.window) (held.first + held.position) || not (consumes c.plan))
+-- whether a child is free of what its parent has read, by what the tree holds of both
+abbrev pub free_between : ℕ → Running → Version → Version → Bool
+free_between batch c parent held =
+    nat_lt held.position (2 * batch) || (parent.done
+    || (nat_le (parent.first + size c.plan c.machine.events parent.window) (held.first + held.position) || not (consumes c.plan)))
 
 -- how many events are asked for, by whether this is so, and the events that both read next
 abbrev pub asked_between : ℕ → Bool → ℕ → ℕ → ℕ
-asked_between batch free parents own = if free then batch else max 1 (min (parents - own) batch)
+asked_between batch free parents own = if free then batch else max (min batch 8) (min (parents - own) batch)
 
 module _ (c : Running) (t : Grown Version) (tree : IsTreeOf c t) (batch : ℕ) where
   at_version : (id : ℕ) → version_at c.machine.versions id ≡ option_map version_of (entry_at kin t.entries id)
@@ -63,7 +64,7 @@ module _ (c : Running) (t : Grown Version) (tree : IsTreeOf c t) (batch : ℕ) w
   -- both are live
   pub asked_child : (id p : ℕ) (held parent : Version) → Some held ≡ value_of (entry_at kin t.entries id) → Some p ≡ parent_of (entry_at kin t.entries id)
       → Some parent ≡ value_of (entry_at kin t.entries p)
-      → asked_between batch (free_between c parent held) (parent.first + parent.position) (held.first + held.position) ≡ asked batch c id
+      → asked_between batch (free_between batch c parent held) (parent.first + parent.position) (held.first + held.position) ≡ asked batch c id
   asked_child id p held parent is above there =
       let f : Found (entry_at kin t.entries id) held = found (entry_at kin t.entries id) held is in
       let g : Found (entry_at kin t.entries p) parent = found (entry_at kin t.entries p) parent there in
@@ -74,8 +75,9 @@ module _ (c : Running) (t : Grown Version) (tree : IsTreeOf c t) (batch : ℕ) w
       let begins : parent.first ≡ first c.plan c.machine.events g.entry.value.window = ap (λ (v : Version). v.first) (sym g.value) ∙ begins_held p g.entry g.is in
       let window : parent.window ≡ g.entry.value.window = ap (λ (v : Version). v.window) (sym g.value) in
       let done : parent.done ≡ g.entry.value.done = ap (λ (v : Version). v.done) (sym g.value) in
-      let free : free_between c parent held ≡ is_free c.plan c.machine.events (version_of g.entry) (version_of f.entry) =
-      (λ i. done i || (nat_le (begins i + size c.plan c.machine.events (window i)) (own i) || not (consumes c.plan))) in
+      let position : held.position ≡ f.entry.value.position = ap (λ (v : Version). v.position) (sym f.value) in
+      let free : free_between batch c parent held ≡ is_free batch c.plan c.machine.events (version_of g.entry) (version_of f.entry) =
+      (λ i. nat_lt (position i) (2 * batch) || (done i || (nat_le (begins i + size c.plan c.machine.events (window i)) (own i) || not (consumes c.plan)))) in
       (λ i. asked_between batch (free i) (parents i) (own i))
       ∙ sym (asked_found id f.entry f.is (Some p) above
       ∙ ap (asked_behind batch c (version_of f.entry)) (at_version p ∙ ap (option_map version_of) g.is))

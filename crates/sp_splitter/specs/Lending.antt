@@ -1,5 +1,5 @@
 -- Which versions are leased, those that are picked of the ready ones, and for how many events.
-use Rattle.std.specs.Prelude.{◌≡◌, ℕ, ◌+◌, ◌-◌, Bool, not, ◌||◌, List, [], ◌∷◌, filter, min, max, Option, Some, None, is_some, is_none, nat_le, if◌then◌else◌}
+use Rattle.std.specs.Prelude.{◌≡◌, ℕ, ◌+◌, ◌-◌, ◌*◌, Bool, not, ◌||◌, List, [], ◌∷◌, filter, min, max, Option, Some, None, is_some, is_none, nat_le, nat_lt, if◌then◌else◌}
 use Rattle.std.specs.List.{All, list_any}
 use Rattle.sp_plan.specs.declared.event.Event.{Event}
 use Rattle.sp_plan.specs.declared.plan.Plan.{Plan}
@@ -29,19 +29,21 @@ abbrev pub parent_in : List machine.Version → Option ℕ → Option machine.Ve
 parent_in versions None = None
 parent_in versions (Some p) = version_at versions p
 
--- whether its parent keeps nothing from a version that the parent has yet to read: the parent is done, or its window ends before the event
--- that the version reads next, or nothing can be consumed
-abbrev pub is_free : Plan → List Event → machine.Version → machine.Version → Bool
-is_free q events parent v =
-    parent.done || (nat_le (first q events parent.window + size q events parent.window) (next_read q events v) || not (consumes q))
+-- Whether a version may be leased whatever its parent has read: it has read fewer than two batches, so that little is lost where it begins
+-- anew; or the parent keeps nothing from it that the parent has yet to read, since the parent is done, or its window ends before the event
+-- that the version reads next, or nothing can be consumed.
+abbrev pub is_free : ℕ → Plan → List Event → machine.Version → machine.Version → Bool
+is_free batch q events parent v =
+    nat_lt v.position (2 * batch) || (parent.done
+    || (nat_le (first q events parent.window + size q events parent.window) (next_read q events v) || not (consumes q)))
 
--- How many events a lease of a version asks for: a batch; but where its parent may keep from it what the parent has yet to read, no event
--- behind those that the parent has read, and one at least.
+-- How many events a lease of a version asks for: a batch; but where it is not free, no event behind those that its parent has read, and
+-- eight at least, or a batch of fewer.
 abbrev pub asked_behind : ℕ → Running → machine.Version → Option machine.Version → ℕ
 asked_behind batch c v None = batch
 asked_behind batch c v (Some parent) =
-    if is_free c.plan c.machine.events parent v then batch
-    else max 1 (min (next_read c.plan c.machine.events parent - next_read c.plan c.machine.events v) batch)
+    if is_free batch c.plan c.machine.events parent v then batch
+    else max (min batch 8) (min (next_read c.plan c.machine.events parent - next_read c.plan c.machine.events v) batch)
 
 -- the same, where the version is there
 abbrev pub asked_of : ℕ → Running → Option machine.Version → ℕ

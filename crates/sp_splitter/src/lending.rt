@@ -1,5 +1,5 @@
 // What is ready is leased.
-ghost use Rattle.std.specs.Prelude.{◌≡◌, ◌≤◌, ◌+◌, ◌++◌, ◌∷◌, ◌||◌, ℕ, length, [], take, not, nat_le, None, IfOk, OnOk, OnErr};
+ghost use Rattle.std.specs.Prelude.{◌≡◌, ◌≤◌, ◌+◌, ◌*◌, ◌++◌, ◌∷◌, ◌||◌, ℕ, length, [], take, not, nat_le, nat_lt, None, IfOk, OnOk, OnErr};
 ghost use Rattle.sp_plan.specs.WindowNumbers.{size};
 ghost use Rattle.sp_chance.specs.Shares.{share_of};
 ghost use Rattle.sp_group.specs.declared.step.Step.TheVariants as s;
@@ -28,6 +28,9 @@ use sp_plan::Plan;
 use sp_version::Version;
 use std::alloc::{AllocError, Global};
 use std::collections::VecDeque;
+
+// The least that a lease asks for, or a batch of fewer.
+const LEAST: u32 = 8;
 
 // The ready versions that are picked, as many as there are places for `instances` and one more.
 fn picked(alloc: Global, core: &Core, chances: &Chances, instances: u32) -> Result<Vec<u64>, Memory>
@@ -84,21 +87,25 @@ fn next_read(held: &Version) -> u64
     held.first as u64 + held.position as u64
 }
 
-// Whether the parent of a version keeps nothing from it that the parent has yet to read: the parent is done, or
-// its window ends before the event that the version reads next, or nothing can be consumed.
-fn is_free(core: &Core, parent: &Version, held: &Version) -> bool
+// Whether a version may be leased whatever its parent has read: it has read fewer than two batches; or the parent
+// keeps nothing from it that the parent has yet to read, since the parent is done, or its window ends before the
+// event that the version reads next, or nothing can be consumed.
+fn is_free(core: &Core, parent: &Version, held: &Version, batch: u32) -> bool
     requires begun { HasBegun core.now parent.now.window }
-    ensures { result ≡ (parent.now.done || (nat_le
+    ensures { result ≡ (nat_lt held.now.position (2 * batch) || (parent.now.done || (nat_le
         (parent.now.first + size core.now.plan core.now.machine.events parent.now.window)
-        (held.now.first + held.now.position) || not (definitions.consumes core.now.plan))) }
+        (held.now.first + held.now.position) || not (definitions.consumes core.now.plan)))) }
 {
     let end = parent.first as u64 + fed_of(core, parent.window) as u64;
-    parent.done || end <= next_read(held) || !consumes(core.plan())
+    (held.position as u64) < 2 * batch as u64
+        || parent.done
+        || end <= next_read(held)
+        || !consumes(core.plan())
 }
 
 // How many events a lease of a version asks for: a batch; but where its parent may keep from it what the parent
-// has yet to read, no event behind those that the parent has read, and one at least. What the version reads
-// before its parent, and the parent then uses, lets it begin anew.
+// has yet to read, no event behind those that the parent has read, and eight at least. What the version reads
+// before its parent, and the parent then uses, lets it begin anew: early in its window that costs little.
 fn asked(core: &Core, id: u64, batch: u32) -> u32
     requires some { 1 ≤ batch }
     ensures count { result ≡ definitions.asked batch core.now id }
@@ -117,11 +124,11 @@ fn asked(core: &Core, id: u64, batch: u32) -> u32
     let Some(parent) = tree.get(above) else {
         return batch;
     };
-    if is_free(core, parent, held) {
+    if is_free(core, parent, held, batch) {
         return batch;
     }
     let read = next_read(parent).saturating_sub(next_read(held));
-    read.clamp(1, batch as u64) as u32
+    read.clamp(batch.min(LEAST) as u64, batch as u64) as u32
 }
 
 // Leases the versions of these ids, one after another, each for the events that it asks for.

@@ -26,7 +26,7 @@ pub returns-then-is_free-clause-count : goal.returns-then-is_free-clause-count
 returns-then-is_free-clause-count c =
     let parent = c.in-Some-get.parent.now in
     let held = c.in-Some.held.now in
-    let free : free_between c.args.core.now parent held ≡ true = sym c.is_free.ensures ∙ c.if-is_free.true in
+    let free : free_between c.args.batch c.args.core.now parent held ≡ true = sym c.is_free.ensures ∙ c.if-is_free.true in
     ap (λ (b : Bool). asked_between c.args.batch b (parent.first + parent.position) (held.first + held.position)) (sym free)
     ∙ asked_child c.args.core.now c.tree-tree.result.now c.tree-tree.ensures c.args.batch c.args.id c.in-Some-parent.above held parent c.in-Some.ensures c.in-Some-parent.ensures c.in-Some-get.ensures
 
@@ -34,9 +34,9 @@ pub returns-clause-count : goal.returns-clause-count
 returns-clause-count c =
     let parent = c.in-Some-get.parent.now in
     let held = c.in-Some.held.now in
-    let bound : free_between c.args.core.now parent held ≡ false = sym c.is_free.ensures ∙ c.if-is_free.false in
+    let bound : free_between c.args.batch c.args.core.now parent held ≡ false = sym c.is_free.ensures ∙ c.if-is_free.false in
     let read : c.next_read.result - c.next_read-2.result ≡ (parent.first + parent.position) - (held.first + held.position) =
     (λ i. c.next_read.ensures i - c.next_read-2.ensures i) in
-    c.clamp.ensures ∙ ap (λ (n : ℕ). max 1 (min n c.args.batch)) (c.saturating_sub-read.ensures ∙ read)
+    c.clamp.ensures ∙ (λ i. max (c.min.ensures i) (min ((c.saturating_sub-read.ensures ∙ read) i) c.args.batch))
     ∙ ap (λ (b : Bool). asked_between c.args.batch b (parent.first + parent.position) (held.first + held.position)) (sym bound)
     ∙ asked_child c.args.core.now c.tree-tree.result.now c.tree-tree.ensures c.args.batch c.args.id c.in-Some-parent.above held parent c.in-Some.ensures c.in-Some-parent.ensures c.in-Some-get.ensures
