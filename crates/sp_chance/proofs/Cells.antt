@@ -2,11 +2,11 @@
 use Rattle.std.proofs.Common.{◌≡◌, ℕ, zero, suc, ◌+◌, ◌-◌, ◌*◌, ◌/◌, ◌%◌, ◌<◌, ◌≤◌, ◌≢◌, ⊎_elim, Bool, true, false, cond, ◌==◌, List, length, get_or, slice_set, refl, sym, ap, ◌∙◌, subst, arith}
 use Rattle.std.proofs.Math.Nat.{eq-or-lt_of_le}
 use Rattle.std.proofs.lemmas.List.{get_or-set_other, get_or-set_same, length-set}
-use Rattle.std.proofs.lemmas.List.FromFn.{length-map-range_with_len, get_or-map-range_with_len, fill_by_all}
+use Rattle.std.proofs.lemmas.List.FromFn.{length-map-range_with_len, get_or-map-range_with_len}
 use Rattle.std.proofs.lemmas.Bool.Decides.{eqb_tells}
 use Rattle.std.proofs.lemmas.Bool.{eq-eqb}
 use Rattle.sp_chance.specs.Matrices.{total, matrix, at, others, settled_at, settled}
-use Rattle.sp_chance.proofs.Totals.{total-suc, total-same, total-le}
+use Rattle.sp_chance.proofs.Totals.{total-suc, total-same, total-le, total-first}
 
 pub cell_row : (i j : ℕ) → j < 33 → (i * 33 + j) / 33 ≡ i
 cell_row i j below = omega arith
@@ -28,19 +28,6 @@ at-matrix f i j row column =
     ∙ ap (λ x. f x ((i * 33 + j) % 33)) (cell_row i j column)
     ∙ ap (λ x. f i x) (cell_column i j column)
 
--- a list that has these numbers is the matrix
-pub is-matrix : (f : ℕ → ℕ → ℕ) (m : List ℕ) → length m ≡ 1089 → ((i j : ℕ) → i < 33 → j < 33 → at m i j ≡ f i j) → m ≡ matrix f
-unfolding matrix
-is-matrix f m size here =
-    fill_by_all (λ n. f (n / 33) (n % 33)) m 1089 0 size (λ n below.
-    let e : n / 33 * 33 + n % 33 ≡ n = omega arith in
-    ap (λ x. get_or m x 0) (sym e) ∙ here (n / 33) (n % 33) (omega arith) (omega arith))
-
--- a matrix goes by its numbers alone
-pub matrix-same : (f g : ℕ → ℕ → ℕ) → ((i j : ℕ) → i < 33 → j < 33 → f i j ≡ g i j) → matrix f ≡ matrix g
-matrix-same f g same =
-    is-matrix g (matrix f) (length-matrix f) (λ i j row column. at-matrix f i j row column ∙ same i j row column)
-
 choice_same : (b : Bool) (x y : ℕ) → (b ≡ false → x ≡ y) → cond b 0 x ≡ cond b 0 y
 choice_same true x y same = refl
 choice_same false x y same = same refl
@@ -53,15 +40,6 @@ settled_choice_same false r s x y rest same = same refl
 pub others-same : (f g : ℕ → ℕ → ℕ) (i : ℕ) → ((j : ℕ) → j < 33 → (j == i) ≡ false → f i j ≡ g i j) → total 33 (others f i) ≡ total 33 (others g i)
 others-same f g i same =
     total-same 33 (others f i) (others g i) (λ j below. choice_same (j == i) (f i j) (g i j) (same j below))
-
--- what is off the diagonal settles it
-pub settled-same : (f g : ℕ → ℕ → ℕ) → ((i j : ℕ) → i < 33 → j < 33 → (j == i) ≡ false → f i j ≡ g i j) → settled f ≡ settled g
-unfolding settled
-settled-same f g same =
-    matrix-same (settled_at f) (settled_at g) (λ i j row column.
-    settled_choice_same (j == i) _ _ (f i j) (g i j)
-    (ap (λ x. 65536 - x) (others-same f g i (λ k below. same i k row below)))
-    (same i j row column))
 
 pub choice_at : (b : Bool) (r x : ℕ) → b ≡ true → (cond b r x ≡ r) × (cond b 0 x ≡ 0)
 choice_at true r x is = (refl, refl)
@@ -119,12 +97,34 @@ settled-off f i j up column =
 pub others-and-it : (f : ℕ → ℕ → ℕ) (i : ℕ) → i < 33 → total 33 (others f i) ≤ total 33 (f i)
 others-and-it f i row = total-le 33 (others f i) (f i) (λ j below. choice_le (j == i) (f i j))
 
--- numbers written one cell after the other
-pub at-written : (f : ℕ → ℕ → ℕ) (m : List ℕ) → ((n : ℕ) → n < 1089 → get_or m n 0 ≡ f (n / 33) (n % 33)) → (i j : ℕ) → i < 33 → j < 33 → at m i j ≡ f i j
-at-written f m written i j row column =
-    written (i * 33 + j) (cell_within i j row column)
+-- numbers written one cell after the other, as far as the first rows
+pub at-written : (rows : ℕ) (f : ℕ → ℕ → ℕ) (m : List ℕ) → ((n : ℕ) → n < rows * 33 → get_or m n 0 ≡ f (n / 33) (n % 33))
+    → (i j : ℕ) → i < rows → j < 33 → at m i j ≡ f i j
+at-written rows f m written i j row column =
+    written (i * 33 + j) (omega arith)
     ∙ ap (λ x. f x ((i * 33 + j) % 33)) (cell_row i j column)
     ∙ ap (λ x. f i x) (cell_column i j column)
+
+-- a row of a settled matrix goes by the row's numbers off the diagonal alone
+pub settled-row : (f g : ℕ → ℕ → ℕ) (i : ℕ) → i < 33 → ((j : ℕ) → j < 33 → (j == i) ≡ false → f i j ≡ g i j)
+    → (j : ℕ) → j < 33 → at (settled f) i j ≡ at (settled g) i j
+settled-row f g i row same j column =
+    at-settled f i j row column
+    ∙ settled_choice_same (j == i) _ _ (f i j) (g i j) (ap (λ x. 65536 - x) (others-same f g i same)) (same j column)
+    ∙ sym (at-settled g i j row column)
+
+nothing_else : (f : ℕ → ℕ → ℕ) (i k : ℕ) → (i < k → k < 33 → f i k ≡ 0) → i ≤ k → k < 33 → others f i k ≡ 0
+nothing_else f i k falls from below =
+    ⊎_elim
+    (λ (on : ((k == i) ≡ true) × (k ≡ i)). ap (λ b. cond b 0 (f i k)) on.0)
+    (λ (off : ((k == i) ≡ false) × (k ≢ i)). let apart : k ≢ i = off.1 in ap (λ b. cond b 0 (f i k)) off.0 ∙ falls (omega arith) below)
+    (eqb_tells k i)
+
+-- where nothing stands behind the diagonal, the others are those before it
+pub others-before : (f : ℕ → ℕ → ℕ) (i : ℕ) → i < 33 → ((j : ℕ) → i < j → j < 33 → f i j ≡ 0) → total 33 (others f i) ≡ total i (f i)
+others-before f i row falls =
+    total-first i 33 (others f i) (omega arith) (λ k from below. nothing_else f i k (falls k) from below)
+    ∙ total-same i (others f i) (f i) (λ k below. ap (λ b. cond b 0 (f i k)) (eqb_not k i (omega arith)))
 
 -- a matrix whose first rows are settled, and no other
 pub record AreSettled (old m : List ℕ) (rows : ℕ) : Type 0 where
@@ -176,6 +176,6 @@ one-more-settled old m s r so row is = record {
   left = λ i j behind within column. at-set_other m (s * 33 + s) r i j (omega arith) ∙ so.left i j (omega arith) within column;
 }
 
-pub all-settled : (old m : List ℕ) → AreSettled old m 33 → m ≡ settled (at old)
-unfolding settled
-all-settled old m so = is-matrix (settled_at (at old)) m so.size (λ i j row column. so.done i j row column)
+pub rows-settled : (old m : List ℕ) (rows : ℕ) → rows ≤ 33 → AreSettled old m rows → (i j : ℕ) → i < rows → j < 33 → at m i j ≡ at (settled (at old)) i j
+rows-settled old m rows most so i j row column =
+    so.done i j row column ∙ sym (at-settled (at old) i j (omega arith) column)

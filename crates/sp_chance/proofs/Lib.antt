@@ -3,6 +3,6 @@ mod Cells
 mod Whole
 mod Counting
 mod Columns
-mod Codes
+mod Ring
 mod Worked
 mod Ordered

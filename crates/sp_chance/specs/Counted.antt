@@ -1,13 +1,18 @@
 -- What the calls that build matrices do, over the numbers that stand in memory.
-use Rattle.std.specs.Prelude.{◌≡◌, ℕ, ◌+◌, ◌*◌, ◌/◌, ◌%◌, ◌<◌, ◌≤◌, Bool, List, map, length, ◌==◌, ◌&&◌, ◌||◌, if◌then◌else◌}
-use Rattle.std.specs.List.{count_by, range_with_len}
-use Rattle.sp_chance.specs.Matrices.{at, AreWhole, power}
+use Rattle.std.specs.Prelude.{◌≡◌, ℕ, ◌+◌, ◌*◌, ◌/◌, ◌%◌, ◌<◌, ◌≤◌, Bool, List, length, ◌==◌, ◌&&◌, ◌||◌, if◌then◌else◌, slice_index}
+use Rattle.std.specs.List.{count_by}
+use Rattle.sp_chance.specs.Matrices.{total, at, power}
 
--- 33 rows of 33 numbers, each row's sum 65,536, and nothing where more events would be wanted than before
-pub record IsMatrix (m : List ℕ) : Type 0 where
+-- room for 33 rows of 33 numbers; in the first rows, so many, the sum is 65,536, and nothing stands where more
+-- events would be wanted than before
+pub record HasRows (rows : ℕ) (m : List ℕ) : Type 0 where
   pub size : length m ≡ 1089
-  pub whole : AreWhole m
-  pub falls : (i j : ℕ) → i < j → j < 33 → at m i j ≡ 0
+  pub whole : (i : ℕ) → i < rows → total 33 (at m i) ≡ 65536
+  pub falls : (i j : ℕ) → i < rows → i < j → j < 33 → at m i j ≡ 0
+
+-- the first rows, so many, are the same
+abbrev pub SameRows : ℕ → List ℕ → List ℕ → Type 0
+SameRows rows a b = (i j : ℕ) → i < rows → j < 33 → at a i j ≡ at b i j
 
 -- a pair that is learned: from 1 to 32 wanted events to as many or fewer
 pub record IsMove (p : ℕ × ℕ) : Type 0 where
@@ -44,6 +49,7 @@ moved_by counts i j =
     let t = at counts i i in
     if t == 0 then if j + 1 == i then 32768 else 0 else at counts i j * 65536 / t
 
--- of each of sixteen powers the column of state 0, one behind the other
-unfoldable pub first_columns : List ℕ → List ℕ
-first_columns one = map (λ n. at (power one (n / 33)) (n % 33) 0) (range_with_len 0 528)
+-- for the first states, so many, how likely each is to come to 0 in each of sixteen powers
+abbrev pub HasColumns : ℕ → List ℕ → List ℕ → Type 0
+HasColumns rows one columns =
+    (n i : ℕ) → n < 16 → i < rows → slice_index columns (n * 33 + i) ≡ at (power one n) i 0

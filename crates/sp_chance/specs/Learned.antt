@@ -1,8 +1,8 @@
 -- What a predictor has learned, and how likely it holds a completion to be.
-use Rattle.std.specs.Prelude.{◌≡◌, ℕ, ◌+◌, ◌-◌, ◌/◌, ◌<◌, ◌≤◌, Bool, List, [], ◌∷◌, ◌++◌, min, All, length, nat_le, ◌==◌, ◌&&◌, if◌then◌else◌}
-use Rattle.circular_buffer.specs.Buffer.{Buffer, keep_last}
+use Rattle.std.specs.Prelude.{◌≡◌, ℕ, ◌+◌, ◌-◌, ◌/◌, ◌≤◌, Bool, List, [], ◌∷◌, ◌++◌, min, All, fold, length, nat_le, ◌==◌, ◌&&◌, if◌then◌else◌}
+use Rattle.circular_buffer.specs.Buffer.{keep_last}
 use Rattle.sp_chance.specs.Matrices.{at, first, power}
-use Rattle.sp_chance.specs.Counted.{IsMove, first_columns}
+use Rattle.sp_chance.specs.Counted.{IsMove, HasColumns}
 
 -- the last pairs, how many were learned since matrices were built, and of which pairs these were built
 pub record Learned : Type 0 where
@@ -32,6 +32,10 @@ turned m ring =
 abbrev pub learned : Learned → ℕ → ℕ → Learned
 learned m from to = if is_move from to then turned m (with_pair m.ring from to) else m
 
+-- these pairs more, in their order
+abbrev pub learned_all : Learned → List (ℕ × ℕ) → Learned
+learned_all m pairs = fold (λ n p. learned n p.0 p.1) m pairs
+
 -- how many times sixteen events begin, at most 16
 abbrev pub sixteens : ℕ → ℕ
 sixteens events = min ((events + 15) / 16) 16
@@ -43,22 +47,26 @@ chance_of pairs left events =
     else if events == 0 then 0
     else at (power (first pairs) (sixteens events - 1)) (min left 32) 0
 
--- at most 256 pairs that count, in a ring for as many
-pub record AreLast (ring : Buffer (ℕ × ℕ)) : Type 0 where
-  pub room : ring.capacity ≡ 256
-  pub few : length ring.items ≤ 256
-  pub moves : All IsMove ring.items
+-- at most 256 pairs that count
+pub record AreLast (pairs : List (ℕ × ℕ)) : Type 0 where
+  pub few : length pairs ≤ 256
+  pub moves : All IsMove pairs
 
--- the ring holds pairs that count, the answers are of such pairs too, and the next turn is still to come
-pub record IsSound (recent : Buffer (ℕ × ℕ)) (since : ℕ) (built : List (ℕ × ℕ)) : Type 0 where
-  pub last : AreLast recent
-  pub due : since < 1024
+-- the ring holds pairs that count, and the answers are of such pairs too
+pub record IsSound (ring built : List (ℕ × ℕ)) : Type 0 where
+  pub last : AreLast ring
   pub moves : All IsMove built
   pub few : length built ≤ 256
 
+-- of which pairs numbers are at hand, and for how many states
+pub record AtHand : Type 0 where
+  pub pairs : List (ℕ × ℕ)
+  pub rows : ℕ
+
 -- the numbers at hand are those of the pairs beside them, and there is room to work others out
-pub record AreAtHand (pairs : List (ℕ × ℕ)) (columns one current next : List ℕ) : Type 0 where
-  pub kept : columns ≡ first_columns (first pairs)
+pub record AreAtHand (hand : AtHand) (columns one current next : List ℕ) : Type 0 where
+  pub kept : HasColumns hand.rows (first hand.pairs) columns
+  pub most : hand.rows ≤ 33
   pub size : length columns ≡ 528
   pub first_size : length one ≡ 1089
   pub current_size : length current ≡ 1089

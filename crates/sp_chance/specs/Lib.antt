@@ -1,4 +1,5 @@
 pub mod Matrices
 pub mod Counted
+pub mod Recent
 pub mod Learned
 pub mod Shares

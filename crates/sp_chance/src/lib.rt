@@ -10,6 +10,7 @@ mod moves;
 mod pairs;
 mod powers;
 mod predictor;
+mod recent;
 mod steady;
 
 pub use chances::{Chance, Chances};

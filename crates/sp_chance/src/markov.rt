@@ -1,19 +1,16 @@
 ghost use Rattle.std.specs.Prelude.{◌≡◌, ◌<◌, ◌≤◌, IfOk, codes};
 ghost use Rattle.sp_chance.specs.Matrices.{at, first, power};
-ghost use Rattle.sp_chance.specs.Learned.{fresh, learned, chance_of};
+ghost use Rattle.sp_chance.specs.Learned.{fresh, learned, learned_all, chance_of};
 
 use crate::Predictor;
 use crate::matrix::{STATES, WHOLE};
-use crate::pairs::{Pairs, RECENT};
+use crate::pairs::Pairs;
 use crate::powers::{POWERS, Powers, worked_out};
-use circular_buffer::HeapCircularBuffer;
+use crate::recent::Recent;
 use sp_base::Memory;
 use std::alloc::Global;
 use std::cell::RefCell;
 use std::marker::Model;
-
-/// At each so many pairs learned the answers turn to the last pairs.
-const TURN: u32 = 1_024;
 
 /// How many events the first power stands for, and each further one adds.
 const STEPS: u32 = 16;
@@ -23,8 +20,7 @@ const STEPS: u32 = 16;
 /// These are worked out at the first answer behind the turn, and kept.
 #[derive(Drop)]
 pub struct Markov {
-    recent: HeapCircularBuffer<(u32, u32)>,
-    since: u32,
+    recent: Recent,
     built: Pairs,
     // They know of which pairs they are: those of `built`, or those of an earlier turn.
     powers: RefCell<Powers>,
@@ -35,9 +31,9 @@ impl Model for Markov {
 
     ghost Value = { Learned };
 
-    ghost view = { λ m. record { ring = m.recent.items; since = m.since; built = m.built } };
+    ghost view = { λ m. record { ring = m.recent.ring; since = m.recent.since; built = m.built } };
 
-    ghost invariant = { λ m. IsSound m.recent m.since m.built };
+    ghost invariant = { λ m. IsSound m.recent.ring m.built };
 }
 
 impl Markov {
@@ -45,21 +41,25 @@ impl Markov {
     pub fn new(alloc: Global) -> Result<Markov, Memory>
         ensures { IfOk result (λ markov. markov ≡ fresh) }
     {
-        let recent = HeapCircularBuffer::with_capacity(alloc, RECENT)?;
         let powers = Powers::new(alloc)?;
         Ok(Markov {
-            recent,
-            since: 0,
+            recent: Recent::new(),
             built: Pairs::new(),
             powers: RefCell::new(powers),
         })
     }
 
-    // From now on the matrices are those of the last pairs. It only copies these: most are never asked about.
-    fn turn(&mut self)
-        ensures { self.new ≡ record { ring = self.old.ring; since = self.old.since; built = self.old.ring } }
+    // One pair more. At a turn the matrices are those of the last pairs from then on; these are only copied,
+    // since most are never asked about.
+    fn note(&mut self, from: u32, to: u32)
+        ensures { self.new ≡ learned self.old from to }
     {
-        self.built.replace(&self.recent);
+        if from == 0 || from as usize >= STATES || to > from {
+            return;
+        }
+        if self.recent.push(from, to) {
+            self.built.replace(self.recent.whole());
+        }
     }
 
     // How likely a state is to come to 0 in the events of a power. The numbers at hand serve where they are
@@ -89,15 +89,15 @@ impl Predictor for Markov {
     fn learn(&mut self, from: u32, to: u32)
         ensures { self.new ≡ learned self.old from to }
     {
-        if from == 0 || from as usize >= STATES || to > from {
-            return;
-        }
-        self.recent.push_back((from, to));
-        if self.since + 1 < TURN {
-            self.since += 1;
-        } else {
-            self.since = 0;
-            self.turn();
+        self.note(from, to);
+    }
+
+    /// As `learn`, with one call for all of them.
+    fn learn_all(&mut self, pairs: &[(u32, u32)])
+        ensures { self.new ≡ learned_all self.old pairs.now }
+    {
+        for (from, to) in pairs {
+            self.note(*from, *to);
         }
     }
 

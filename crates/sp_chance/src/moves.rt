@@ -1,27 +1,29 @@
 ghost use Rattle.std.specs.Prelude.{◌≡◌, ◌<◌, ◌≤◌, [], ◌∷◌, All, map, length};
 ghost use Rattle.sp_chance.specs.Matrices.{at, transitions};
-ghost use Rattle.sp_chance.specs.Counted.{IsMatrix, IsMove, AreCounted, AreAdded, HaveRoom, decoded, moved_by};
+ghost use Rattle.sp_chance.specs.Counted.{HasRows, SameRows, IsMove, AreCounted, AreAdded, HaveRoom, decoded, moved_by};
 
-use crate::matrix::{CELLS, STATES, WHOLE, settle};
+use crate::matrix::{STATES, WHOLE, settle};
 use crate::pairs::{Pairs, decode};
 
 // Where no pair tells of a state, half of it goes one state down.
 const HALF: u32 = 32_768;
 
-/// The matrix of one step, of at most 256 pairs of states; what was counted is left in `counts`.
-pub(crate) fn write_transitions(pairs: &Pairs, counts: &mut [u32], target: &mut [u32])
+/// The first rows, so many, of the matrix of one step, of at most 256 pairs of states; what was counted is left
+/// in `counts`.
+pub(crate) fn write_transitions(pairs: &Pairs, rows: usize, counts: &mut [u32], target: &mut [u32])
     requires moves { All IsMove pairs.now }
     requires most { length pairs.now ≤ 256 }
+    requires rows { rows ≤ 33 }
     requires counts { length counts.old ≡ 1089 }
     requires target { length target.old ≡ 1089 }
-    ensures value { target.new ≡ transitions pairs.now }
-    ensures matrix { IsMatrix target.new }
+    ensures value { SameRows rows target.new (transitions pairs.now) }
+    ensures matrix { HasRows rows target.new }
 {
     count(pairs, counts);
-    for cell in 0..CELLS {
+    for cell in 0..rows * STATES {
         target[cell] = part(counts, cell / STATES, cell % STATES);
     }
-    settle(target);
+    settle(target, rows);
 }
 
 // Counts the pairs: off the diagonal those from one state to the other, on it all those from a state.

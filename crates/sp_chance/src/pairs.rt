@@ -1,8 +1,6 @@
-ghost use Rattle.std.specs.Prelude.{◌≡◌, ℕ, ◌<◌, IsTrue, [], map, length, slice_index, slice_index_or};
-ghost use Rattle.sp_chance.specs.Counted.{decoded};
-ghost use Rattle.sp_chance.specs.Learned.{AreLast};
+ghost use Rattle.std.specs.Prelude.{◌≡◌, ◌≤◌, IsTrue, [], map, length};
+ghost use Rattle.sp_chance.specs.Counted.{decoded, IsMove};
 
-use circular_buffer::HeapCircularBuffer;
 use std::marker::Model;
 
 /// How many of the last pairs are kept.
@@ -41,13 +39,13 @@ impl Pairs {
         }
     }
 
-    /// The pairs of a ring in place of others.
-    pub(crate) fn replace(&mut self, ring: &HeapCircularBuffer<(u32, u32)>)
-        requires { AreLast ring.now }
-        ensures { self.new ≡ ring.now.items }
+    /// The pairs of these numbers in place of others.
+    pub(crate) fn replace(&mut self, codes: &[u16])
+        requires { length codes.now ≤ 256 }
+        ensures { self.new ≡ map decoded codes.now }
     {
-        write_codes(ring, &mut self.codes);
-        self.count = ring.len();
+        self.codes[..codes.len()].copy_from_slice(codes);
+        self.count = codes.len();
     }
 
     /// The pairs of another in place of others.
@@ -73,36 +71,20 @@ impl Pairs {
     }
 }
 
+/// The number of a pair.
+pub(crate) fn encode(from: u32, to: u32) -> u16
+    requires { IsMove (from, to) }
+    ensures { decoded result ≡ (from, to) }
+{
+    (from * FROM + to) as u16
+}
+
 /// Where the pair of a number leads from, and to.
 pub(crate) fn decode(code: u16) -> (usize, usize)
     ensures { result ≡ decoded code }
 {
     let code = u32::from(code);
     ((code / FROM) as usize, (code % FROM) as usize)
-}
-
-// The number of each pair of a ring.
-fn write_codes(ring: &HeapCircularBuffer<(u32, u32)>, codes: &mut [u16])
-    requires ring { AreLast ring.now }
-    requires size { length codes.old ≡ 256 }
-    ensures { (n : ℕ) → n < length ring.now.items →
-        decoded (slice_index codes.new n) ≡ slice_index_or ring.now.items n (0, 0) }
-{
-    for index in 0..ring.len() {
-        codes[index] = code_at(ring, index);
-    }
-}
-
-// The number of one pair.
-fn code_at(ring: &HeapCircularBuffer<(u32, u32)>, index: usize) -> u16
-    requires ring { AreLast ring.now }
-    requires index { index < length ring.now.items }
-    ensures { decoded result ≡ slice_index_or ring.now.items index (0, 0) }
-{
-    match ring.get(index) {
-        Some((from, to)) => (*from * FROM + *to) as u16,
-        None => 0,
-    }
 }
 
 // Whether all numbers are the same. It looks at each, without a branch, so that many are compared at a time.

@@ -18,6 +18,15 @@ pub trait Predictor: Drop + Send {
     fn learn(&mut self, from: u32, to: u32)
         ensures { named self.new ≡ named self.old };
 
+    /// Learns each of these pairs, in their order.
+    fn learn_all(&mut self, pairs: &[(u32, u32)])
+        ensures { named self.new ≡ named self.old }
+    {
+        for (from, to) in pairs {
+            self.learn(*from, *to);
+        }
+    }
+
     /// How likely `left` wanted events come among the next `events`, in 65,536ths; more counts as the whole.
     fn chance(&self, left: u32, events: u32) -> u32
         ensures { result ≡ means self.now left events };

@@ -12,6 +12,7 @@ use crate::naming::Naming;
 use crate::opened::Opened;
 use crate::poster::Poster;
 use crate::seat::Seat;
+use crate::shared::Shared;
 use crate::taken::Taken;
 use sp_text::Listed;
 use std::alloc::Global;
@@ -32,8 +33,10 @@ pub struct History {
 /// An exchange that threads share. Contracts see the number of its seats and its room.
 #[derive(Drop)]
 pub struct Hub<J: Named, P: Named, L: Naming> {
-    state: Mutex<Locked<J, P, L>>,
+    shared: Mutex<Shared<J, P, L>>,
+    // a job was listed, or the hub closed
     listed: Condvar,
+    // a piece came home
     home: Condvar,
     seats: u32,
     room: u32,
@@ -86,7 +89,7 @@ impl<J: Named, P: Named, L: Naming> Hub<J, P, L> {
         let takes = Vec::with_capacity(alloc, seats as usize)?;
         let puts = Vec::with_capacity(alloc, seats as usize)?;
         let hub = Hub {
-            state: Mutex::new(Locked::new(alloc, book)?),
+            shared: Mutex::new(Shared::new(Locked::new(alloc, book)?)),
             listed: Condvar::new(),
             home: Condvar::new(),
             seats,
@@ -97,7 +100,8 @@ impl<J: Named, P: Named, L: Naming> Hub<J, P, L> {
         Ok((hub, by, made))
     }
 
-    /// Lists a job. `Err` is want of memory.
+    /// Lists a job. `Err` is want of memory. Of the jobs that are listed the poster's thread is to do one itself
+    /// where it finds nothing else to do: a seat that waits is woken for the second and each further one.
     pub fn post<R: Wait>(&self, rt: &R, by: &mut Poster<P, L>, job: J) -> Result<(), J>
         requires ticket { by.old.last < J.ticket_of job }
         requires room { by.old.waiting < by.old.room }
@@ -105,8 +109,10 @@ impl<J: Named, P: Named, L: Naming> Hub<J, P, L> {
         ensures by { by.new ≡ (if is_ok result then posts by.old (J.ticket_of job) else by.old) }
         ensures back { IfErr result (λ j. j ≡ job) }
     {
-        let answer = self.state.lock(rt).post(by, job);
-        self.listed.notify_one();
+        let (answer, wakes) = self.shared.lock(rt).post(by, job);
+        if wakes {
+            self.listed.notify_one();
+        }
         answer
     }
 
@@ -115,21 +121,23 @@ impl<J: Named, P: Named, L: Naming> Hub<J, P, L> {
         requires { seat.old.holding ≡ None }
         ensures { seat.new ≡ takes J.ticket_of seat.old result }
     {
-        self.state.lock(rt).take(seat)
+        self.shared.lock(rt).state.take(seat)
     }
 
-    /// Brings a piece home.
+    /// Brings a piece home, and wakes the poster where it waits.
     pub fn put<R: Wait>(&self, rt: &R, seat: &mut Seat<P, L>, piece: P)
         requires { seat.old.holding ≡ Some (P.ticket_of piece) }
         ensures { seat.new ≡ puts seat.old }
     {
         let mut piece = piece;
         for _ in rt.forever() {
-            match self.state.lock(rt).put(seat, piece) {
-                Ok(()) => {
-                    self.home.notify_one();
-                    return;
-                }
+            // The lock is let go before the poster is woken, so that it needn't wait for it.
+            let (answer, wakes) = self.shared.lock(rt).put(seat, piece);
+            if wakes {
+                self.home.notify_one();
+            }
+            match answer {
+                Ok(()) => return,
                 Err(back) => piece = back,
             }
         }
@@ -140,32 +148,34 @@ impl<J: Named, P: Named, L: Naming> Hub<J, P, L> {
     pub fn collect<R: Wait>(&self, rt: &R, by: &mut Poster<P, L>) -> Option<P>
         ensures { by.new ≡ collects by.old result }
     {
-        self.state.lock(rt).collect(by)
+        self.shared.lock(rt).state.collect(by)
     }
 
-    /// Closes the hub. Jobs that are listed can still be taken.
+    /// Closes the hub, and wakes every seat that waits. Jobs that are listed can still be taken.
     pub fn close<R: Wait>(&self, rt: &R, by: &mut Poster<P, L>)
         requires { by.old.closed ≡ false }
         ensures { by.new ≡ record by.old { closed = true } }
     {
-        self.state.lock(rt).close(by);
+        self.shared.lock(rt).state.close(by);
         self.listed.notify_all();
     }
 
     /// Returns once a job is listed or the hub is closed.
     pub fn wait_job<R: Wait>(&self, rt: &R, _seat: &Seat<P, L>) {
-        let _state = self
-            .listed
-            .wait_while(rt, self.state.lock(rt), |s| s.is_idle());
+        let mut shared = self.shared.lock(rt);
+        shared.seat_waits();
+        let mut shared = self.listed.wait_while(rt, shared, |s| s.state.is_idle());
+        shared.seat_goes_on();
     }
 
     /// Returns once a piece is home.
     pub fn wait_home<R: Wait>(&self, rt: &R, by: &Poster<P, L>)
         requires { 0 < by.now.waiting }
     {
-        let _state = self
-            .home
-            .wait_while(rt, self.state.lock(rt), |s| s.none_home());
+        let mut shared = self.shared.lock(rt);
+        shared.poster_waits();
+        let mut shared = self.home.wait_while(rt, shared, |s| s.state.none_home());
+        shared.poster_goes_on();
     }
 
     /// The history, where all seats of this hub are back.
@@ -189,7 +199,7 @@ impl<J: Named, P: Named, L: Naming> Hub<J, P, L> {
             });
         }
         let Hub {
-            state,
+            shared,
             listed: _,
             home: _,
             seats: count,
@@ -201,7 +211,7 @@ impl<J: Named, P: Named, L: Naming> Hub<J, P, L> {
         for seat in seats {
             all.merge(seat.into_share());
         }
-        let entries = state.into_inner().into_entries(&mut all);
+        let entries = shared.into_inner().into_entries(&mut all);
         let takes = takes_by_seat(takes, entries.as_slice(), count);
         let puts = puts_by_seat(puts, entries.as_slice(), count);
         Ok(History {

@@ -1,5 +1,5 @@
 //! The calls on the state behind a hub's lock, each with what it does to that state.
-ghost use Rattle.std.specs.Prelude.{◌≡◌, ◌<◌, true, false, [], Some, None, IfErr, IfOk, if◌then◌else◌, is_ok, length, ◌==◌, ◌&&◌, not};
+ghost use Rattle.std.specs.Prelude.{◌≡◌, ◌<◌, true, false, [], Some, None, IfErr, IfOk, if◌then◌else◌, is_ok, length, ◌==◌, ◌&&◌, ◌↔◌, not};
 ghost use Rattle.std.specs.List.{count_by};
 ghost use Rattle.sp_hub.specs.History.{IsLegal, is_call};
 ghost use Rattle.sp_hub.specs.Calls.{after_post, after_take, after_put, after_collect, after_close, oldest, first_of, posts, collects, takes, puts};
@@ -61,6 +61,13 @@ impl<J: Named, P: Named, L: Naming> Locked<J, P, L> {
         ensures { result ≡ ((length self.now.jobs == 0) && not self.now.closed) }
     {
         self.jobs.is_empty() && !self.closed
+    }
+
+    /// Whether more than one job is listed.
+    pub(crate) fn has_several_jobs(&self) -> bool
+        ensures { (result ≡ true) ↔ (1 < length self.now.jobs) }
+    {
+        self.jobs.len() > 1
     }
 
     /// Whether no piece is home.

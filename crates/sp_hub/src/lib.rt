@@ -12,6 +12,7 @@ mod opened;
 mod poster;
 mod readings;
 mod seat;
+mod shared;
 mod taken;
 mod tally;
 #[cfg(test)]

@@ -1,12 +1,12 @@
 -- What an instance did, job by job.
-use Rattle.std.proofs.Common.{◌≡◌, List, [], ◌∷◌, ◌++◌, length, refl, sym, ap, ◌∙◌, arith}
+use Rattle.std.proofs.Common.{◌≡◌, ℕ, List, [], ◌∷◌, ◌++◌, length, refl, sym, ap, ◌∙◌, arith}
 use Rattle.std.proofs.lemmas.List.{length-map, map-append}
 use Rattle.sp_hub.specs.State.{Sitting}
 use Rattle.std.proofs.lemmas.List.Elements.{All-nil, All-cons, All-append}
 use Rattle.sp_piece.specs.declared.job.Job.{Job}
 use Rattle.sp_piece.specs.Pieced.{Pieced}
 use Rattle.sp_instance.specs.Doing.{IsDone, Worked}
-use Rattle.sp_instance.specs.Seats.{Counts, PutAll}
+use Rattle.sp_instance.specs.Seats.{CountsLent, PutAll}
 
 -- before the first job nothing was done
 pub none_yet : (did : List Job → List Pieced → Type 0) → did [] [] → Worked did
@@ -25,8 +25,8 @@ one_more did more job piece goes same done w = record {
 }
 
 -- a seat that counts jobs and their pieces counts as many of these as of those
-pub put_all : (old new : Sitting) → Worked (λ jobs pieces. Counts old jobs pieces new) → PutAll old new
-put_all old new w =
+pub put_all : (old_name new_name : ℕ) (old new : Sitting) → Worked (λ jobs pieces. CountsLent old_name new_name old jobs pieces new) → PutAll old new
+put_all old_name new_name old new w =
     let as_many : length w.pieces ≡ length w.jobs = sym (length-map w.pieces (λ (p : Pieced). p.job)) ∙ ap length w.theirs in
-    let calls = w.were.calls in
-    record { count = length w.jobs; number = w.were.number; calls = omega (arith, calls, as_many) }
+    let calls = w.were.counts.calls in
+    record { count = length w.jobs; number = w.were.counts.number; calls = omega (arith, calls, as_many) }

@@ -74,9 +74,12 @@ fn by_instances<L: Naming + Send + Sync, R: Threads + Wait + Abort + Sync>(
     requires { (opened.name ≡ L.name) × (opened.parts ≡ L.parts) }
 {
     let plan = Arc::new(alloc, plan(alloc)?)?;
-    let (hub, mut by, seats) = Hub::<Job, Piece, L>::new(alloc, opened)?;
+    let (hub, mut by, mut seats) = Hub::<Job, Piece, L>::new(alloc, opened)?;
     post_all(rt, alloc, &hub, &mut by, &plan)?;
-    let seats = work_all(rt, alloc, &hub, seats, &OpenGate)?;
+    if seats.is_empty() {
+        return Err("a seat".into());
+    }
+    work_all(rt, alloc, &hub, &mut seats, &OpenGate);
     collect_all(rt, &hub, &mut by)?;
     let Ok(history) = hub.finish(by, seats) else {
         return Err("all seats".into());

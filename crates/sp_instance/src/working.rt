@@ -1,10 +1,10 @@
-ghost use Rattle.std.specs.Prelude.{◌≡◌, true, None, IfOk, vec_len};
+ghost use Rattle.std.specs.Prelude.{◌≡◌, ◌<◌, true, None, vec_len, vec_capacity};
 ghost use Rattle.std.specs.List.{All};
 ghost use Rattle.sp_instance.specs.Doing.{Worked};
 ghost use Rattle.sp_instance.specs.Seats.{PutAll};
 
 use crate::doing::do_job_at;
-use crate::{Gate, Memory, Seated, Workplace};
+use crate::{Gate, Seated, Workplace};
 use sp_hub::{Hub, Naming, Seat, Taken};
 use sp_piece::{Job, Piece};
 use std::alloc::Global;
@@ -34,17 +34,17 @@ pub fn work_at<W: Workplace, G: Gate, R: Wait>(rt: &R, alloc: Global, place: &mu
     unreachable!()
 }
 
-/// Does the jobs of a hub at a seat until the hub is closed and empty, and gives the seat back.
+/// Does the jobs of a hub at a seat until the hub is closed and empty.
 pub fn work<L: Naming, G: Gate, R: Wait>(
     rt: &R,
     alloc: Global,
     hub: &Hub<Job, Piece, L>,
-    seat: Seat<Piece, L>,
+    seat: &mut Seat<Piece, L>,
     gate: &G,
-) -> Seat<Piece, L>
-    requires { seat.holding ≡ None }
-    ensures free { result.holding ≡ None }
-    ensures all { PutAll seat result }
+)
+    requires { seat.old.holding ≡ None }
+    ensures free { seat.new.holding ≡ None }
+    ensures all { PutAll seat.old seat.new }
 {
     let mut place = Seated {
         rt,
@@ -59,29 +59,37 @@ pub fn work<L: Naming, G: Gate, R: Wait>(
         seat,
         over: _,
     } = place;
-    seat
+    take_back(seat);
 }
 
-/// An instance for each seat, each on a thread of its own where one can be made, else one after another.
-/// Gives the seats back, in their order, once the hub is closed and empty. `Err` is want of memory: the
-/// seats are lost.
+// Does nothing. This use of the reference that came back ties it to the parameter that was lent.
+fn take_back<T>(x: &mut T)
+    ensures { x.new ≡ x.old }
+{}
+
+/// An instance for each seat, each on a thread of its own where one can be made, else one after another, until
+/// the hub is closed and empty. No seat is lost, whatever memory is refused.
 pub fn work_all<L: Naming + Send + Sync, G: Gate, R: Threads + Wait + Sync>(
     rt: &R,
     alloc: Global,
     hub: &Hub<Job, Piece, L>,
-    seats: Vec<Seat<Piece, L>>,
+    seats: &mut Vec<Seat<Piece, L>>,
     gate: &G,
-) -> Result<Vec<Seat<Piece, L>>, Memory>
-    requires { All (λ s. s.holding ≡ None) seats.items }
-    ensures len { IfOk result (λ back. vec_len back ≡ vec_len seats) }
-    ensures free { IfOk result (λ back. All (λ s. s.holding ≡ None) back.items) }
+)
+    requires some { 0 < vec_len seats.old }
+    requires free { All (λ s. s.holding ≡ None) seats.old.items }
+    ensures len { vec_len seats.new ≡ vec_len seats.old }
+    ensures capacity { vec_capacity seats.new ≡ vec_capacity seats.old }
+    ensures free { All (λ s. s.holding ≡ None) seats.new.items }
 {
-    thread::map_vec(
+    let count = seats.len();
+    thread::for_each_mut(
         rt,
         seats,
-        &|seat: Seat<Piece, L>| -> Seat<Piece, L>
-            requires { seat.holding ≡ None }
-            ensures { result.holding ≡ None }
+        count,
+        &|_: usize, seat: &mut Seat<Piece, L>|
+            requires { seat.old.holding ≡ None }
+            ensures { seat.new.holding ≡ None }
         { work(rt, alloc, hub, seat, gate) },
-    )
+    );
 }

@@ -75,15 +75,15 @@ fn ancestor<V>(tree: &Tree<V>, id: u64, steps: usize) -> u64
     at
 }
 
-// The version and those above it, the nearest first, as many as are kept; the root stands for those that are
-// missing.
-fn path_up<V>(tree: &Tree<V>, id: u64) -> [u64; STRETCH]
-    ensures { (k : ℕ) → k < 64 → slice_index result k ≡ climbed tree.now.entries k id }
+// The version and so many less one above it, the nearest first; the root stands for those that are missing.
+fn path_up<V>(tree: &Tree<V>, id: u64, count: usize) -> [u64; STRETCH]
+    requires { count ≤ 64 }
+    ensures { (k : ℕ) → k < count → slice_index result k ≡ climbed tree.now.entries k id }
 {
     let mut path = [0; STRETCH];
     let mut at = id;
-    for slot in path.iter_mut() {
-        *slot = at;
+    for place in 0..count {
+        path[place] = at;
         at = tree.parent(at).unwrap_or(at);
     }
     path
@@ -98,7 +98,7 @@ fn passed_down<V>(tree: &Tree<V>, chances: &Chances, id: u64, steps: usize, shar
     ensures { result ≡ survival_in (share_of chances.now) tree.now.entries id }
 {
     tree.live();
-    let path = path_up(tree, id);
+    let path = path_up(tree, id, steps);
     let mut share = share;
     let mut left = steps;
     while left > 0 {

@@ -1,32 +1,30 @@
 -- Blocks of equal names: how they stay right, and how they lead to the last event of a name.
 use Rattle.std.proofs.Common.{◌≡◌, ◌≢◌, ℕ, ◌+◌, ◌-◌, ◌<◌, ◌≤◌, arith, Bool, true, false, cond, List, [], ◌∷◌, ◌++◌, length, get_or, take, drop, map, filter, eqb, Option, Some, None, refl, sym, ◌∙◌, ap, subst, take-append-drop, append_assoc}
-use Rattle.std.specs.List.{All, last_or, slice_get}
+use Rattle.std.specs.List.{All, last_or}
 use Rattle.std.specs.Option.{option_map}
-use Rattle.std.proofs.lemmas.Option.{slice_get_within, get_or_from_slice_get}
-use Rattle.std.proofs.lemmas.List.{drop_more, drop_all, take_all, drop-append-le, take-append-le, length-append, length-take-le}
+use Rattle.std.proofs.lemmas.List.{append-nil, drop_more, drop_all, take_all, drop-append-le, take-append-le, length-append, length-take-le}
 use Rattle.std.proofs.lemmas.List.Elements.{All-nil, All-head, All-tail, All-push, filter-append}
 use Rattle.sp_plan.specs.declared.event.Event.{Event}
-use Rattle.sp_plan.specs.declared.bound.Pair.{Pair}
-use Rattle.sp_plan.specs.Blocks.{seen, IsBlock, Blocked}
+use Rattle.sp_plan.specs.declared.pairs.Pair.{Pair}
+use Rattle.sp_plan.specs.Blocks.{seen, IsBlock, Blocked, named, last_named}
 use Rattle.sp_plan.proofs.LastBound.{last_or-push, last_hit}
-
-append_none : (xs : List Pair) → xs ++ [] ≡ xs
-append_none [] = refl
-append_none (x ∷ xs) = ap (λ l. x ∷ l) (append_none xs)
 
 -- ---- blocks of longer and of shorter lists
 
-pub blocked_front : (front xs ys : List Pair) → Blocked front (xs ++ ys) → Blocked front xs
+blocked_front : (front xs ys : List Pair) → Blocked front (xs ++ ys) → Blocked front xs
 blocked_front front [] ys h = tt
 blocked_front front (p ∷ xs) ys h = (h.0, blocked_front (front ++ p ∷ []) xs ys h.1)
 
+pub blocked_take : (n : ℕ) (xs : List Pair) → Blocked [] xs → Blocked [] (take n xs)
+blocked_take n xs h = blocked_front [] (take n xs) (drop n xs) (subst (Blocked []) (sym (take-append-drop n xs)) h)
+
 pub blocked_push : (front xs : List Pair) (p : Pair) → Blocked front xs → IsBlock (front ++ xs) p.name p.block → Blocked front (xs ++ p ∷ [])
-blocked_push front [] p h here = (subst (λ l. IsBlock l p.name p.block) (append_none front) here, tt)
+blocked_push front [] p h here = (subst (λ l. IsBlock l p.name p.block) (append-nil front) here, tt)
 blocked_push front (x ∷ xs) p h here =
     (h.0, blocked_push (front ++ x ∷ []) xs p h.1 (subst (λ l. IsBlock l p.name p.block) (sym (append_assoc front (x ∷ []) xs)) here))
 
 block_at : (front xs ys : List Pair) (p : Pair) → Blocked front (xs ++ p ∷ ys) → IsBlock (front ++ xs) p.name p.block
-block_at front [] ys p h = subst (λ l. IsBlock l p.name p.block) (sym (append_none front)) h.0
+block_at front [] ys p h = subst (λ l. IsBlock l p.name p.block) (sym (append-nil front)) h.0
 block_at front (x ∷ xs) ys p h = subst (λ l. IsBlock l p.name p.block) (append_assoc front (x ∷ []) xs) (block_at (front ++ x ∷ []) xs ys p h.1)
 
 split_at : (ps : List Pair) (i : ℕ) (d : Pair) → i < length ps → ps ≡ take i ps ++ (get_or ps i d ∷ drop (i + 1) ps)
@@ -59,23 +57,22 @@ block_anew front p name differs =
       other = rw (take_all (length ps) ps short, last_or-push None front p) differs;
     }
 
-last_split : (ps : List Pair) (p : Pair) → slice_get ps (length ps - 1) ≡ Some p → ps ≡ take (length ps - 1) ps ++ p ∷ []
-last_split ps p h =
+last_split : (ps : List Pair) (p : Pair) → 0 < length ps → p ≡ get_or ps (length ps - 1) p → ps ≡ take (length ps - 1) ps ++ p ∷ []
+last_split ps p some one =
     let i = length ps - 1 in
-    let inside : i < length ps = slice_get_within ps i p h in
-    let one : get_or ps i p ≡ p = get_or_from_slice_get ps i p p h in
-    let past : length ps ≤ i + 1 = omega (arith, inside) in
-    split_at ps i p inside ∙ (λ k. take i ps ++ (one k ∷ drop_all (i + 1) ps past k))
+    let inside : i < length ps = omega arith in
+    let past : length ps ≤ i + 1 = omega arith in
+    split_at ps i p inside ∙ (λ k. take i ps ++ (sym one k ∷ drop_all (i + 1) ps past k))
 
-pub block_own : (ps : List Pair) (p : Pair) (name : ℕ) → Blocked [] ps → slice_get ps (length ps - 1) ≡ Some p → p.name ≡ name → IsBlock ps name p.block
-block_own ps p name h last same =
-    let split = last_split ps p last in
+pub block_own : (ps : List Pair) (p : Pair) (name : ℕ) → Blocked [] ps → 0 < length ps → p ≡ get_or ps (length ps - 1) p → p.name ≡ name → IsBlock ps name p.block
+block_own ps p name h some last same =
+    let split = last_split ps p some last in
     let here = block_at [] (take (length ps - 1) ps) [] p (subst (Blocked []) split h) in
     subst (λ n. IsBlock ps n p.block) same (subst (λ l. IsBlock l p.name p.block) (sym split) (block_goes_on (take (length ps - 1) ps) p here))
 
-pub block_next : (ps : List Pair) (p : Pair) (name : ℕ) → slice_get ps (length ps - 1) ≡ Some p → p.name ≢ name → IsBlock ps name (length ps)
-block_next ps p name last differs =
-    subst (λ l. IsBlock l name (length l)) (sym (last_split ps p last)) (block_anew (take (length ps - 1) ps) p name differs)
+pub block_next : (ps : List Pair) (p : Pair) (name : ℕ) → 0 < length ps → p ≡ get_or ps (length ps - 1) p → p.name ≢ name → IsBlock ps name (length ps)
+block_next ps p name some last differs =
+    subst (λ l. IsBlock l name (length l)) (sym (last_split ps p some last)) (block_anew (take (length ps - 1) ps) p name differs)
 
 -- ---- from block to block
 
@@ -115,9 +112,40 @@ last_seen name o [] = refl
 last_seen name o (p ∷ ps) =
     last_choice (eqb p.name name) o p (filter (λ (pair : ℕ × Event). eqb pair.0 name) (map seen ps)) (filter (λ (x : Pair). eqb x.name name) ps) (last_seen name (Some p) ps) (last_seen name o ps)
 
-pub found_last : (ps : List Pair) (i : ℕ) (d : Pair) (name : ℕ) → i < length ps → eqb (get_or ps i d).name name ≡ true → filter (λ p. eqb p.name name) (drop (i + 1) ps) ≡ []
-    → last_or None (filter (λ (pair : ℕ × Event). eqb pair.0 name) (map seen ps)) ≡ Some (seen (get_or ps i d))
-found_last ps i d name inside own none = last_seen name None ps ∙ ap (option_map seen) (last_hit (λ (p : Pair). eqb p.name name) ps i d inside own none)
+-- ---- the walk from the end to the front
 
-pub found_none : (ps : List Pair) (name : ℕ) → filter (λ (p : Pair). eqb p.name name) ps ≡ [] → last_or None (filter (λ (pair : ℕ × Event). eqb pair.0 name) (map seen ps)) ≡ None
-found_none ps name none = last_seen name None ps ∙ ap (λ (l : List Pair). option_map seen (last_or None l)) none
+pub walk_hit : (ps : List Pair) (left name : ℕ) (pair : Pair) → 0 < left → left ≤ length ps → pair ≡ get_or ps (left - 1) pair → named name (drop left ps) ≡ [] → eqb pair.name name ≡ true
+    → Some pair ≡ last_named name ps
+walk_hit ps left name pair some within item none own =
+    let one : (left - 1) + 1 ≡ left = omega arith in
+    let behind : named name (drop ((left - 1) + 1) ps) ≡ [] = rw one none in
+    let hit : eqb (get_or ps (left - 1) pair).name name ≡ true = subst (λ (p : Pair). eqb p.name name ≡ true) item own in
+    ap Some item ∙ sym (last_hit (λ (p : Pair). eqb p.name name) ps (left - 1) pair (omega arith) hit behind)
+
+-- what holds where the walk goes on
+pub record Walked (ps : List Pair) (left name : ℕ) : Type 0 where
+  pub within : left ≤ length ps
+  pub none : named name (drop left ps) ≡ []
+
+pub walk_on : (ps : List Pair) (left name : ℕ) (pair : Pair) → Blocked [] ps → 0 < left → Walked ps left name → pair ≡ get_or ps (left - 1) pair → eqb pair.name name ≡ false
+    → (pair.block < left) × Walked ps pair.block name
+walk_on ps left name pair blocks some walked item other =
+    let at = left - 1 in
+    let inside : at < length ps = omega (arith, walked.within) in
+    let one : at + 1 ≡ left = omega arith in
+    let behind : named name (drop (at + 1) ps) ≡ [] = rw one walked.none in
+    let missed : eqb (get_or ps at pair).name name ≡ false = subst (λ (p : Pair). eqb p.name name ≡ false) item other in
+    let block : (get_or ps at pair).block ≤ at = block_within ps at pair inside blocks in
+    let same : pair.block ≡ (get_or ps at pair).block = ap (λ (p : Pair). p.block) item in
+    let passed = block_passed ps at pair name inside blocks missed behind in (
+      omega (arith, block, same),
+      record {
+        within = omega (arith, block, same, inside);
+        none = subst (λ (p : Pair). named name (drop p.block ps) ≡ []) (sym item) passed;
+      },
+    )
+
+pub walk_past : (ps : List Pair) (left name : ℕ) → left ≡ 0 → named name (drop left ps) ≡ [] → None ≡ last_named name ps
+walk_past ps left name start none =
+    let all : named name ps ≡ [] = subst (λ n. named name (drop n ps) ≡ []) start none in
+    sym (ap (λ (l : List Pair). last_or None l) all)

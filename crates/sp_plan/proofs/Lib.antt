@@ -1,5 +1,6 @@
 mod LastBound
 mod Blocks
+mod Pages
 pub mod Worked
 mod WorkedMoves
 mod WorkedReading

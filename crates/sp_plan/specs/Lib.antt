@@ -1,6 +1,7 @@
 pub mod Events
 pub mod Values
 pub mod Blocks
+pub mod Pages
 pub mod Windows
 pub mod WindowNumbers
 pub mod Runs

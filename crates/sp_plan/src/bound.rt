@@ -3,24 +3,16 @@ ghost use Rattle.std.specs.Option.{option_map, option_copied};
 ghost use Rattle.sp_plan.specs.Values.{last_bound};
 ghost use Rattle.sp_plan.specs.Blocks.{seen, IsBlock, Blocked};
 
+use crate::pairs::{Pair, Pairs};
 use crate::{Event, Memory, SharedEvent};
 use std::alloc::Global;
 use std::marker::Model;
-
-// An event that is bound to a name. Its block is the run of pairs of the same name that stand
-// together and end with it; `block` is the place of the first of them.
-#[derive(Drop)]
-struct Pair {
-    name: u8,
-    block: usize,
-    event: SharedEvent,
-}
 
 /// The events that a partial match has bound so far, each with the number of its name. They are held by
 /// handles, so that one event which many matches have bound is there once.
 #[derive(Drop)]
 pub struct Bound {
-    pairs: Vec<Pair>,
+    pairs: Pairs,
 }
 
 impl Model for Bound {
@@ -30,25 +22,25 @@ impl Model for Bound {
 
     ghost Value = { List (ℕ × Event) };
 
-    ghost view = { λ b. map seen b.pairs.items };
+    ghost view = { λ b. map seen b.pairs };
 
-    ghost invariant = { λ b. Blocked [] b.pairs.items };
+    ghost invariant = { λ b. Blocked [] b.pairs };
 }
 
 // Where the block of a pair of this name begins that is put behind these.
-fn block_behind(pairs: &[Pair], name: u8) -> usize
+fn block_behind(pairs: &Pairs, name: u8) -> usize
     requires { Blocked [] pairs.now }
     ensures { IsBlock pairs.now name result }
 {
-    match pairs.last() {
-        None => 0,
-        Some(last) => {
-            if last.name == name {
-                last.block
-            } else {
-                pairs.len()
-            }
-        }
+    let length = pairs.len();
+    if length == 0 {
+        return 0;
+    }
+    let last = pairs.at(length - 1);
+    if last.name == name {
+        last.block
+    } else {
+        length
     }
 }
 
@@ -60,14 +52,14 @@ fn same_pair(x: &Pair, y: &Pair) -> bool
 }
 
 // Whether two lists of pairs have the same names and events.
-fn same_pairs(xs: &[Pair], ys: &[Pair]) -> bool
+fn same_pairs(xs: &Pairs, ys: &Pairs) -> bool
     ensures { IsTrue result ↔ (map seen xs.now ≡ map seen ys.now) }
 {
     if xs.len() != ys.len() {
         return false;
     }
     for i in 0..xs.len() {
-        if !same_pair(&xs[i], &ys[i]) {
+        if !same_pair(xs.at(i), ys.at(i)) {
             return false;
         }
     }
@@ -80,7 +72,7 @@ impl Bound {
         ensures { result ≡ [] }
     {
         Bound {
-            pairs: Vec::new(alloc),
+            pairs: Pairs::new(alloc),
         }
     }
 
@@ -121,15 +113,9 @@ impl Bound {
     pub fn copy(&self, alloc: Global) -> Result<Bound, Memory>
         ensures { IfOk result (λ bound. bound ≡ self.now) }
     {
-        let mut pairs = Vec::with_capacity(alloc, self.pairs.len())?;
-        for pair in &self.pairs {
-            pairs.push(Pair {
-                name: pair.name,
-                block: pair.block,
-                event: pair.event.share()?,
-            })?;
-        }
-        Ok(Bound { pairs })
+        Ok(Bound {
+            pairs: self.pairs.copy(alloc)?,
+        })
     }
 
     /// Whether the same events are bound to the same names in the same order. Takes no memory.
@@ -144,14 +130,9 @@ impl Bound {
     pub fn get(&self, name: u8) -> Option<&Event>
         ensures { option_copied result ≡ option_map (λ pair. pair.1) (last_bound name self.now) }
     {
-        let mut left = self.pairs.len();
-        while left > 0 {
-            let pair = &self.pairs[left - 1];
-            if pair.name == name {
-                return Some(pair.event.event());
-            }
-            left = pair.block;
+        match self.pairs.last_of(name) {
+            Some(pair) => Some(pair.event.event()),
+            None => None,
         }
-        None
     }
 }

@@ -9,6 +9,7 @@ mod event;
 mod fits;
 mod found;
 mod laws;
+mod pairs;
 mod places;
 mod plan;
 mod same;

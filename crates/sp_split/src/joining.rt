@@ -8,6 +8,7 @@ ghost use Rattle.sp_core.specs.Running.{begun};
 ghost use Rattle.sp_split.specs.Serving.{Ends, MayServe, Serves, ending};
 
 use crate::attending::{Crew, attend_all};
+use crate::office::Office;
 use crate::serving::{Desk, Served, serve};
 use crate::{Ended, Memory, Went};
 use sp_hub::{History, Hub, Naming, Opened, Poster, Seat};
@@ -44,11 +45,8 @@ fn part<L: Naming>(seats: Vec<Seat<Piece, L>>) -> (Seat<Piece, L>, Vec<Seat<Piec
 
 // Runs the instances on threads of their own, and the splitter on this one, until it closes the hub.
 fn beside<L: Naming + Send + Sync, I: Intake, O: Outlet, G: Gate, R: Threads + Wait + Sync>(
-    rt: &R,
-    alloc: Global,
-    hub: &Hub<Job, Piece, L>,
+    office: &Office<'_, L, G, R>,
     crew: Crew<L>,
-    gate: &G,
     desk: Desk<L>,
     ways: Ways<I, O>,
 ) -> (Crew<L>, Served<L>, Ways<I, O>)
@@ -65,6 +63,12 @@ fn beside<L: Naming + Send + Sync, I: Intake, O: Outlet, G: Gate, R: Threads + W
     ensures same_out { (O.plan result.2.outlet ≡ O.plan ways.outlet)
         × (O.token result.2.outlet ≡ O.token ways.outlet) }
 {
+    let Office {
+        rt,
+        alloc,
+        hub,
+        gate,
+    } = *office;
     // Where no thread can be made the second branch runs first, and closes the hub. The other way round the
     // instances would wait for jobs, and the splitter would never begin.
     let (crew, (served, ways)) = thread::join(
@@ -90,15 +94,7 @@ fn beside<L: Naming + Send + Sync, I: Intake, O: Outlet, G: Gate, R: Threads + W
                 × (O.token result.1.outlet ≡ O.token ways.outlet) }
         {
             let mut ways = ways;
-            let served = serve(
-                rt,
-                alloc,
-                hub,
-                gate,
-                desk,
-                &mut ways.intake,
-                &mut ways.outlet,
-            );
+            let served = serve(office, desk, &mut ways.intake, &mut ways.outlet);
             (served, ways)
         },
     );
@@ -165,7 +161,13 @@ pub(crate) fn under<
     let (seat, others) = part(seats);
     let desk = Desk { splitter, by, seat };
     let crew = Crew::of(others);
-    let (crew, served, ways) = beside(rt, alloc, &hub, crew, gate, desk, ways);
+    let office = Office {
+        rt,
+        alloc,
+        hub: &hub,
+        gate,
+    };
+    let (crew, served, ways) = beside(&office, crew, desk, ways);
     let Served { by, seat, end } = served;
     let history = wind_up(hub, by, crew.into_seats(), seat);
     (with_history(end, history), ways)

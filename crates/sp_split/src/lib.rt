@@ -10,6 +10,7 @@ mod filling;
 mod handing;
 mod joining;
 mod lent;
+mod office;
 mod reading;
 mod serving;
 mod turning;

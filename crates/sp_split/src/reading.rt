@@ -1,11 +1,9 @@
-// What is lent is read, and learned from.
+// What is lent is read.
 ghost use Rattle.std.specs.Prelude.{◌≡◌, OnOk};
 ghost use Rattle.sp_piece.specs.Pieced.{answer};
 ghost use Rattle.sp_piece.specs.declared.stepped.Stepped.TheVariants as s;
 
 use crate::Memory;
-use sp_chance::Predictor;
-use sp_match::Moves;
 use sp_piece::{Piece, Stepped};
 use std::alloc::{AllocError, Global};
 
@@ -20,18 +18,4 @@ pub(crate) fn read_whole(alloc: Global, piece: &mut Piece) -> Result<(), Memory>
         }
     }
     Err(AllocError)
-}
-
-// Learns how many events groups wanted before one more event, and after it.
-fn learn_wanted(predictor: &mut dyn Predictor, wanted: &[(u32, u32)]) {
-    for (from, to) in wanted {
-        predictor.learn(*from, *to);
-    }
-}
-
-/// Learns from what a piece did, in its order.
-pub(crate) fn learn(predictor: &mut dyn Predictor, moves: &[Moves]) {
-    for of_one_event in moves {
-        learn_wanted(predictor, &of_one_event.wanted);
-    }
 }

@@ -12,6 +12,7 @@ ghost use Rattle.sp_split.specs.Stages.{AllFinished};
 use crate::feeding::Fed;
 use crate::filling::fill;
 use crate::handing::put_windows;
+use crate::office::Office;
 use crate::{Memory, Went, Why};
 use sp_core::Core;
 use sp_hub::{Hub, Naming, Poster, Seat, Taken};
@@ -83,13 +84,27 @@ fn all_finished(core: &Core) -> bool
     core.finished() == core.windows().closed()
 }
 
-// Does the job that was listed first. Where none is listed, waits for a piece if nothing else can be done before
-// one comes home: the input is over, or as many pieces are out as may be.
+// Does the job that was listed first; answers whether there was one.
+fn do_listed<L: Naming, G: Gate, R: Wait>(
+    office: &Office<'_, L, G, R>,
+    seat: &mut Seat<Piece, L>,
+) -> bool
+    requires { seat.old.holding ≡ None }
+    ensures { seat.new.holding ≡ None }
+{
+    let Taken::Job(job) = office.hub.take(office.rt, seat) else {
+        return false;
+    };
+    let piece = do_job(office.alloc, seat, job, office.gate);
+    office.hub.put(office.rt, seat, piece);
+    true
+}
+
+// Does the jobs that are listed, at most as many as may be out: for each of them no instance was free. Where none
+// is listed, waits for a piece if nothing else can be done before one comes home: the input is over, or as many
+// pieces are out as may be.
 fn help<L: Naming, G: Gate, R: Wait>(
-    rt: &R,
-    alloc: Global,
-    hub: &Hub<Job, Piece, L>,
-    gate: &G,
+    office: &Office<'_, L, G, R>,
     by: &Poster<Piece, L>,
     seat: &mut Seat<Piece, L>,
     over: bool,
@@ -97,23 +112,22 @@ fn help<L: Naming, G: Gate, R: Wait>(
     requires { seat.old.holding ≡ None }
     ensures { seat.new.holding ≡ None }
 {
-    if let Taken::Job(job) = hub.take(rt, seat) {
-        let piece = do_job(alloc, seat, job, gate);
-        hub.put(rt, seat, piece);
-        return;
+    let mut helped = false;
+    for _ in 0..by.room() {
+        if !do_listed(office, seat) {
+            break;
+        }
+        helped = true;
     }
     let waiting = by.waiting();
-    if waiting != 0 && (over || waiting == by.room()) {
-        hub.wait_home(rt, by);
+    if !helped && waiting != 0 && (over || waiting == by.room()) {
+        office.hub.wait_home(office.rt, by);
     }
 }
 
 // Feeds and turns until the run is over; answers why it is.
 fn run<I: Intake, O: Outlet, L: Naming, G: Gate, R: Wait>(
-    rt: &R,
-    alloc: Global,
-    hub: &Hub<Job, Piece, L>,
-    gate: &G,
+    office: &Office<'_, L, G, R>,
     desk: &mut Desk<L>,
     intake: &mut I,
     outlet: &mut O,
@@ -134,6 +148,12 @@ fn run<I: Intake, O: Outlet, L: Naming, G: Gate, R: Wait>(
     ensures same { (I.plan intake.new ≡ I.plan intake.old) × (I.token intake.new ≡ I.token intake.old) }
     ensures same_out { (O.plan outlet.new ≡ O.plan outlet.old) × (O.token outlet.new ≡ O.token outlet.old) }
 {
+    let Office {
+        rt,
+        alloc,
+        hub,
+        gate: _,
+    } = *office;
     let mut fed = Fed::More;
     for _ in rt.forever() {
         // They tell what every core keeps.
@@ -153,27 +173,17 @@ fn run<I: Intake, O: Outlet, L: Naming, G: Gate, R: Wait>(
                 Fed::Stop => return Ok(Why::Stopped),
             }
         }
-        help(
-            rt,
-            alloc,
-            hub,
-            gate,
-            &desk.by,
-            &mut desk.seat,
-            fed != Fed::More,
-        );
+        help(office, &desk.by, &mut desk.seat, fed != Fed::More);
     }
     unreachable!()
 }
 
 /// Runs a splitter whose core has done no step, from an intake to an outlet, and closes its hub: events are fed,
 /// up to `batch` at a time, a turn is taken, and the matches of the windows that it finished are put, until the
-/// intake gives no more and every closed window is finished. Where a job is listed the splitter does it itself.
+/// intake gives no more and every closed window is finished. The jobs that are listed after a turn the splitter does
+/// itself.
 pub(crate) fn serve<I: Intake, O: Outlet, L: Naming, G: Gate, R: Wait>(
-    rt: &R,
-    alloc: Global,
-    hub: &Hub<Job, Piece, L>,
-    gate: &G,
+    office: &Office<'_, L, G, R>,
     desk: Desk<L>,
     intake: &mut I,
     outlet: &mut O,
@@ -191,8 +201,8 @@ pub(crate) fn serve<I: Intake, O: Outlet, L: Naming, G: Gate, R: Wait>(
     ensures same_out { (O.plan outlet.new ≡ O.plan outlet.old) × (O.token outlet.new ≡ O.token outlet.old) }
 {
     let mut desk = desk;
-    let why = run(rt, alloc, hub, gate, &mut desk, intake, outlet);
-    hub.close(rt, &mut desk.by);
+    let why = run(office, &mut desk, intake, outlet);
+    office.hub.close(office.rt, &mut desk.by);
     let Desk { splitter, by, seat } = desk;
     let end = match why {
         Ok(why) => Ok(Went {

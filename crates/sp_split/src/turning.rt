@@ -7,11 +7,12 @@ ghost use Rattle.sp_split.specs.Stages.{AllFinished, CutOff, IsOutAlone, Turned}
 ghost use Rattle.sp_split.specs.declared.turning.Turn.TheVariants as t;
 
 use crate::Memory;
-use crate::reading::{learn, read_whole};
+use crate::reading::read_whole;
 use sp_chance::Predictor;
 use sp_core::{Core, CoreFault, Emitted, Given};
 use sp_group::Label;
 use sp_piece::Piece;
+use sp_splitter::learn;
 use sp_window::closed_come_first;
 use std::alloc::{AllocError, Global};
 

@@ -1,5 +1,5 @@
 -- Tickets whose versions are gone return with nothing read, one after another; and which of the kept jobs are left then.
-use Rattle.std.proofs.Common.{◌≡◌, ℕ, zero, suc, ◌+◌, ◌-◌, ◌<◌, ◌≤◌, ◌⊎◌, inl, inr, Bool, true, false, cond, is_some, is_none, List, [], ◌∷◌, ◌++◌, length, take, drop, map, filter, get_or, Option, None, Some, Bor, ◌==◌, refl, sym, ap, subst, ◌∙◌, append_assoc, add-one, arith}
+use Rattle.std.proofs.Common.{◌≡◌, ℕ, zero, suc, ◌+◌, ◌<◌, ◌≤◌, ◌⊎◌, inl, inr, Bool, true, false, cond, is_some, is_none, List, [], ◌∷◌, ◌++◌, length, take, drop, map, filter, get_or, Option, None, Some, Bor, ◌==◌, refl, sym, ap, subst, ◌∙◌, append_assoc, add-one, arith}
 use Rattle.std.specs.List.{All, remove}
 use Rattle.std.proofs.lemmas.List.Elements.{All-push}
 use Rattle.std.specs.Option.{option_copied}
@@ -25,7 +25,8 @@ use Rattle.sp_core.specs.Running.{IsDone, Running, after}
 use Rattle.sp_core.specs.Showing.{IsTreeOf}
 use Rattle.sp_spread.specs.Laws.{IsStale}
 use Rattle.sp_splitter.specs.Knowing.{Known}
-use Rattle.sp_splitter.specs.Lending.{Clears, returned_all}
+use Rattle.sp_splitter.specs.Keeping.{Clears}
+use Rattle.sp_splitter.specs.Lending.{returned_all}
 use Rattle.sp_splitter.specs.Splitting.{RiseBetween, IsBelowKept}
 use Rattle.sp_splitter.specs.Stages.{Went}
 use Rattle.sp_splitter.proofs.Stepping.{back_done, goes_back, goes_then}

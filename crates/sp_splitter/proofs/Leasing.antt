@@ -1,5 +1,5 @@
 -- Versions are leased, one after another: how many tickets are out then, and which versions are ready still.
-use Rattle.std.proofs.Common.{◌≡◌, ℕ, ◌+◌, ◌-◌, ◌<◌, ◌≤◌, Bool, true, false, cond, not, ◌&&◌, ◌||◌, ◌==◌, is_some, is_none, List, [], ◌∷◌, ◌++◌, length, take, drop, map, filter, get_or, Option, None, Some, refl, sym, ap, subst, ◌∙◌, arith}
+use Rattle.std.proofs.Common.{◌≡◌, ℕ, ◌+◌, ◌<◌, ◌≤◌, Bool, true, false, cond, not, ◌&&◌, ◌||◌, ◌==◌, is_some, is_none, List, [], ◌∷◌, ◌++◌, length, take, drop, map, filter, get_or, Option, None, Some, refl, sym, ap, subst, ◌∙◌, arith}
 use Rattle.std.specs.List.{All, count_by, sum}
 use Rattle.std.proofs.lemmas.Bool.Decides.{nat_tests}
 use Rattle.std.proofs.lemmas.List.{length-append}
@@ -26,7 +26,8 @@ use Rattle.sp_core.specs.Leasing.{IsLeased}
 use Rattle.sp_core.specs.Running.{IsDone, Running, after, refused}
 use Rattle.sp_spread.specs.Laws.{ready_numbers}
 use Rattle.sp_splitter.specs.Knowing.{Known}
-use Rattle.sp_splitter.specs.Lending.{AreApart, Lends, leased_all}
+use Rattle.sp_splitter.specs.Keeping.{AreApart, Lends}
+use Rattle.sp_splitter.specs.Lending.{asked, leased_all}
 use Rattle.sp_splitter.specs.Splitting.{RiseBetween, IsBelowKept}
 use Rattle.sp_splitter.proofs.Stepping.{out_lease, spread_lease}
 use Rattle.sp_splitter.proofs.Untouched.{kept_itself, kept_then, kept_lease, spread_out_kept}
@@ -47,7 +48,7 @@ lends_itself batch c = record {
 
 leased_more : (batch : ℕ) (ns ms : List ℕ) (c : Running) → leased_all batch (ns ++ ms) c ≡ leased_all batch ms (leased_all batch ns c)
 leased_more batch [] ms c = refl
-leased_more batch (n ∷ ns) ms c = leased_more batch ns ms (after c (s.Lease n batch))
+leased_more batch (n ∷ ns) ms c = leased_more batch ns ms (after c (s.Lease n (asked batch c n)))
 
 among_filter : (p : ℕ → Bool) (ns : List ℕ) (n : ℕ) → is_among (filter p ns) n ≡ (is_among ns n && p n)
 among_filter p ns n =
@@ -76,24 +77,25 @@ same_either : (m n : ℕ) → (m == n) ≡ (n == m)
 same_either m n = grind (arith, nat_tests)
 
 -- one lease more
-pub lends_more : (batch id : ℕ) (done : List ℕ) (old mid new : Running) → Known mid → Lends batch done old mid → IsDone (s.Lease id batch) mid new
+pub lends_more : (batch id : ℕ) (done : List ℕ) (old mid new : Running) → Known mid → Lends batch done old mid → IsDone (s.Lease id (asked batch mid id)) mid new
     → Lends batch (done ++ id ∷ []) old new
 lends_more batch id done old mid new known lends is =
-    let keeps = kept_lease id batch mid new known is in
-    let law = known.lawful.busy.by_lease id batch is.0 in
+    let count = asked batch mid id in
+    let keeps = kept_lease id count mid new known is in
+    let law = known.lawful.busy.by_lease id count is.0 in
     let ready : ready_numbers new.plan new.bound new.machine ≡ filter (λ other. not (other == id)) (ready_numbers mid.plan mid.bound mid.machine) =
     ap (λ (z : Running). ready_numbers z.plan z.bound z.machine) is.1 ∙ law.0 in
     let more : length (done ++ id ∷ []) ≡ length done + 1 = length-append done (id ∷ []) in
-    let grown : out_count new.machine ≡ out_count mid.machine + 1 = out_lease id batch mid new known is in
+    let grown : out_count new.machine ≡ out_count mid.machine + 1 = out_lease id count mid new known is in
     let before : out_count mid.machine ≡ out_count old.machine + length done = lends.out in
     record {
       keeps = kept_then old mid new lends.keeps keeps;
-      spread = λ n out spread. spread_lease n id batch mid new known is (spread_out_kept n old mid lends.keeps out) (lends.spread n out spread);
+      spread = λ n out spread. spread_lease n id count mid new known is (spread_out_kept n old mid lends.keeps out) (lends.spread n out spread);
       out = omega arith;
       left = λ x. ap (λ (ns : List ℕ). is_among ns x) ready ∙ among_filter (λ other. not (other == id)) (ready_numbers mid.plan mid.bound mid.machine) x
           ∙ (λ i. lends.left x i && not (same_either x id i)) ∙ both_left (is_among (ready_numbers old.plan old.bound old.machine) x) (is_among done x) (id == x)
           ∙ ap (λ (b : Bool). is_among (ready_numbers old.plan old.bound old.machine) x && not b) (sym (among_more done id x));
-      are = is.1 ∙ ap (λ (z : Running). after z (s.Lease id batch)) lends.are ∙ sym (leased_more batch done (id ∷ []) old);
+      are = is.1 ∙ ap (λ (z : Running). after z (s.Lease id (asked batch z id))) lends.are ∙ sym (leased_more batch done (id ∷ []) old);
     }
 
 -- what is among the ready versions is not refused
@@ -140,13 +142,13 @@ fresh ids k d low apart =
     none_counted (take k ids) id (omega arith)
 
 -- the next one is ready still
-pub next_passes : (batch : ℕ) (ids : List ℕ) (k d : ℕ) (old mid : Running) → k < length ids → AreApart ids
+pub next_passes : (batch : ℕ) (ids : List ℕ) (k d n : ℕ) (old mid : Running) → k < length ids → AreApart ids
     → All (λ id. is_among (ready_numbers old.plan old.bound old.machine) id ≡ true) ids → Lends batch (take k ids) old mid
-    → refused mid (s.Lease (get_or ids k d) batch) ≡ None
-next_passes batch ids k d old mid low apart all lends =
+    → refused mid (s.Lease (get_or ids k d) n) ≡ None
+next_passes batch ids k d n old mid low apart all lends =
     let others : is_among (take k ids) (get_or ids k d) ≡ false = fresh ids k d low apart in
     let ready = all k d low in
-    ready_passes mid.plan mid.bound mid.machine mid.machine.versions (get_or ids k d) batch (lends.left (get_or ids k d) ∙ λ i. ready i && not (others i))
+    ready_passes mid.plan mid.bound mid.machine mid.machine.versions (get_or ids k d) n (lends.left (get_or ids k d) ∙ λ i. ready i && not (others i))
 
 -- rising numbers with a greater one behind them
 rise_more : (low : ℕ) (ns : List ℕ) (n : ℕ) → RiseBetween low ns n → RiseBetween low (ns ++ n ∷ []) (n + 1)

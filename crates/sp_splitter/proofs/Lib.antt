@@ -16,3 +16,5 @@ pub mod Spawnable
 pub mod Busy
 pub mod Bred
 pub mod Untouched
+pub mod Behind
+mod Worked

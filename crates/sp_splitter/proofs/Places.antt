@@ -20,7 +20,8 @@ use Rattle.sp_core.specs.Running.{Running}
 use Rattle.sp_core.specs.Showing.{IsTreeOf}
 use Rattle.sp_core.specs.Suppressing.{ready_ids}
 use Rattle.sp_spread.specs.Laws.{ready_numbers}
-use Rattle.sp_splitter.specs.Lending.{AreApart, ArePicked, AreReady, KeepsVersions, Leases, Lends}
+use Rattle.sp_splitter.specs.Keeping.{AreApart, AreReady, KeepsVersions, Lends}
+use Rattle.sp_splitter.specs.Lending.{ArePicked, Leases}
 use Rattle.sp_splitter.specs.Stages.{Goes, Went}
 use Rattle.sp_splitter.proofs.Untouched.{went_kept}
 
@@ -205,9 +206,7 @@ goes_lends shares n batch ids old new out picked lends spreading = record {
 
 pub leases_picked : (shares : ℕ → ℕ → ℕ) (n batch : ℕ) (ids : List ℕ) (old new : Running) → ArePicked shares n old ids → Lends batch ids old new
     → Leases shares n batch old new
-leases_picked shares n batch ids old new (tree, is, picked) lends = record {
-  tree = tree;
-  is_tree = is;
+leases_picked shares n batch ids old new picked lends = record {
   ids = ids;
   picked = picked;
   are = lends.are;

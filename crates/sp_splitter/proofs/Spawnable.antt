@@ -9,7 +9,7 @@ use Rattle.sp_plan.specs.WindowNumbers.{count}
 use Rattle.sp_group.specs.declared.refusal.Refusal.TheVariants as r
 use Rattle.sp_group.specs.declared.step.Step.TheVariants as s
 use Rattle.sp_group.specs.Machine as machine
-use Rattle.sp_group.specs.Machine.{inner, is_group, version_at}
+use Rattle.sp_group.specs.Machine.{inner, is_group}
 use Rattle.sp_group.specs.Refusing.{child_refusal, child_with, not_open, refuse_for, refuse_if}
 use Rattle.sp_version.specs.declared.version.Version.{Version}
 use Rattle.sp_tree.specs.Grown.{Entry, Grown, groups_of, is_open}

@@ -23,7 +23,7 @@ use Rattle.sp_spread.specs.Guessing.{AreGuessed, coming_in, left_of}
 use Rattle.sp_spread.specs.Laws.{IsStale}
 use Rattle.sp_splitter.specs.Breeding.{IsWide}
 use Rattle.sp_splitter.specs.Knowing.{Known}
-use Rattle.sp_splitter.specs.Lending.{KeepsVersions}
+use Rattle.sp_splitter.specs.Keeping.{KeepsVersions}
 use Rattle.sp_splitter.specs.Stages.{IsSpreading, Went}
 use Rattle.sp_splitter.proofs.Stepping.{fed_more, leaves_leased, none_read_step}
 

@@ -1,14 +1,13 @@
 -- The search for the best child, and its making. No public clause cites this.
-use Rattle.std.specs.Prelude.{◌≡◌, ◌⊎◌, ℕ, ◌+◌, ◌<◌, ◌≤◌, Bool, true, false, ◌==◌, nat_lt, nat_le, List, length, Option, Some, None, is_some, if◌then◌else◌}
+use Rattle.std.specs.Prelude.{◌≡◌, ◌⊎◌, ℕ, ◌+◌, ◌<◌, ◌≤◌, Bool, true, ◌==◌, nat_lt, nat_le, List, length, Option, Some, None, if◌then◌else◌}
 use Rattle.std.specs.List.{All}
 use Rattle.sp_plan.specs.WindowNumbers.{count}
 use Rattle.sp_group.specs.declared.step.Step.TheVariants as s
 use Rattle.sp_group.specs.Machine as machine
 use Rattle.sp_group.specs.Machine.{version_at}
-use Rattle.sp_group.specs.Family.{entry_at}
 use Rattle.sp_group.specs.Rising.{IsLabel}
 use Rattle.sp_version.specs.declared.version.Version.{Version}
-use Rattle.sp_tree.specs.Grown.{Entry, Grown, is_open, kin}
+use Rattle.sp_tree.specs.Grown.{Grown, is_open}
 use Rattle.sp_pick.specs.Picking.{IsNext, candidates_in, survival_of_child}
 use Rattle.sp_core.specs.Running.{IsDone, Running}
 use Rattle.sp_core.specs.Showing.{IsTreeOf}
@@ -75,11 +74,3 @@ pub record HasBorn (shares : ℕ → ℕ → ℕ) (old new : Running) : Type 0 w
 abbrev pub IsBarren : (ℕ → ℕ → ℕ) → Running → Running → Type 0
 IsBarren shares old new =
     (new ≡ old) × ((length old.machine.versions ≡ old.bound) ⊎ ((t : Grown Version) × IsTreeOf old t × NoneToBear old t shares))
-
--- whether a ticket is out for a live version
-abbrev pub out_of : Option (Entry Version) → Bool
-out_of None = false
-out_of (Some e) = is_some e.value.out
-
-abbrev pub out_in : List (Entry Version) → ℕ → Bool
-out_in es id = out_of (entry_at kin es id)

@@ -7,4 +7,5 @@ pub mod Breeding
 pub mod Bearing
 pub mod Asking
 pub mod Lending
+pub mod Keeping
 pub mod Turning

@@ -1,17 +1,17 @@
 // Children are made, the likeliest first.
-ghost use Rattle.std.specs.Prelude.{◌≡◌, ℕ, IfOk, OnOk, OnErr, MatchBool, length};
+ghost use Rattle.std.specs.Prelude.{◌≡◌, ℕ, IfOk, OnOk, OnErr, MatchBool};
 ghost use Rattle.sp_chance.specs.Shares.{share_of};
 ghost use Rattle.sp_group.specs.Steps.{IsSpreadOut};
 ghost use Rattle.sp_core.specs.Showing.{IsTreeOf};
 ghost use Rattle.sp_spread.specs.Calm.{Settled};
-ghost use Rattle.sp_spread.specs.Counting.{busy_count, out_versions};
 ghost use Rattle.sp_spread.specs.Guessing.{AreGuessed};
 ghost use Rattle.sp_splitter.specs.Breeding.{Breeds, IsWide};
 ghost use Rattle.sp_splitter.specs.Bearing.{HasBorn, IsBarren, IsFoundFor, IsFoundAmongAll};
-ghost use Rattle.sp_splitter.specs.Bearing.{chosen, comes_before, out_in};
+ghost use Rattle.sp_splitter.specs.Bearing.{chosen, comes_before};
 ghost use Rattle.sp_splitter.specs.Stages.{Goes, NoneEmitted, NoneRead, Went};
 
 use crate::Memory;
+use crate::counting::count_busy;
 use crate::knowing::known;
 use sp_base::Share;
 use sp_chance::Chances;
@@ -63,44 +63,6 @@ pub(crate) fn breed(
         busy += 1;
     }
     Ok(())
-}
-
-// How many versions are out or ready.
-fn count_busy(alloc: Global, core: &Core) -> Result<usize, Memory>
-    ensures { IfOk result (λ busy.
-        busy ≡ busy_count core.now.plan core.now.bound core.now.machine) }
-{
-    // They tell that a version is out or ready, never both, and that few are live.
-    known(core);
-    core.tree().live();
-    let out = count_out(alloc, core)?;
-    let ready = core.ready(alloc)?.len();
-    Ok(out + ready)
-}
-
-// How many live versions are out for reading.
-fn count_out(alloc: Global, core: &Core) -> Result<usize, Memory>
-    ensures { IfOk result (λ out. out ≡ length (out_versions core.now.machine)) }
-{
-    let tree = core.tree();
-    let mut out = 0;
-    let ids = tree.walk(alloc)?;
-    for id in &ids {
-        if is_out(tree, *id) {
-            out += 1;
-        }
-    }
-    Ok(out)
-}
-
-// Whether a version is live and out for reading.
-fn is_out(tree: &Tree<Version>, id: u64) -> bool
-    ensures { result ≡ out_in tree.now.entries id }
-{
-    match tree.get(id) {
-        Some(held) => held.out.is_some(),
-        None => false,
-    }
 }
 
 // Makes the best child, where one more version may be live and a child could be made. Answers whether it

@@ -5,7 +5,8 @@ ghost use Rattle.sp_group.specs.Steps.{IsSpreadOut};
 ghost use Rattle.sp_spread.specs.Calm.{Settled};
 ghost use Rattle.sp_spread.specs.Guessing.{AreGuessed};
 ghost use Rattle.sp_splitter.specs.Breeding.{IsWide};
-ghost use Rattle.sp_splitter.specs.Lending.{Clears, DropsStale};
+ghost use Rattle.sp_splitter.specs.Keeping.{Clears};
+ghost use Rattle.sp_splitter.specs.Lending.{DropsStale};
 ghost use Rattle.sp_splitter.specs.Splitting.{IsBelowKept};
 ghost use Rattle.sp_splitter.specs.Stages.{Goes, NoneEmitted, NoneRead, Went};
 

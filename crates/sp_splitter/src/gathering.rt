@@ -5,27 +5,13 @@ ghost use Rattle.sp_splitter.specs.Stages.{Collected, Goes, NoneEmitted, ReadByC
 
 use crate::Memory;
 use crate::knowing::known;
+use crate::learning::learn;
 use sp_chance::Predictor;
 use sp_core::Core;
 use sp_hub::{Hub, Naming, Poster};
-use sp_match::Moves;
 use sp_piece::{Job, Piece};
 use std::alloc::{AllocError, Global};
 use std::sync::Wait;
-
-// Learns how many events groups wanted before one more event, and after it.
-fn learn_wanted(predictor: &mut dyn Predictor, wanted: &[(u32, u32)]) {
-    for (from, to) in wanted {
-        predictor.learn(*from, *to);
-    }
-}
-
-// Learns from what a piece did, in its order.
-fn learn(predictor: &mut dyn Predictor, moves: &[Moves]) {
-    for of_one_event in moves {
-        learn_wanted(predictor, &of_one_event.wanted);
-    }
-}
 
 // Learns from a piece, where its version is live.
 fn learn_from(predictor: &mut dyn Predictor, core: &Core, piece: &Piece) {

@@ -92,8 +92,8 @@ fn coming(core: &Core, held: &Version) -> u32
     }
 }
 
-// How many events of a window were fed.
-fn fed_of(core: &Core, number: u32) -> u32
+/// How many events of a window were fed.
+pub(crate) fn fed_of(core: &Core, number: u32) -> u32
     requires begun { HasBegun core.now number }
     ensures { result ≡ size core.now.plan core.now.machine.events number }
 {

@@ -1,44 +1,36 @@
 // What is ready is leased.
-ghost use Rattle.std.specs.Prelude.{◌≡◌, ◌≤◌, ◌+◌, ◌++◌, ◌∷◌, ℕ, length, [], take, None, IfOk, OnOk, OnErr};
+ghost use Rattle.std.specs.Prelude.{◌≡◌, ◌≤◌, ◌+◌, ◌*◌, ◌++◌, ◌∷◌, ◌||◌, ℕ, length, [], take, not, nat_le, nat_lt, None, IfOk, OnOk, OnErr};
+ghost use Rattle.sp_plan.specs.WindowNumbers.{size};
 ghost use Rattle.sp_chance.specs.Shares.{share_of};
 ghost use Rattle.sp_group.specs.declared.step.Step.TheVariants as s;
 ghost use Rattle.sp_group.specs.Steps.{IsLentOut, IsSpreadOut, out_count};
 ghost use Rattle.sp_piece.specs.declared.job.Job as piece;
+ghost use Rattle.sp_core.specs.Leasing.{HasBegun};
 ghost use Rattle.sp_core.specs.Running.{after, refused};
 ghost use Rattle.sp_spread.specs.Calm.{Settled};
 ghost use Rattle.sp_spread.specs.Guessing.{AreGuessed};
 ghost use Rattle.sp_splitter.specs.Breeding.{IsWide};
-ghost use Rattle.sp_splitter.specs.Lending.{AreApart, ArePicked, AreReady, Leases, Lends};
+ghost use Rattle.sp_splitter.specs.Lending as definitions;
+ghost use Rattle.sp_splitter.specs.Keeping.{AreApart, AreReady, Lends};
+ghost use Rattle.sp_splitter.specs.Lending.{ArePicked, Leases};
 ghost use Rattle.sp_splitter.specs.Splitting.{IsBelowKept};
 ghost use Rattle.sp_splitter.specs.Stages.{Goes, NoneEmitted, NoneRead, Went};
 
 use crate::Memory;
+use crate::counting::count_out;
+use crate::guessing::fed_of;
 use crate::knowing::known;
 use sp_chance::Chances;
 use sp_core::{Core, CoreFault};
 use sp_pick::pick;
 use sp_piece::Job;
+use sp_plan::Plan;
+use sp_version::Version;
 use std::alloc::{AllocError, Global};
 use std::collections::VecDeque;
 
-// How many live versions have a ticket out.
-fn out_of(alloc: Global, core: &Core) -> Result<u32, Memory>
-    ensures { IfOk result (λ out. out ≡ out_count core.now.machine) }
-{
-    known(core);
-    let tree = core.tree();
-    tree.live();
-    let mut out = 0u32;
-    let ids = tree.walk(alloc)?;
-    for id in &ids {
-        if let Some(held) = tree.get(*id)
-            && held.out.is_some()
-        {
-            out += 1;
-        }
-    }
-    Ok(out)
-}
+// The least that a lease asks for, or a batch of fewer.
+const LEAST: u32 = 8;
 
 // The ready versions that are picked, as many as there are places for `instances` and one more.
 fn picked(alloc: Global, core: &Core, chances: &Chances, instances: u32) -> Result<Vec<u64>, Memory>
@@ -49,7 +41,7 @@ fn picked(alloc: Global, core: &Core, chances: &Chances, instances: u32) -> Resu
     ensures apart { IfOk result (λ ids. AreApart ids.items) }
 {
     let ready = core.ready(alloc)?;
-    let places = (instances + 1).saturating_sub(out_of(alloc, core)?);
+    let places = (instances + 1).saturating_sub(count_out(alloc, core)?);
     pick(alloc, core.tree(), chances, &ready, places)
 }
 
@@ -81,7 +73,65 @@ fn lend_one(
     }
 }
 
-// Leases the versions of these ids, one after another.
+// Whether a match can consume an event.
+fn consumes(plan: &Plan) -> bool
+    ensures { result ≡ definitions.consumes plan.now }
+{
+    plan.names.as_slice().iter().any(|name| name.consumed)
+}
+
+// The number of the event that a version reads next.
+fn next_read(held: &Version) -> u64
+    ensures { result ≡ held.now.first + held.now.position }
+{
+    held.first as u64 + held.position as u64
+}
+
+// Whether a version may be leased whatever its parent has read: it has read fewer than two batches; or the parent
+// keeps nothing from it that the parent has yet to read, since the parent is done, or its window ends before the
+// event that the version reads next, or nothing can be consumed.
+fn is_free(core: &Core, parent: &Version, held: &Version, batch: u32) -> bool
+    requires begun { HasBegun core.now parent.now.window }
+    ensures { result ≡ (nat_lt held.now.position (2 * batch) || (parent.now.done || (nat_le
+        (parent.now.first + size core.now.plan core.now.machine.events parent.now.window)
+        (held.now.first + held.now.position) || not (definitions.consumes core.now.plan)))) }
+{
+    let end = parent.first as u64 + fed_of(core, parent.window) as u64;
+    (held.position as u64) < 2 * batch as u64
+        || parent.done
+        || end <= next_read(held)
+        || !consumes(core.plan())
+}
+
+// How many events a lease of a version asks for: a batch; but where its parent may keep from it what the parent
+// has yet to read, no event behind those that the parent has read, and eight at least. What the version reads
+// before its parent, and the parent then uses, lets it begin anew: early in its window that costs little.
+fn asked(core: &Core, id: u64, batch: u32) -> u32
+    requires some { 1 ≤ batch }
+    ensures count { result ≡ definitions.asked batch core.now id }
+    ensures some { 1 ≤ result }
+    ensures most { result ≤ batch }
+{
+    // It tells what every core keeps.
+    core.finished();
+    let tree = core.tree();
+    let Some(held) = tree.get(id) else {
+        return batch;
+    };
+    let Some(above) = tree.parent(id) else {
+        return batch;
+    };
+    let Some(parent) = tree.get(above) else {
+        return batch;
+    };
+    if is_free(core, parent, held, batch) {
+        return batch;
+    }
+    let read = next_read(parent).saturating_sub(next_read(held));
+    read.clamp(batch.min(LEAST) as u64, batch as u64) as u32
+}
+
+// Leases the versions of these ids, one after another, each for the events that it asks for.
 fn lend_all(
     alloc: Global,
     core: &mut Core,
@@ -101,13 +151,15 @@ fn lend_all(
 {
     for id in ids {
         known(core);
-        lend_one(alloc, core, *id, batch, kept)?;
+        let count = asked(core, *id, batch);
+        lend_one(alloc, core, *id, count, kept)?;
     }
     Ok(())
 }
 
 /// Leases the versions that are picked of the ready ones, until `instances + 1` tickets of live versions are out
-/// or none is ready, for `batch` events each, and keeps their jobs behind the others, one for each ticket.
+/// or none is ready, for `batch` events each or fewer, and keeps their jobs behind the others, one for each
+/// ticket.
 pub(crate) fn lend(
     alloc: Global,
     core: &mut Core,

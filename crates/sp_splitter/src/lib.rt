@@ -4,11 +4,13 @@
 #![tactic(auto)]
 
 mod breeding;
+mod counting;
 mod dropping;
 mod finishing;
 mod gathering;
 mod guessing;
 mod knowing;
+mod learning;
 mod lending;
 mod planting;
 mod posting;
@@ -16,6 +18,7 @@ mod rolling;
 mod splitter;
 mod turning;
 
+pub use learning::learn;
 pub use splitter::Splitter;
 use std::alloc::AllocError;
 

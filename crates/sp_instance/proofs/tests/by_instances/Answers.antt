@@ -18,5 +18,5 @@ finish-requires-send-J g c κs within = search (job_sent, sendable) depth 20
 pub finish-requires-send-P : goal.finish-requires-send-P
 finish-requires-send-P g c κs within = search (piece_sent, sendable) depth 20
 
-pub work_all-requires-after_bounds : goal.work_all-requires-after_bounds
-work_all-requires-after_bounds g c κs within = subst (All (λ (s : Sitting). s.holding ≡ None)) (sym c.in_ok-hub.ensures.seats) (all_free c.args.opened.seats)
+pub work_all-requires-clause-free : goal.work_all-requires-clause-free
+work_all-requires-clause-free g c κs within = subst (All (λ (s : Sitting). s.holding ≡ None)) (sym c.in_ok-hub.ensures.seats) (all_free c.args.opened.seats)

@@ -11,8 +11,8 @@ use Rattle.sp_piece.specs.contracts.piece.PieceNamed.TheImpl as piece_named
 use Rattle.sp_piece.proofs.Crossing.{job_sent, piece_sent}
 use Rattle.sp_instance.proofs.working.work_all.Goals as goal
 
-pub map_vec-requires-sync-F : goal.map_vec-requires-sync-F
-map_vec-requires-sync-F g c κs within =
+pub for_each_mut-requires-sync-F : goal.for_each_mut-requires-sync-F
+for_each_mut-requires-sync-F g c κs within =
     let shared : IsSync (hub_row.the_row job.the_row piece.the_row (param 0 g.row.L) job_named.ghosts piece_named.ghosts g.L.Ledger) = hub.the_sync job.the_row piece.the_row (param 0 g.row.L) job_named.ghosts piece_named.ghosts g.L.Ledger job_sent piece_sent in
     record {
       shared = λ x b o κ. (

@@ -1,6 +1,6 @@
 use Rattle.std.proofs.Common.{◌≡◌, ℕ, ◌-◌, ◌≤◌, ◌++◌, length, take, drop, filter, is_some}
 use Rattle.sp_group.specs.Machine.{version_at}
-use Rattle.sp_splitter.specs.Lending.{Clears}
+use Rattle.sp_splitter.specs.Keeping.{Clears}
 use Rattle.sp_splitter.specs.Splitting.{IsBelowKept}
 use Rattle.sp_splitter.proofs.Clearing.{Ended}
 use Rattle.sp_splitter.proofs.dropping.drop_stale.Given as goal

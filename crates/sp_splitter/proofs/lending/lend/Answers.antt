@@ -5,7 +5,8 @@ use Rattle.sp_group.specs.Steps.{IsLentOut, out_count}
 use Rattle.sp_spread.specs.Calm.{Settled}
 use Rattle.sp_spread.specs.Guessing.{AreGuessed}
 use Rattle.sp_splitter.specs.Breeding.{IsWide}
-use Rattle.sp_splitter.specs.Lending.{AreApart, ArePicked, Leases, Lends}
+use Rattle.sp_splitter.specs.Keeping.{AreApart, Lends}
+use Rattle.sp_splitter.specs.Lending.{ArePicked, Leases}
 use Rattle.sp_splitter.specs.Stages.{Goes}
 use Rattle.sp_splitter.proofs.Places.{both_ok, goes_lends, kept_lends, kept_part, leases_picked, lent_picked, picked_few, went_part}
 use Rattle.sp_splitter.proofs.Untouched.{guessed_kept, settled_kept, wide_kept}

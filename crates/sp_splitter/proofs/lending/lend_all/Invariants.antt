@@ -1,5 +1,5 @@
 use Rattle.std.proofs.Common.{◌≡◌, ℕ, ◌+◌, length, take}
-use Rattle.sp_splitter.specs.Lending.{Lends}
+use Rattle.sp_splitter.specs.Keeping.{Lends}
 use Rattle.sp_splitter.specs.Splitting.{IsBelowKept}
 use Rattle.sp_splitter.proofs.lending.lend_all.Given as goal
 

@@ -1,0 +1,70 @@
+ghost use Rattle.std.specs.Prelude.{◌≡◌, ◌+◌, [], ◌==◌, map, if◌then◌else◌};
+ghost use Rattle.sp_chance.specs.Counted.{decoded, IsMove};
+ghost use Rattle.sp_chance.specs.Learned.{with_pair};
+
+use crate::pairs::{RECENT, encode};
+use std::marker::Model;
+
+/// At each so many pairs learned the answers turn to the last pairs. So many go round the ring some times
+/// over: behind a turn it begins at its first place.
+const TURN: u32 = 1_024;
+
+/// The last 256 pairs that were learned. Contracts see them, and how many were learned since the last turn.
+#[derive(Drop)]
+pub(crate) struct Recent {
+    codes: [u16; RECENT],
+    // This is also the place of the next pair, round the ring.
+    since: u32,
+    // Whether there was a turn, so that no place is empty.
+    full: bool,
+}
+
+impl Model for Recent {
+    ghost use Rattle.std.specs.Prelude.{map, ◌<◌};
+    ghost use Rattle.sp_chance.specs.Counted.{decoded};
+    ghost use Rattle.sp_chance.specs.Recent.{Latest, ring_of};
+
+    ghost Value = { Latest };
+
+    ghost view = { λ r. record { ring = map decoded (ring_of r.codes r.since r.full); since = r.since } };
+
+    ghost invariant = { λ r. r.since < 1024 };
+}
+
+impl Recent {
+    /// Of no pair yet.
+    pub(crate) fn new() -> Recent
+        ensures { result ≡ record { ring = []; since = 0 } }
+    {
+        Recent {
+            codes: [0; RECENT],
+            since: 0,
+            full: false,
+        }
+    }
+
+    /// One pair more. Whether it brings a turn.
+    pub(crate) fn push(&mut self, from: u32, to: u32) -> bool
+        requires { IsMove (from, to) }
+        ensures ring { self.new.ring ≡ with_pair self.old.ring from to }
+        ensures turn { result ≡ (self.old.since + 1 == 1024) }
+        ensures since { self.new.since ≡ (if self.old.since + 1 == 1024 then 0 else self.old.since + 1) }
+    {
+        self.codes[self.since as usize % RECENT] = encode(from, to);
+        if self.since + 1 < TURN {
+            self.since += 1;
+            return false;
+        }
+        self.since = 0;
+        self.full = true;
+        true
+    }
+
+    /// The number of each pair, at a turn.
+    pub(crate) fn whole(&self) -> &[u16]
+        requires { self.now.since ≡ 0 }
+        ensures { map decoded result.now ≡ self.now.ring }
+    {
+        if self.full { &self.codes } else { &[] }
+    }
+}

@@ -1,0 +1,98 @@
+//! What stands behind a hub's lock.
+ghost use Rattle.std.specs.Prelude.{◌≡◌, ◌<◌, ◌↔◌, true, false, Some, IfErr, if◌then◌else◌, is_ok, length};
+ghost use Rattle.std.specs.List.{count_by};
+ghost use Rattle.sp_hub.specs.History.{IsLegal, is_call};
+ghost use Rattle.sp_hub.specs.Calls.{posts, puts};
+
+use crate::entry::HubEntry;
+use crate::laws::Locked;
+use crate::named::Named;
+use crate::naming::Naming;
+use crate::poster::Poster;
+use crate::seat::Seat;
+use std::sync::ledger::Share;
+
+/// The state, and how many wait for it to change. All stand behind one lock, so that nobody sleeps through a
+/// change: who finds nothing to do is counted while it holds the lock under which it looked, and looks again
+/// whenever it wakes; who changes the state reads the counts while it holds the lock under which it did so.
+/// So a call of the system is made only where somebody waits. The counts stop at their greatest number, which
+/// takes more waiters than there can be threads.
+#[derive(Drop)]
+pub(crate) struct Shared<J: Named, P: Named, L: Naming> {
+    pub(crate) state: Locked<J, P, L>,
+    idle_seats: u32,
+    idle_posters: u32,
+}
+
+impl<J: Named, P: Named, L: Naming> Shared<J, P, L> {
+    /// Nobody waits yet.
+    pub(crate) fn new(state: Locked<J, P, L>) -> Shared<J, P, L>
+        ensures { result.state ≡ state }
+    {
+        Shared {
+            state,
+            idle_seats: 0,
+            idle_posters: 0,
+        }
+    }
+
+    /// Lists a job, and answers whether a seat is to be woken for it: where one waits and more than one job is
+    /// listed, since the poster's thread does one itself.
+    pub(crate) fn post(&mut self, by: &mut Poster<P, L>, job: J) -> (Result<(), J>, bool)
+        requires ticket { by.old.last < J.ticket_of job }
+        requires room { by.old.waiting < by.old.room }
+        requires open { by.old.closed ≡ false }
+        ensures by { by.new ≡ (if is_ok result.0 then posts by.old (J.ticket_of job) else by.old) }
+        ensures back { IfErr result.0 (λ j. j ≡ job) }
+        ensures wakes { (result.1 ≡ true) ↔ ((0 < self.old.idle_seats) × (1 < length self.new.state.jobs)) }
+    {
+        let answer = self.state.post(by, job);
+        let wakes = self.idle_seats > 0 && self.state.has_several_jobs();
+        (answer, wakes)
+    }
+
+    /// Brings a piece home, and answers whether the poster is to be woken for it.
+    pub(crate) fn put(&mut self, seat: &mut Seat<P, L>, piece: P) -> (Result<(), P>, bool)
+        requires { seat.old.holding ≡ Some (P.ticket_of piece) }
+        ensures seat { seat.new ≡ (if is_ok result.0 then puts seat.old else seat.old) }
+        ensures back { IfErr result.0 (λ p. p ≡ piece) }
+        ensures wakes { (result.1 ≡ true) ↔ (0 < self.old.idle_posters) }
+    {
+        let answer = self.state.put(seat, piece);
+        (answer, self.idle_posters > 0)
+    }
+
+    /// The history, beside the share that has every part of the ledger.
+    pub(crate) fn into_entries(self, all: &mut Share<L>) -> Vec<HubEntry>
+        requires { all.old.parts ≡ L.parts }
+        ensures legal { IsLegal result.items }
+        ensures counted { count_by is_call result.items ≡ all.old.amount }
+    {
+        let Shared {
+            state,
+            idle_seats: _,
+            idle_posters: _,
+        } = self;
+        state.into_entries(all)
+    }
+
+    /// A seat is about to wait for a job.
+    pub(crate) fn seat_waits(&mut self) {
+        self.idle_seats = self.idle_seats.saturating_add(1);
+    }
+
+    /// A seat waits no more.
+    pub(crate) fn seat_goes_on(&mut self) {
+        self.idle_seats = self.idle_seats.saturating_sub(1);
+    }
+
+    /// The poster is about to wait for a piece.
+    pub(crate) fn poster_waits(&mut self) {
+        self.idle_posters = self.idle_posters.saturating_add(1);
+    }
+
+    /// The poster waits no more.
+    pub(crate) fn poster_goes_on(&mut self) {
+        self.idle_posters = self.idle_posters.saturating_sub(1);
+    }
+}
