@@ -1,6 +1,9 @@
 use denote.Param.Send.{sendable}
-use Rattle.sp_piece.proofs.Crossing.{piece_sent}
+use Rattle.sp_piece.proofs.Crossing.{job_sent, piece_sent}
 use Rattle.sp_instance.proofs.tests.collect_all.Goals as goal
+
+pub collect-requires-send-J : goal.collect-requires-send-J
+collect-requires-send-J g c κs within = search (job_sent, sendable) depth 20
 
 pub collect-requires-send-P : goal.collect-requires-send-P
 collect-requires-send-P g c κs within = search (piece_sent, sendable) depth 20
