@@ -24,8 +24,9 @@ def take(pattern, predicates, run, row):
     return None
 
 
-def matches(pattern, predicates, select, consumed, rows):
-    """The runs that complete over these (number, row), in order."""
+def runs_over(pattern, predicates, select, consumed, rows):
+    """What these (number, row) come to: the runs that are open, those that completed, each in order, and all that
+    began, in the order of their beginning. A run is a list of (name, number, row)."""
     count = sum(len(names) for _, names in pattern)
 
     def used(run):
@@ -34,7 +35,7 @@ def matches(pattern, predicates, select, consumed, rows):
     def complete(run):
         return len({name for name, _, _ in run}) == count
 
-    runs, done = [], []
+    runs, done, began = [], [], []
 
     def finish(run):
         runs.remove(run)
@@ -60,9 +61,17 @@ def matches(pattern, predicates, select, consumed, rows):
         begins = {"FIRST": none_before, "LAST": none_before or left, "EACH": number not in gone and len(runs) < 64}
         if first is not None and begins[select]:
             runs.append([(first, number, row)])
+            began.append(runs[-1])
             if complete(runs[-1]):
                 finish(runs[-1])
-    return done
+    return runs, done, began
+
+
+def line(names, consumed, window, count, run):
+    """The line of a match."""
+    bound = "".join(" %s=%s" % (name, ",".join(str(n) for other, n, _ in run if other == name)) for name in names)
+    used = sorted(number for name, number, _ in run if name in consumed)
+    return "w=%d m=%d%s used=%s" % (window, count, bound, ",".join(map(str, used)) or "-")
 
 
 def write(names, pattern, predicates, select, consumed, windows, rows):
@@ -70,9 +79,7 @@ def write(names, pattern, predicates, select, consumed, windows, rows):
     gone, count = set(), 0
     for window, members in enumerate(windows, 1):
         given = [(number, rows[number - 1]) for number in members if number not in gone]
-        for run in matches(pattern, predicates, select, consumed, given):
+        for run in runs_over(pattern, predicates, select, consumed, given)[1]:
             count += 1
-            own = sorted(number for name, number, _ in run if name in consumed)
-            gone |= set(own)
-            bound = "".join(" %s=%s" % (name, ",".join(str(n) for other, n, _ in run if other == name)) for name in names)
-            print("w=%d m=%d%s used=%s" % (window, count, bound, ",".join(map(str, own)) or "-"))
+            gone |= {number for name, number, _ in run if name in consumed}
+            print(line(names, consumed, window, count, run))
