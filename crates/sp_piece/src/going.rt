@@ -1,5 +1,5 @@
 // How a matcher and the list of its moves go on.
-ghost use Rattle.std.specs.Prelude.{◌≡◌, true, None, OnOk, OnErr, IfOk};
+ghost use Rattle.std.specs.Prelude.{◌≡◌, true, Some, OnOk, OnErr};
 ghost use Rattle.sp_plan.specs.Events.{fits};
 ghost use Rattle.sp_match.specs.public.Laws.{Below};
 ghost use Rattle.sp_match.specs.public.Matching.{runs_of};
@@ -10,15 +10,15 @@ use sp_match::{Matcher, Moves};
 use sp_plan::Event;
 use std::alloc::Global;
 
-// The matcher that goes on: the one that is there, which is taken out, or a copy of the one before.
-fn taken(alloc: Global, matcher: &mut Option<Matcher>, before: &Matcher) -> Result<Matcher, Memory>
-    ensures value { IfOk result (λ m. m ≡ current matcher.old before.now) }
+// Sees to it that there is a matcher that goes on: where there is none, a copy of the one before.
+fn begin(alloc: Global, matcher: &mut Option<Matcher>, before: &Matcher) -> Result<(), Memory>
+    ensures there { OnOk result (matcher.new ≡ Some (current matcher.old before.now)) }
     ensures err { OnErr result (matcher.new ≡ matcher.old) }
 {
-    match matcher.take() {
-        Some(matcher) => Ok(matcher),
-        None => before.copy(alloc),
+    if matcher.is_none() {
+        *matcher = Some(before.copy(alloc)?);
     }
+    Ok(())
 }
 
 // The matcher handles the event of this number, and what is told of it comes behind the other moves.
@@ -38,10 +38,10 @@ pub(crate) fn handle_event(
     ensures err_moves { OnErr result (moves.new.items ≡ moves.old.items) }
 {
     moves.reserve(1)?;
-    let mut led = taken(alloc, matcher, before)?;
-    let handled = led.offer(alloc, number, event);
-    *matcher = Some(led);
-    moves.push(handled?)?;
+    begin(alloc, matcher, before)?;
+    let Some(led) = matcher else { unreachable!() };
+    let told = led.offer(alloc, number, event)?;
+    moves.push_reserved(told);
     Ok(())
 }
 
@@ -58,9 +58,9 @@ pub(crate) fn handle_closing(
     ensures err_moves { OnErr result (moves.new.items ≡ moves.old.items) }
 {
     moves.reserve(1)?;
-    let mut led = taken(alloc, matcher, before)?;
-    let handled = led.close(alloc);
-    *matcher = Some(led);
-    moves.push(handled?)?;
+    begin(alloc, matcher, before)?;
+    let Some(led) = matcher else { unreachable!() };
+    let told = led.close(alloc)?;
+    moves.push_reserved(told);
     Ok(())
 }
