@@ -23,7 +23,7 @@ use Rattle.sp_group.specs.Deciding.{foresaw_all, others_than}
 use Rattle.sp_group.specs.Effects.{after_reading, home, is_newly_spent, without}
 use Rattle.sp_group.specs.Family.{entry_at, is_parent, prune}
 use Rattle.sp_group.specs.Machine as machine
-use Rattle.sp_group.specs.Machine.{Machine, Ticket, inner, is_group, out_for, ticket_at, version_at}
+use Rattle.sp_group.specs.Machine.{Machine, Ticket, inner, is_group, out_for, ticket_at}
 use Rattle.sp_group.specs.Rising.{with_numbers}
 use Rattle.sp_group.specs.Steps.{step, steps}
 use Rattle.sp_rules.specs.ByGroups.{AreToDecide, IsByGroups, ended, grouped, outcome_in, using_runs}

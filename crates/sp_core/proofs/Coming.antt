@@ -17,7 +17,7 @@ use Rattle.sp_piece.specs.Reading.{Loan, accounts_to, read_on, read_to}
 use Rattle.sp_version.specs.declared.version.Version.{Version}
 use Rattle.sp_group.specs.Family.{entry_at}
 use Rattle.sp_group.specs.Machine as machine
-use Rattle.sp_group.specs.Machine.{Machine, Ticket, inner, is_group, is_suppressed, ticket_at, version_at}
+use Rattle.sp_group.specs.Machine.{Ticket, inner, is_group, is_suppressed, ticket_at}
 use Rattle.sp_group.specs.Rising.{IsLabel, has_number}
 use Rattle.sp_rules.specs.ByGroups.{AddsMatches, VersionHasGroups, grouped}
 use Rattle.sp_rules.specs.ComingHome.{IsComingHome, come_home, events_lent}

@@ -7,7 +7,7 @@ use Rattle.sp_group.specs.declared.step.Entry as step
 use Rattle.sp_group.specs.declared.step.Step.TheVariants as s
 use Rattle.sp_group.specs.Family.{entry_at}
 use Rattle.sp_group.specs.Machine as machine
-use Rattle.sp_group.specs.Machine.{Machine, Ticket, inner, is_suppressed, out_for, ticket_at, version_at}
+use Rattle.sp_group.specs.Machine.{Machine, Ticket, ticket_at, version_at}
 use Rattle.sp_group.specs.Refusing.{return_refusal}
 use Rattle.sp_group.specs.Effects.{effect, home, returned, without}
 use Rattle.sp_rules.specs.Schedules.{EverySchedule, Reached}

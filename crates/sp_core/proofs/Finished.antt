@@ -18,7 +18,7 @@ use Rattle.sp_group.specs.declared.step.Step.TheVariants as s
 use Rattle.sp_group.specs.Effects.{effect, finished_one, new_matches, popped, settled}
 use Rattle.sp_group.specs.Family.{entry_at}
 use Rattle.sp_group.specs.Machine as machine
-use Rattle.sp_group.specs.Machine.{Machine, inner, is_group, is_out}
+use Rattle.sp_group.specs.Machine.{Machine, inner, is_out}
 use Rattle.sp_group.specs.Refusing.{finish_refusal, id_of, refuse_if}
 use Rattle.sp_group.specs.Rising.{with_numbers}
 use Rattle.sp_group.specs.Steps.{Finished, finish_answer}

@@ -10,7 +10,7 @@ use Rattle.sp_group.specs.Effects as effects
 use Rattle.sp_group.specs.Effects.{popped}
 use Rattle.sp_group.specs.Family.{prune}
 use Rattle.sp_group.specs.Machine as machine
-use Rattle.sp_group.specs.Machine.{Machine, conflict, inner, is_bare, is_hit, is_read, is_suppressed, is_withheld, suppressed_by, version_at}
+use Rattle.sp_group.specs.Machine.{Machine, conflict, inner, is_bare, is_hit, is_read, is_suppressed, is_withheld, suppressed_by}
 use Rattle.sp_tree.specs.Grown.{Entry, IsChild, LacksChild}
 use Rattle.sp_rules.specs.Kept.{Kept}
 use Rattle.sp_core.specs.Finishing.{heir_conflict}

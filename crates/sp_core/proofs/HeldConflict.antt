@@ -6,7 +6,7 @@ use Rattle.std.proofs.lemmas.Option.{none-some, same_Some}
 use Rattle.sp_plan.specs.WindowNumbers.{first}
 use Rattle.sp_group.specs.Family.{entry_at}
 use Rattle.sp_group.specs.Machine as machine
-use Rattle.sp_group.specs.Machine.{Machine, conflict, out_for, ticket_at, version_at}
+use Rattle.sp_group.specs.Machine.{conflict, out_for, ticket_at, version_at}
 use Rattle.sp_version.specs.declared.version.Version.{Version}
 use Rattle.sp_tree.specs.Grown.{Entry, kin, value_of}
 use Rattle.sp_rules.specs.Schedules.{Reached}

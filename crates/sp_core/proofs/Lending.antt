@@ -16,7 +16,7 @@ use Rattle.sp_match.specs.public.Laws.{Below}
 use Rattle.sp_match.specs.public.Matching.{Matching, Stands, runs_of}
 use Rattle.sp_group.specs.Machine.{Ticket, inner, is_suppressed}
 use Rattle.sp_group.specs.Effects as effects
-use Rattle.sp_group.specs.Effects.{lent_count, next_number, unread}
+use Rattle.sp_group.specs.Effects.{lent_count, unread}
 use Rattle.sp_piece.specs.declared.job.Job.{Job}
 use Rattle.sp_piece.specs.Lending.{IsLendable}
 use Rattle.sp_rules.specs.Kept.{Local}

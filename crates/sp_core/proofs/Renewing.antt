@@ -8,7 +8,7 @@ use Rattle.std.proofs.lemmas.Option.{same_Some, none-some}
 use Rattle.sp_plan.specs.declared.event.Event.{Event}
 use Rattle.sp_plan.specs.declared.plan.Plan.{Plan}
 use Rattle.sp_plan.specs.Runs as runs
-use Rattle.sp_plan.specs.Runs.{State, is_among}
+use Rattle.sp_plan.specs.Runs.{State}
 use Rattle.sp_plan.specs.Groups.{used_by_all}
 use Rattle.sp_plan.specs.WindowNumbers.{first}
 use Rattle.sp_plan.specs.Same.{SamePlan}
@@ -17,7 +17,7 @@ use Rattle.sp_version.specs.declared.version.Version.{Version}
 use Rattle.sp_group.specs.Family.{entry_at, prune}
 use Rattle.sp_group.specs.Rising.{with_numbers}
 use Rattle.sp_group.specs.Machine as machine
-use Rattle.sp_group.specs.Machine.{Machine, Ticket, inner, is_group, is_out, out_for, is_read, is_bare, is_lent, is_hit, is_suppressed, conflict}
+use Rattle.sp_group.specs.Machine.{Ticket, inner, is_group, is_out, out_for}
 use Rattle.sp_group.specs.Effects as effects
 use Rattle.sp_group.specs.Effects.{fresh}
 use Rattle.sp_tree.specs.Grown.{Grown, Entry, kin, lifted, with_version, answered, begun_anew, renewed, value_of, with_value}

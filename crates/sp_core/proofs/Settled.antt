@@ -6,7 +6,7 @@ use Rattle.std.proofs.lemmas.Option.{none-some}
 use Rattle.sp_version.specs.declared.version.Version.{Version}
 use Rattle.sp_group.specs.Effects.{rolled, settled}
 use Rattle.sp_group.specs.Machine as machine
-use Rattle.sp_group.specs.Machine.{Machine, conflict, is_out, version_at}
+use Rattle.sp_group.specs.Machine.{conflict, is_out, version_at}
 use Rattle.sp_group.specs.Refusing.{id_of}
 use Rattle.sp_tree.specs.Grown.{Grown, AreGrown, root_in}
 use Rattle.sp_core.specs.Carrying.{ticket_of}

@@ -61,7 +61,8 @@ impl<P: Named, L: Naming> Poster<P, L> {
 
     /// How many tickets are posted and not collected.
     pub fn waiting(&self) -> u32
-        ensures { result ≡ self.now.waiting }
+        ensures waiting { result ≡ self.now.waiting }
+        ensures most { result ≤ self.now.room }
     {
         self.waiting
     }

@@ -44,7 +44,8 @@ impl<J: Named, P: Named, L: Naming> Shared<J, P, L> {
         requires open { by.old.closed ≡ false }
         ensures by { by.new ≡ (if is_ok result.0 then posts by.old (J.ticket_of job) else by.old) }
         ensures back { IfErr result.0 (λ j. j ≡ job) }
-        ensures wakes { (result.1 ≡ true) ↔ ((0 < self.old.idle_seats) × (1 < length self.new.state.jobs)) }
+        ensures wakes { (result.1 ≡ true) ↔
+            ((0 < self.old.idle_seats) × (1 < length self.new.state.jobs)) }
     {
         let answer = self.state.post(by, job);
         let wakes = self.idle_seats > 0 && self.state.has_several_jobs();

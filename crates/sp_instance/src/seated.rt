@@ -21,7 +21,8 @@ impl<'a, L: Naming, R: Wait> Workplace for Seated<'a, L, R> {
 
     ghost over = { λ s. s.over };
 
-    ghost did = { λ old jobs pieces new. CountsLent old.seat.ghost_name new.seat.ghost_name old.seat.now jobs pieces new.seat.now };
+    ghost did = { λ old jobs pieces new. CountsLent old.seat.ghost_name new.seat.ghost_name
+        old.seat.now jobs pieces new.seat.now };
 
     ghost did_none = { λ s. lent_none s.seat.ghost_name s.seat.now };
 

@@ -76,9 +76,6 @@ fn by_instances<L: Naming + Send + Sync, R: Threads + Wait + Abort + Sync>(
     let plan = Arc::new(alloc, plan(alloc)?)?;
     let (hub, mut by, mut seats) = Hub::<Job, Piece, L>::new(alloc, opened)?;
     post_all(rt, alloc, &hub, &mut by, &plan)?;
-    if seats.is_empty() {
-        return Err("a seat".into());
-    }
     work_all(rt, alloc, &hub, &mut seats, &OpenGate);
     collect_all(rt, &hub, &mut by)?;
     let Ok(history) = hub.finish(by, seats) else {

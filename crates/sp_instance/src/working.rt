@@ -1,4 +1,4 @@
-ghost use Rattle.std.specs.Prelude.{◌≡◌, ◌<◌, true, None, vec_len, vec_capacity};
+ghost use Rattle.std.specs.Prelude.{◌≡◌, true, None, vec_len, vec_capacity};
 ghost use Rattle.std.specs.List.{All};
 ghost use Rattle.sp_instance.specs.Doing.{Worked};
 ghost use Rattle.sp_instance.specs.Seats.{PutAll};
@@ -68,7 +68,7 @@ fn take_back<T>(x: &mut T)
 {}
 
 /// An instance for each seat, each on a thread of its own where one can be made, else one after another, until
-/// the hub is closed and empty. No seat is lost, whatever memory is refused.
+/// the hub is closed and empty; where there is no seat, nothing is done. No seat is lost, whatever memory is refused.
 pub fn work_all<L: Naming + Send + Sync, G: Gate, R: Threads + Wait + Sync>(
     rt: &R,
     alloc: Global,
@@ -76,13 +76,15 @@ pub fn work_all<L: Naming + Send + Sync, G: Gate, R: Threads + Wait + Sync>(
     seats: &mut Vec<Seat<Piece, L>>,
     gate: &G,
 )
-    requires some { 0 < vec_len seats.old }
     requires free { All (λ s. s.holding ≡ None) seats.old.items }
     ensures len { vec_len seats.new ≡ vec_len seats.old }
     ensures capacity { vec_capacity seats.new ≡ vec_capacity seats.old }
     ensures free { All (λ s. s.holding ≡ None) seats.new.items }
 {
     let count = seats.len();
+    if count == 0 {
+        return;
+    }
     thread::for_each_mut(
         rt,
         seats,

@@ -28,13 +28,15 @@ pub trait Workplace {
         requires free { holding self.old ≡ None }
         ensures holding { holding self.new ≡ ticket_given result }
         ensures over { over self.new ≡ is_closed result }
-        ensures did { (from : Self) (jobs : List job.Job) (pieces : List Pieced) → did from jobs pieces self.old → did from (jobs ++ given_by result) pieces self.new };
+        ensures did { (from : Self) (jobs : List job.Job) (pieces : List Pieced)
+            → did from jobs pieces self.old → did from (jobs ++ given_by result) pieces self.new };
 
     /// Puts the piece of the job that was taken last.
     fn put(&mut self, piece: Piece)
         requires held { holding self.old ≡ Some piece.job.ticket }
         ensures free { holding self.new ≡ None }
-        ensures did { (from : Self) (jobs : List job.Job) (pieces : List Pieced) → did from jobs pieces self.old → did from jobs (pieces ++ piece ∷ []) self.new };
+        ensures did { (from : Self) (jobs : List job.Job) (pieces : List Pieced)
+            → did from jobs pieces self.old → did from jobs (pieces ++ piece ∷ []) self.new };
 
     /// Returns once a job may be there, or none will come.
     fn wait(&self);

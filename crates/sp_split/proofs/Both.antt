@@ -1,5 +1,5 @@
 -- Two numbers in one tell both.
-use Rattle.std.proofs.Common.{◌≡◌, ℕ, zero, suc, ◌+◌, ◌*◌, refl, sym, ◌∙◌, ap, arith}
+use Rattle.std.proofs.Common.{◌≡◌, ℕ, zero, suc, ◌+◌, ◌*◌, refl, sym, ap, arith}
 use Rattle.sp_split.specs.Lending.{both}
 
 half : (x y : ℕ) → 2 * x ≡ 2 * y → x ≡ y

@@ -4,7 +4,6 @@ use Rattle.std.specs.Prelude.{Ok, Err, OnOk}
 use Rattle.std.specs.declared.result.Result.{Result}
 use Rattle.sp_plan.specs.declared.event.Event.{Event}
 use Rattle.sp_plan.specs.declared.found.Match.{Match}
-use Rattle.sp_plan.specs.declared.plan.Plan.{Plan}
 use Rattle.sp_ports.specs.Taking.{OutletState, Took, TookFirst}
 use Rattle.sp_group.specs.declared.step.Entry.{Entry}
 use Rattle.sp_core.specs.Running.{Running, begun}

@@ -28,14 +28,19 @@ fn run<I: Intake, O: Outlet>(
     requires most { batch ≤ 1024 }
     requires intake_plan { I.plan intake.old ≡ core.old.plan }
     requires outlet_plan { O.plan outlet.old ≡ core.old.plan }
-    ensures ended { IfOk result (λ why. Drove (λ events. I.gave intake.old events intake.new) (I.ended intake.new)
-        (Rose (I.stops intake.old) (I.stops intake.new)) core.old (O.state outlet.old) (O.state outlet.new)
+    ensures ended { IfOk result (λ why. Drove (λ events. I.gave intake.old events intake.new)
+        (I.ended intake.new)
+        (Rose (I.stops intake.old) (I.stops intake.new)) core.old (O.state outlet.old)
+        (O.state outlet.new)
         (record { core = core.new; why = why })) }
     ensures alone { IfOk result (λ why. MakesNoChild core.new.journal) }
-    ensures short { OnErr result (FellShort (λ events. I.gave intake.old events intake.new) (I.ended intake.new)
+    ensures short { OnErr result
+        (FellShort (λ events. I.gave intake.old events intake.new) (I.ended intake.new)
         core.old.plan (O.state outlet.old) (O.state outlet.new)) }
-    ensures same { (I.plan intake.new ≡ I.plan intake.old) × (I.token intake.new ≡ I.token intake.old) }
-    ensures same_out { (O.plan outlet.new ≡ O.plan outlet.old) × (O.token outlet.new ≡ O.token outlet.old) }
+    ensures same { (I.plan intake.new ≡ I.plan intake.old)
+        × (I.token intake.new ≡ I.token intake.old) }
+    ensures same_out { (O.plan outlet.new ≡ O.plan outlet.old)
+        × (O.token outlet.new ≡ O.token outlet.old) }
 {
     // An intake ends long before so many turns.
     for _ in 0..u64::MAX {
@@ -78,13 +83,18 @@ pub(crate) fn drive_alone<I: Intake, O: Outlet>(
     requires most { batch ≤ 1024 }
     requires intake_plan { I.plan intake.old ≡ core.plan }
     requires outlet_plan { O.plan outlet.old ≡ core.plan }
-    ensures ended { IfOk result (Drove (λ events. I.gave intake.old events intake.new) (I.ended intake.new)
-        (Rose (I.stops intake.old) (I.stops intake.new)) core (O.state outlet.old) (O.state outlet.new)) }
+    ensures ended { IfOk result (Drove (λ events. I.gave intake.old events intake.new)
+        (I.ended intake.new)
+        (Rose (I.stops intake.old) (I.stops intake.new)) core (O.state outlet.old)
+        (O.state outlet.new)) }
     ensures alone { IfOk result (λ end. MakesNoChild end.core.journal) }
-    ensures short { OnErr result (FellShort (λ events. I.gave intake.old events intake.new) (I.ended intake.new)
+    ensures short { OnErr result
+        (FellShort (λ events. I.gave intake.old events intake.new) (I.ended intake.new)
         core.plan (O.state outlet.old) (O.state outlet.new)) }
-    ensures same { (I.plan intake.new ≡ I.plan intake.old) × (I.token intake.new ≡ I.token intake.old) }
-    ensures same_out { (O.plan outlet.new ≡ O.plan outlet.old) × (O.token outlet.new ≡ O.token outlet.old) }
+    ensures same { (I.plan intake.new ≡ I.plan intake.old)
+        × (I.token intake.new ≡ I.token intake.old) }
+    ensures same_out { (O.plan outlet.new ≡ O.plan outlet.old)
+        × (O.token outlet.new ≡ O.token outlet.old) }
 {
     let why = run(alloc, &mut core, batch, &mut *predictor, intake, outlet)?;
     Ok(Went { core, why })

@@ -46,14 +46,19 @@ pub fn drive<I: Intake, O: Outlet, G: Gate, R: Threads + Wait + Sync>(
     requires most { batch ≤ 1024 }
     requires intake_plan { I.plan intake.old ≡ core.plan }
     requires outlet_plan { O.plan outlet.old ≡ core.plan }
-    ensures ended { IfOk result (λ end. Drove (λ events. I.gave intake.old events intake.new) (I.ended intake.new)
-        (Rose (I.stops intake.old) (I.stops intake.new)) core (O.state outlet.old) (O.state outlet.new)
+    ensures ended { IfOk result (λ end. Drove (λ events. I.gave intake.old events intake.new)
+        (I.ended intake.new)
+        (Rose (I.stops intake.old) (I.stops intake.new)) core (O.state outlet.old)
+        (O.state outlet.new)
         (record { core = end.core; why = end.why })) }
     ensures about { IfOk result (λ end. CameAbout instances end.core end.history.entries) }
-    ensures short { OnErr result (FellShort (λ events. I.gave intake.old events intake.new) (I.ended intake.new)
+    ensures short { OnErr result
+        (FellShort (λ events. I.gave intake.old events intake.new) (I.ended intake.new)
         core.plan (O.state outlet.old) (O.state outlet.new)) }
-    ensures same { (I.plan intake.new ≡ I.plan intake.old) × (I.token intake.new ≡ I.token intake.old) }
-    ensures same_out { (O.plan outlet.new ≡ O.plan outlet.old) × (O.token outlet.new ≡ O.token outlet.old) }
+    ensures same { (I.plan intake.new ≡ I.plan intake.old)
+        × (I.token intake.new ≡ I.token intake.old) }
+    ensures same_out { (O.plan outlet.new ≡ O.plan outlet.old)
+        × (O.token outlet.new ≡ O.token outlet.old) }
 {
     if instances == 0 {
         return drive_lone(alloc, core, batch, predictor, intake, outlet);
@@ -78,9 +83,12 @@ fn drive_lone<I: Intake, O: Outlet>(
     requires intake_plan { I.plan intake.old ≡ core.plan }
     requires outlet_plan { O.plan outlet.old ≡ core.plan }
     ensures ends { Ends (λ events. I.gave intake.old events intake.new) (I.ended intake.new)
-        (Rose (I.stops intake.old) (I.stops intake.new)) 0 core (O.state outlet.old) (O.state outlet.new) result }
-    ensures same { (I.plan intake.new ≡ I.plan intake.old) × (I.token intake.new ≡ I.token intake.old) }
-    ensures same_out { (O.plan outlet.new ≡ O.plan outlet.old) × (O.token outlet.new ≡ O.token outlet.old) }
+        (Rose (I.stops intake.old) (I.stops intake.new)) 0 core (O.state outlet.old)
+        (O.state outlet.new) result }
+    ensures same { (I.plan intake.new ≡ I.plan intake.old)
+        × (I.token intake.new ≡ I.token intake.old) }
+    ensures same_out { (O.plan outlet.new ≡ O.plan outlet.old)
+        × (O.token outlet.new ≡ O.token outlet.old) }
 {
     let Went { core, why } = drive_alone(alloc, core, batch, predictor, intake, outlet)?;
     let history = no_history(alloc);
@@ -116,8 +124,10 @@ fn drive_shared<I: Intake, O: Outlet, G: Gate, R: Threads + Wait + Sync>(
     ensures ends { Ends (λ events. I.gave intake.old events intake.new) (I.ended intake.new)
         (Rose (I.stops intake.old) (I.stops intake.new)) splitter.instances splitter.core
         (O.state outlet.old) (O.state outlet.new) result }
-    ensures same { (I.plan intake.new ≡ I.plan intake.old) × (I.token intake.new ≡ I.token intake.old) }
-    ensures same_out { (O.plan outlet.new ≡ O.plan outlet.old) × (O.token outlet.new ≡ O.token outlet.old) }
+    ensures same { (I.plan intake.new ≡ I.plan intake.old)
+        × (I.token intake.new ≡ I.token intake.old) }
+    ensures same_out { (O.plan outlet.new ≡ O.plan outlet.old)
+        × (O.token outlet.new ≡ O.token outlet.old) }
 {
     let places = splitter.instances + 1;
     let opened = Opened::new(alloc, places, places)?;

@@ -33,7 +33,8 @@ fn feed_next<I: Intake>(alloc: Global, core: &mut Core, intake: &mut I) -> Resul
     ensures is { IfOk result (λ fed. IsFed fed core.new.machine.ended (I.ended intake.new)
         (Rose (I.stops intake.old) (I.stops intake.new))) }
     ensures unended { OnErr result (core.new.machine.ended ≡ false) }
-    ensures same { (I.plan intake.new ≡ I.plan intake.old) × (I.token intake.new ≡ I.token intake.old) }
+    ensures same { (I.plan intake.new ≡ I.plan intake.old)
+        × (I.token intake.new ≡ I.token intake.old) }
     ensures never_falls { I.stops intake.old ≤ I.stops intake.new }
 {
     match intake.next(alloc) {
@@ -70,7 +71,8 @@ pub(crate) fn feed<I: Intake>(
     ensures is { IfOk result (λ fed. IsFed fed core.new.machine.ended (I.ended intake.new)
         (Rose (I.stops intake.old) (I.stops intake.new))) }
     ensures unended { OnErr result (core.new.machine.ended ≡ false) }
-    ensures same { (I.plan intake.new ≡ I.plan intake.old) × (I.token intake.new ≡ I.token intake.old) }
+    ensures same { (I.plan intake.new ≡ I.plan intake.old)
+        × (I.token intake.new ≡ I.token intake.old) }
     ensures never_falls { I.stops intake.old ≤ I.stops intake.new }
 {
     for _ in 0..batch {

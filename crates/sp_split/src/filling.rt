@@ -24,14 +24,18 @@ fn fill_next<I: Intake>(
         × I.gave from splitter.old.core.machine.events intake.old }
     ensures filled { Filled splitter.old.core splitter.new.core }
     ensures rest { splitter.new ≡ record splitter.old { core = splitter.new.core } }
-    ensures given { OnOk result ((from : I) → I.gave from splitter.old.core.machine.events intake.old
+    ensures given { OnOk result ((from : I)
+        → I.gave from splitter.old.core.machine.events intake.old
         → I.gave from splitter.new.core.machine.events intake.new) }
-    ensures lost { OnErr result ((from : I) → I.gave from splitter.old.core.machine.events intake.old
-        → (lost : List event.Event) × I.gave from (splitter.new.core.machine.events ++ lost) intake.new) }
+    ensures lost { OnErr result ((from : I)
+        → I.gave from splitter.old.core.machine.events intake.old
+        → (lost : List event.Event)
+        × I.gave from (splitter.new.core.machine.events ++ lost) intake.new) }
     ensures is { IfOk result (λ fed. IsFed fed splitter.new.core.machine.ended (I.ended intake.new)
         (Rose (I.stops intake.old) (I.stops intake.new))) }
     ensures unended { OnErr result (splitter.new.core.machine.ended ≡ false) }
-    ensures same { (I.plan intake.new ≡ I.plan intake.old) × (I.token intake.new ≡ I.token intake.old) }
+    ensures same { (I.plan intake.new ≡ I.plan intake.old)
+        × (I.token intake.new ≡ I.token intake.old) }
     ensures never_falls { I.stops intake.old ≤ I.stops intake.new }
 {
     match intake.next(alloc) {
@@ -60,13 +64,17 @@ fn fill_batch<I: Intake>(
         × I.gave from splitter.old.core.machine.events intake.old }
     ensures filled { Filled splitter.old.core splitter.new.core }
     ensures rest { splitter.new ≡ record splitter.old { core = splitter.new.core } }
-    ensures given { OnOk result ((from : I) → I.gave from splitter.old.core.machine.events intake.old
+    ensures given { OnOk result ((from : I)
+        → I.gave from splitter.old.core.machine.events intake.old
         → I.gave from splitter.new.core.machine.events intake.new) }
-    ensures lost { OnErr result ((from : I) → I.gave from splitter.old.core.machine.events intake.old
-        → (lost : List event.Event) × I.gave from (splitter.new.core.machine.events ++ lost) intake.new) }
+    ensures lost { OnErr result ((from : I)
+        → I.gave from splitter.old.core.machine.events intake.old
+        → (lost : List event.Event)
+        × I.gave from (splitter.new.core.machine.events ++ lost) intake.new) }
     ensures is { IfOk result (λ fed. IsFed fed splitter.new.core.machine.ended (I.ended intake.new)
         (Rose (I.stops intake.old) (I.stops intake.new))) }
-    ensures same { (I.plan intake.new ≡ I.plan intake.old) × (I.token intake.new ≡ I.token intake.old) }
+    ensures same { (I.plan intake.new ≡ I.plan intake.old)
+        × (I.token intake.new ≡ I.token intake.old) }
     ensures never_falls { I.stops intake.old ≤ I.stops intake.new }
 {
     for _ in 0..splitter.batch {
@@ -91,15 +99,21 @@ pub(crate) fn fill<I: Intake>(
         × I.gave from splitter.old.core.machine.events intake.old }
     ensures filled { Filled splitter.old.core splitter.new.core }
     ensures rest { splitter.new ≡ record splitter.old { core = splitter.new.core } }
-    ensures given { OnOk result ((from : I) → I.gave from splitter.old.core.machine.events intake.old
+    ensures given { OnOk result ((from : I)
+        → I.gave from splitter.old.core.machine.events intake.old
         → I.gave from splitter.new.core.machine.events intake.new) }
-    ensures lost { OnErr result ((from : I) → I.gave from splitter.old.core.machine.events intake.old
-        → (lost : List event.Event) × I.gave from (splitter.new.core.machine.events ++ lost) intake.new) }
+    ensures lost { OnErr result ((from : I)
+        → I.gave from splitter.old.core.machine.events intake.old
+        → (lost : List event.Event)
+        × I.gave from (splitter.new.core.machine.events ++ lost) intake.new) }
     ensures unended { OnErr result (splitter.old.core.machine.ended ≡ false) }
     ensures is { IfOk result (λ fed. (before : ℕ) → before ≤ I.stops intake.old
-        → IsFed last splitter.old.core.machine.ended (I.ended intake.old) (Rose before (I.stops intake.old))
-        → IsFed fed splitter.new.core.machine.ended (I.ended intake.new) (Rose before (I.stops intake.new))) }
-    ensures same { (I.plan intake.new ≡ I.plan intake.old) × (I.token intake.new ≡ I.token intake.old) }
+        → IsFed last splitter.old.core.machine.ended (I.ended intake.old)
+        (Rose before (I.stops intake.old))
+        → IsFed fed splitter.new.core.machine.ended (I.ended intake.new)
+        (Rose before (I.stops intake.new))) }
+    ensures same { (I.plan intake.new ≡ I.plan intake.old)
+        × (I.token intake.new ≡ I.token intake.old) }
     ensures never_falls { I.stops intake.old ≤ I.stops intake.new }
 {
     match last {

@@ -17,14 +17,18 @@ pub(crate) fn put_all<O: Outlet>(
     matches: &[Match],
     outlet: &mut O,
 ) -> Result<(), OutFault>
-    ensures took { OnOk result (Took (O.plan outlet.old) matches.now (O.state outlet.old) (O.state outlet.new)) }
+    ensures took { OnOk result (Took (O.plan outlet.old) matches.now (O.state outlet.old)
+        (O.state outlet.new)) }
     ensures failed { result ≡ Err o.Failed → FailedWithin (O.plan outlet.old) matches.now
         (O.state outlet.old) (O.state outlet.new) }
-    ensures rose { result ≡ Err o.Failed → Rose (O.state outlet.old).faults (O.state outlet.new).faults }
+    ensures rose { result ≡ Err o.Failed
+        → Rose (O.state outlet.old).faults (O.state outlet.new).faults }
     ensures short { result ≡ Err o.Memory → TookFirst (O.plan outlet.old) matches.now
         (O.state outlet.old) (O.state outlet.new) }
-    ensures no_fault { result ≢ Err o.Failed → (O.state outlet.new).faults ≡ (O.state outlet.old).faults }
-    ensures same { (O.plan outlet.new ≡ O.plan outlet.old) × (O.token outlet.new ≡ O.token outlet.old) }
+    ensures no_fault { result ≢ Err o.Failed
+        → (O.state outlet.new).faults ≡ (O.state outlet.old).faults }
+    ensures same { (O.plan outlet.new ≡ O.plan outlet.old)
+        × (O.token outlet.new ≡ O.token outlet.old) }
 {
     for found in matches {
         outlet.put(alloc, found)?;
@@ -38,15 +42,20 @@ pub(crate) fn put_windows<O: Outlet>(
     finished: &[Emitted],
     outlet: &mut O,
 ) -> Result<(), OutFault>
-    ensures took { OnOk result (Took (O.plan outlet.old) (matches_of finished.now) (O.state outlet.old)
+    ensures took { OnOk result (Took (O.plan outlet.old) (matches_of finished.now)
+        (O.state outlet.old)
         (O.state outlet.new)) }
-    ensures failed { result ≡ Err o.Failed → FailedWithin (O.plan outlet.old) (matches_of finished.now)
+    ensures failed { result ≡ Err o.Failed
+        → FailedWithin (O.plan outlet.old) (matches_of finished.now)
         (O.state outlet.old) (O.state outlet.new) }
-    ensures rose { result ≡ Err o.Failed → Rose (O.state outlet.old).faults (O.state outlet.new).faults }
+    ensures rose { result ≡ Err o.Failed
+        → Rose (O.state outlet.old).faults (O.state outlet.new).faults }
     ensures short { result ≡ Err o.Memory → TookFirst (O.plan outlet.old) (matches_of finished.now)
         (O.state outlet.old) (O.state outlet.new) }
-    ensures no_fault { result ≢ Err o.Failed → (O.state outlet.new).faults ≡ (O.state outlet.old).faults }
-    ensures same { (O.plan outlet.new ≡ O.plan outlet.old) × (O.token outlet.new ≡ O.token outlet.old) }
+    ensures no_fault { result ≢ Err o.Failed
+        → (O.state outlet.new).faults ≡ (O.state outlet.old).faults }
+    ensures same { (O.plan outlet.new ≡ O.plan outlet.old)
+        × (O.token outlet.new ≡ O.token outlet.old) }
 {
     for window in finished {
         put_all(alloc, &window.matches, outlet)?;

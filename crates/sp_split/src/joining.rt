@@ -50,16 +50,18 @@ fn beside<L: Naming + Send + Sync, I: Intake, O: Outlet, G: Gate, R: Threads + W
     desk: Desk<L>,
     ways: Ways<I, O>,
 ) -> (Crew<L>, Served<L>, Ways<I, O>)
-    requires some { 0 < length crew.seats }
     requires free { All (λ s. s.holding ≡ None) crew.seats }
     requires may { MayServe desk.splitter.core desk.splitter.instances desk.splitter.batch
         desk.splitter.kept.items desk.by desk.seat (I.plan ways.intake) (O.plan ways.outlet) }
     ensures len { length result.0.seats ≡ length crew.seats }
     ensures room { result.0.room ≡ crew.room }
-    ensures served { Serves (λ events. I.gave ways.intake events result.2.intake) (I.ended result.2.intake)
-        (Rose (I.stops ways.intake) (I.stops result.2.intake)) desk.splitter.instances desk.splitter.core
+    ensures served { Serves (λ events. I.gave ways.intake events result.2.intake)
+        (I.ended result.2.intake)
+        (Rose (I.stops ways.intake) (I.stops result.2.intake))
+        desk.splitter.instances desk.splitter.core
         (O.state ways.outlet) (O.state result.2.outlet) result.1.end result.1.by.calls }
-    ensures same { (I.plan result.2.intake ≡ I.plan ways.intake) × (I.token result.2.intake ≡ I.token ways.intake) }
+    ensures same { (I.plan result.2.intake ≡ I.plan ways.intake)
+        × (I.token result.2.intake ≡ I.token ways.intake) }
     ensures same_out { (O.plan result.2.outlet ≡ O.plan ways.outlet)
         × (O.token result.2.outlet ≡ O.token ways.outlet) }
 {
@@ -74,7 +76,7 @@ fn beside<L: Naming + Send + Sync, I: Intake, O: Outlet, G: Gate, R: Threads + W
     let (crew, (served, ways)) = thread::join(
         rt,
         || -> Crew<L>
-            requires { IsSync R.row × (0 < length crew.seats) × All (λ s. s.holding ≡ None) crew.seats }
+            requires { IsSync R.row × All (λ s. s.holding ≡ None) crew.seats }
             ensures { (length result.seats ≡ length crew.seats) × (result.room ≡ crew.room) }
         {
             let mut crew = crew;
@@ -138,17 +140,20 @@ pub(crate) fn under<
     ways: Ways<I, O>,
 ) -> (Result<Ended, Memory>, Ways<I, O>)
     requires name { (opened.name ≡ L.name) × (opened.parts ≡ L.parts) }
-    requires places { (opened.seats ≡ splitter.instances + 1) × (opened.room ≡ splitter.instances + 1) }
+    requires places { (opened.seats ≡ splitter.instances + 1)
+        × (opened.room ≡ splitter.instances + 1) }
     requires fresh { splitter.core ≡ begun splitter.core.plan splitter.core.bound }
     requires instances { (0 < splitter.instances) × (splitter.instances ≤ 16) }
     requires batch { (1 ≤ splitter.batch) × (splitter.batch ≤ 1024) }
     requires kept { splitter.kept.items ≡ [] }
     requires intake_plan { I.plan ways.intake ≡ splitter.core.plan }
     requires outlet_plan { O.plan ways.outlet ≡ splitter.core.plan }
-    ensures ends { Ends (λ events. I.gave ways.intake events result.1.intake) (I.ended result.1.intake)
+    ensures ends { Ends (λ events. I.gave ways.intake events result.1.intake)
+        (I.ended result.1.intake)
         (Rose (I.stops ways.intake) (I.stops result.1.intake)) splitter.instances splitter.core
         (O.state ways.outlet) (O.state result.1.outlet) result.0 }
-    ensures same { (I.plan result.1.intake ≡ I.plan ways.intake) × (I.token result.1.intake ≡ I.token ways.intake) }
+    ensures same { (I.plan result.1.intake ≡ I.plan ways.intake)
+        × (I.token result.1.intake ≡ I.token ways.intake) }
     ensures same_out { (O.plan result.1.outlet ≡ O.plan ways.outlet)
         × (O.token result.1.outlet ≡ O.token ways.outlet) }
 {

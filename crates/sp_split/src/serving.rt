@@ -50,26 +50,37 @@ fn turn_once<L: Naming, O: Outlet, R: Wait>(
     desk: &mut Desk<L>,
     outlet: &mut O,
 ) -> Result<(), OutFault>
-    requires can { CanTurn desk.old.splitter.instances desk.old.splitter.batch desk.old.splitter.kept.items
+    requires can { CanTurn desk.old.splitter.instances desk.old.splitter.batch
+        desk.old.splitter.kept.items
         desk.old.splitter.core.machine.next_ticket desk.old.by }
     requires plan { O.plan outlet.old ≡ desk.old.splitter.core.plan }
-    ensures done { OnOk result (WentWith desk.old.splitter.instances desk.old.splitter.core desk.new.splitter.core
-        (λ matches. Took desk.old.splitter.core.plan matches (O.state outlet.old) (O.state outlet.new))) }
-    ensures failed { result ≡ Err o.Failed → WentWith desk.old.splitter.instances desk.old.splitter.core
+    ensures done { OnOk result (WentWith desk.old.splitter.instances desk.old.splitter.core
+        desk.new.splitter.core
+        (λ matches. Took desk.old.splitter.core.plan matches (O.state outlet.old)
+        (O.state outlet.new))) }
+    ensures failed { result ≡ Err o.Failed
+        → WentWith desk.old.splitter.instances desk.old.splitter.core
         desk.new.splitter.core (λ matches. FailedWithin desk.old.splitter.core.plan matches (O.state outlet.old)
         (O.state outlet.new)) }
-    ensures rose { result ≡ Err o.Failed → Rose (O.state outlet.old).faults (O.state outlet.new).faults }
-    ensures short { result ≡ Err o.Memory → WentWith desk.old.splitter.instances desk.old.splitter.core
+    ensures rose { result ≡ Err o.Failed
+        → Rose (O.state outlet.old).faults (O.state outlet.new).faults }
+    ensures short { result ≡ Err o.Memory
+        → WentWith desk.old.splitter.instances desk.old.splitter.core
         desk.new.splitter.core (λ matches. TookFirst desk.old.splitter.core.plan matches (O.state outlet.old)
         (O.state outlet.new)) }
-    ensures no_fault { result ≢ Err o.Failed → (O.state outlet.new).faults ≡ (O.state outlet.old).faults }
-    ensures goes { OnOk result (Goes desk.old.splitter.instances desk.old.splitter.core desk.new.splitter.core) }
-    ensures read { ReadByCalls desk.old.splitter.core desk.new.splitter.core desk.old.by desk.new.by }
+    ensures no_fault { result ≢ Err o.Failed
+        → (O.state outlet.new).faults ≡ (O.state outlet.old).faults }
+    ensures goes { OnOk result (Goes desk.old.splitter.instances desk.old.splitter.core
+        desk.new.splitter.core) }
+    ensures read { ReadByCalls desk.old.splitter.core desk.new.splitter.core desk.old.by desk.new.by
+        }
     ensures can { OnOk result (CanTurn desk.new.splitter.instances desk.new.splitter.batch
         desk.new.splitter.kept.items desk.new.splitter.core.machine.next_ticket desk.new.by) }
     ensures open { desk.new.by.closed ≡ false }
-    ensures rest { (desk.new.splitter.instances ≡ desk.old.splitter.instances) × (desk.new.seat ≡ desk.old.seat) }
-    ensures same { (O.plan outlet.new ≡ O.plan outlet.old) × (O.token outlet.new ≡ O.token outlet.old) }
+    ensures rest { (desk.new.splitter.instances ≡ desk.old.splitter.instances)
+        × (desk.new.seat ≡ desk.old.seat) }
+    ensures same { (O.plan outlet.new ≡ O.plan outlet.old)
+        × (O.token outlet.new ≡ O.token outlet.old) }
 {
     match desk.splitter.turn(rt, alloc, hub, &mut desk.by) {
         Ok(finished) => put_windows(alloc, &finished, outlet),
@@ -132,21 +143,28 @@ fn run<I: Intake, O: Outlet, L: Naming, G: Gate, R: Wait>(
     intake: &mut I,
     outlet: &mut O,
 ) -> Result<Why, Memory>
-    requires fresh { desk.old.splitter.core ≡ begun desk.old.splitter.core.plan desk.old.splitter.core.bound }
-    requires can { CanTurn desk.old.splitter.instances desk.old.splitter.batch desk.old.splitter.kept.items
+    requires fresh { desk.old.splitter.core ≡ begun desk.old.splitter.core.plan
+        desk.old.splitter.core.bound }
+    requires can { CanTurn desk.old.splitter.instances desk.old.splitter.batch
+        desk.old.splitter.kept.items
         desk.old.splitter.core.machine.next_ticket desk.old.by }
     requires free { desk.old.seat.holding ≡ None }
     requires intake_plan { I.plan intake.old ≡ desk.old.splitter.core.plan }
     requires outlet_plan { O.plan outlet.old ≡ desk.old.splitter.core.plan }
-    ensures ended { IfOk result (λ why. Drove (λ events. I.gave intake.old events intake.new) (I.ended intake.new)
+    ensures ended { IfOk result (λ why. Drove (λ events. I.gave intake.old events intake.new)
+        (I.ended intake.new)
         (Rose (I.stops intake.old) (I.stops intake.new)) desk.old.splitter.core (O.state outlet.old)
         (O.state outlet.new) (record { core = desk.new.splitter.core; why = why })) }
-    ensures came { OnOk result (CameBy desk.old.splitter.instances desk.new.splitter.core desk.new.by.calls) }
-    ensures short { OnErr result (FellShort (λ events. I.gave intake.old events intake.new) (I.ended intake.new)
+    ensures came { OnOk result (CameBy desk.old.splitter.instances desk.new.splitter.core
+        desk.new.by.calls) }
+    ensures short { OnErr result
+        (FellShort (λ events. I.gave intake.old events intake.new) (I.ended intake.new)
         desk.old.splitter.core.plan (O.state outlet.old) (O.state outlet.new)) }
     ensures open { desk.new.by.closed ≡ false }
-    ensures same { (I.plan intake.new ≡ I.plan intake.old) × (I.token intake.new ≡ I.token intake.old) }
-    ensures same_out { (O.plan outlet.new ≡ O.plan outlet.old) × (O.token outlet.new ≡ O.token outlet.old) }
+    ensures same { (I.plan intake.new ≡ I.plan intake.old)
+        × (I.token intake.new ≡ I.token intake.old) }
+    ensures same_out { (O.plan outlet.new ≡ O.plan outlet.old)
+        × (O.token outlet.new ≡ O.token outlet.old) }
 {
     let Office {
         rt,
@@ -197,8 +215,10 @@ pub(crate) fn serve<I: Intake, O: Outlet, L: Naming, G: Gate, R: Wait>(
     ensures served { Serves (λ events. I.gave intake.old events intake.new) (I.ended intake.new)
         (Rose (I.stops intake.old) (I.stops intake.new)) desk.splitter.instances desk.splitter.core
         (O.state outlet.old) (O.state outlet.new) result.end result.by.calls }
-    ensures same { (I.plan intake.new ≡ I.plan intake.old) × (I.token intake.new ≡ I.token intake.old) }
-    ensures same_out { (O.plan outlet.new ≡ O.plan outlet.old) × (O.token outlet.new ≡ O.token outlet.old) }
+    ensures same { (I.plan intake.new ≡ I.plan intake.old)
+        × (I.token intake.new ≡ I.token intake.old) }
+    ensures same_out { (O.plan outlet.new ≡ O.plan outlet.old)
+        × (O.token outlet.new ≡ O.token outlet.old) }
 {
     let mut desk = desk;
     let why = run(office, &mut desk, intake, outlet);

@@ -24,11 +24,14 @@ fn work_once<O: Outlet>(
         (O.state outlet.old) (O.state outlet.new)) }
     ensures failed { result ≡ Err o.Failed → WorkedUntilRefused core.old core.new
         (O.state outlet.old) (O.state outlet.new) }
-    ensures rose { result ≡ Err o.Failed → Rose (O.state outlet.old).faults (O.state outlet.new).faults }
+    ensures rose { result ≡ Err o.Failed
+        → Rose (O.state outlet.old).faults (O.state outlet.new).faults }
     ensures short { result ≡ Err o.Memory → WorkedUntilShort core.old core.new
         (O.state outlet.old) (O.state outlet.new) }
-    ensures no_fault { result ≢ Err o.Failed → (O.state outlet.new).faults ≡ (O.state outlet.old).faults }
-    ensures same { (O.plan outlet.new ≡ O.plan outlet.old) × (O.token outlet.new ≡ O.token outlet.old) }
+    ensures no_fault { result ≢ Err o.Failed
+        → (O.state outlet.new).faults ≡ (O.state outlet.old).faults }
+    ensures same { (O.plan outlet.new ≡ O.plan outlet.old)
+        × (O.token outlet.new ≡ O.token outlet.old) }
 {
     match take_turn(alloc, core, predictor) {
         Ok(Turn::Idle) => Ok(false),
@@ -55,11 +58,14 @@ pub(crate) fn work_off<O: Outlet>(
         (O.state outlet.old) (O.state outlet.new) false) }
     ensures failed { result ≡ Err o.Failed → WorkedUntilRefused core.old core.new
         (O.state outlet.old) (O.state outlet.new) }
-    ensures rose { result ≡ Err o.Failed → Rose (O.state outlet.old).faults (O.state outlet.new).faults }
+    ensures rose { result ≡ Err o.Failed
+        → Rose (O.state outlet.old).faults (O.state outlet.new).faults }
     ensures short { result ≡ Err o.Memory → WorkedUntilShort core.old core.new
         (O.state outlet.old) (O.state outlet.new) }
-    ensures no_fault { result ≢ Err o.Failed → (O.state outlet.new).faults ≡ (O.state outlet.old).faults }
-    ensures same { (O.plan outlet.new ≡ O.plan outlet.old) × (O.token outlet.new ≡ O.token outlet.old) }
+    ensures no_fault { result ≢ Err o.Failed
+        → (O.state outlet.new).faults ≡ (O.state outlet.old).faults }
+    ensures same { (O.plan outlet.new ≡ O.plan outlet.old)
+        × (O.token outlet.new ≡ O.token outlet.old) }
 {
     for _ in 0..u64::MAX {
         if !work_once(alloc, core, predictor, outlet)? {

@@ -13,7 +13,7 @@ use Rattle.sp_splitter.specs.Breeding.{Breeds, IsWide}
 use Rattle.sp_splitter.specs.Lending.{Leases, DropsStale}
 use Rattle.sp_splitter.specs.Stages.{Goes, ReadByCalls, Went, matches_of}
 
--- The state of a splitter behind a turn: how many instances there are and what a lease asks for; what the predictor means, and the chances;
+-- The state of a splitter behind a turn: how many instances there are and what a lease asks for at most; what the predictor means, and the chances;
 -- the jobs that were kept before, and those that are kept now; and the poster before, and now.
 pub record Outlook : Type 0 where
   pub instances : ℕ

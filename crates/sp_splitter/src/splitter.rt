@@ -31,7 +31,7 @@ pub struct Splitter {
     pub core: Core,
     /// How many instances work for it, at most 16. One place more is the splitter's own.
     pub instances: u32,
-    /// How many events a lease asks for, 1 to 1,024.
+    /// How many events a lease asks for at most, 1 to 1,024.
     pub batch: u32,
     /// What holds open groups for likely or not. Nothing but the order of work rests on it.
     pub predictor: Box<dyn Predictor>,

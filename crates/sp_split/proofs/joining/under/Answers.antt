@@ -1,6 +1,5 @@
 use denote.Param.Send.{sendable}
-use Rattle.std.proofs.Common.{◌≡◌, ◌+◌, ◌<◌, List, None, length, sym, ap, subst, arith}
-use Rattle.std.specs.Prelude.{vec_len}
+use Rattle.std.proofs.Common.{◌≡◌, List, None, length, sym, ap, subst, arith}
 use Rattle.std.specs.List.{All}
 use Rattle.std.proofs.lemmas.List.FromFn.{length-map-range_with_len}
 use Rattle.sp_io.specs.Outside.{Rose}
@@ -39,18 +38,6 @@ part-seat-requires-clause-some g c =
 
 pub part-seat-requires-clause-free : goal.part-seat-requires-clause-free
 part-seat-requires-clause-free g c = subst (All (λ (s : Sitting). s.holding ≡ None)) (sym c.in-Ok.ensures.seats) (all_free c.args.opened.seats)
-
-pub beside-crew-requires-clause-some : goal.beside-crew-requires-clause-some
-beside-crew-requires-clause-some g c =
-    let are = ap length c.in-Ok.ensures.seats in
-    let count = length-map-range_with_len fresh_seat 0 c.args.opened.seats in
-    let places = c.requires.places.0 in
-    let held = c.in-Ok.made.2.ok in
-    let fewer = c.part-seat.ensures.len in
-    let others = c.part-seat.result.1.ok in
-    let some = c.requires.instances.0 in
-    let crew = ap (λ (x : Crewed). length x.seats) c.of-crew.ensures in
-    omega arith
 
 pub beside-crew-requires-clause-free : goal.beside-crew-requires-clause-free
 beside-crew-requires-clause-free g c κs within =

@@ -1,4 +1,4 @@
-use Rattle.std.proofs.Common.{◌≡◌, ◌≤◌, false, None}
+use Rattle.std.proofs.Common.{◌≡◌, ◌≤◌, None}
 use Rattle.sp_io.specs.Outside.{Rose}
 use Rattle.sp_spread.specs.Journaled.{readings_entered}
 use Rattle.sp_splitter.specs.Stages.{IsSpreading}

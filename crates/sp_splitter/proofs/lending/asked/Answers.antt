@@ -1,4 +1,4 @@
-use Rattle.std.proofs.Common.{◌≡◌, ℕ, ◌+◌, ◌-◌, Bool, true, false, ap, sym, ◌∙◌}
+use Rattle.std.proofs.Common.{◌≡◌, ◌+◌, ◌-◌, Bool, true, false, ap, sym, ◌∙◌}
 use Rattle.std.specs.Prelude.{min, max}
 use Rattle.sp_splitter.proofs.Behind.{asked_between, asked_child, asked_gone, asked_orphan, asked_root, free_between}
 use Rattle.sp_splitter.proofs.Guessed.{held_begun}
