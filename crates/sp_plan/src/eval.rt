@@ -79,7 +79,7 @@ fn earlier_value(bound: &Bound, name: u8, column: u16) -> i64
 }
 
 // What a literal, a text of the query or a column comes to; None for an operator.
-#[inline]
+#[inline(always)]
 fn leaf(expr: &Expr, event: &Event, bound: &Bound) -> Option<i64>
     ensures { IfSome result (λ n. n ≡ Values.value expr.now event.now bound.now) }
 {
@@ -92,33 +92,46 @@ fn leaf(expr: &Expr, event: &Event, bound: &Bound) -> Option<i64>
     }
 }
 
-// What a leaf or the product of two comes to; None for anything else, and where it doesn't fit.
-#[inline]
-fn product(expr: &Expr, event: &Event, bound: &Bound) -> Option<i64>
+// The same, where it is a part of a product.
+#[inline(never)]
+fn factor(expr: &Expr, event: &Event, bound: &Bound) -> Option<i64>
     ensures { IfSome result (λ n. n ≡ Values.value expr.now event.now bound.now) }
+{
+    leaf(expr, event, bound)
+}
+
+// The product of two numbers, which 128 bits hold whatever they are.
+#[inline(always)]
+fn times(one: i64, other: i64) -> i128
+    ensures { result ≡ one *ℤ other }
+{
+    i128::from(one) * i128::from(other)
+}
+
+// What a leaf or a product of two comes to, by so much; None for anything else, and where it doesn't fit.
+#[inline(always)]
+fn product(expr: &Expr, by: i64, event: &Event, bound: &Bound) -> Option<i128>
+    ensures { IfSome result (λ n. n ≡ Values.value expr.now event.now bound.now *ℤ by) }
 {
     match expr {
         Expr::Mul(left, right) => {
-            let left = leaf(left, event, bound)?;
-            let right = leaf(right, event, bound)?;
-            left.checked_mul(right)
+            let right = factor(right, event, bound)?;
+            let by = right.checked_mul(by)?;
+            Some(times(factor(left, event, bound)?, by))
         }
-        _ => leaf(expr, event, bound),
+        _ => Some(times(factor(expr, event, bound)?, by)),
     }
 }
 
 // What a leaf or the product of two comes to, or one of these raised; None for anything else, and where
 // it doesn't fit.
-#[inline]
-fn short_value(expr: &Expr, event: &Event, bound: &Bound) -> Option<i64>
+#[inline(always)]
+fn short_value(expr: &Expr, event: &Event, bound: &Bound) -> Option<i128>
     ensures { IfSome result (λ n. n ≡ Values.value expr.now event.now bound.now) }
 {
     match expr {
-        Expr::Raise { by, inner } if *by < 19 => {
-            let inner = product(inner, event, bound)?;
-            inner.checked_mul(short_power(*by))
-        }
-        _ => product(expr, event, bound),
+        Expr::Raise { by, inner } if *by < 19 => product(inner, short_power(*by), event, bound),
+        _ => product(expr, 1, event, bound),
     }
 }
 
@@ -236,7 +249,26 @@ fn compares(by: Compare, left: i128, right: i128) -> bool
     }
 }
 
-// Whether what two sides come to compares so: in 64 bits where both are short.
+// Whether what two sides come to compares so, where one of them is no leaf.
+#[inline(never)]
+fn long_sides_compare(by: Compare, left: &Expr, right: &Expr, event: &Event, bound: &Bound) -> bool
+    requires left { b.StaysWithin left.now }
+    requires right { b.StaysWithin right.now }
+    requires event { b.IsSmall event.now }
+    requires bound { b.AllSmall bound.now }
+    ensures { result ≡ Values.compares by
+        (Values.value left.now event.now bound.now) (Values.value right.now event.now bound.now) }
+{
+    if let Some(one) = short_value(left, event, bound)
+        && let Some(other) = short_value(right, event, bound)
+    {
+        return compares(by, one, other);
+    }
+    compares(by, value(left, event, bound), value(right, event, bound))
+}
+
+// Whether what two sides come to compares so: two leaves are compared in 64 bits.
+#[inline]
 pub(crate) fn sides_compare(
     by: Compare,
     left: &Expr,
@@ -251,18 +283,18 @@ pub(crate) fn sides_compare(
     ensures { result ≡ Values.compares by
         (Values.value left.now event.now bound.now) (Values.value right.now event.now bound.now) }
 {
-    if let Some(short) = short_value(left, event, bound)
-        && let Some(other) = short_value(right, event, bound)
+    if let Some(other) = leaf(right, event, bound)
+        && let Some(one) = leaf(left, event, bound)
     {
-        return compares(by, i128::from(short), i128::from(other));
+        return compares(by, i128::from(one), i128::from(other));
     }
-    compares(by, value(left, event, bound), value(right, event, bound))
+    long_sides_compare(by, left, right, event, bound)
 }
 
-/// Whether a predicate holds of the event at hand, over the events bound before it. Takes no memory.
-/// Of a chain the right side is tried first, and the left one gone on with in a loop; calls nest as
-/// deep as brackets and NOTs do.
-pub fn holds(pred: &Pred, event: &Event, bound: &Bound) -> bool
+// Whether a chain of ANDs, ORs and NOTs holds: it is gone along in a loop, and each right side is a call.
+#[cycle(holds)]
+#[inline(never)]
+fn chain_holds(pred: &Pred, event: &Event, bound: &Bound) -> bool
     requires within { b.PredWithin pred.now }
     requires event { b.IsSmall event.now }
     requires bound { b.AllSmall bound.now }
@@ -289,5 +321,21 @@ pub fn holds(pred: &Pred, event: &Event, bound: &Bound) -> bool
             }
             Pred::Not(inner) => return !holds(inner, event, bound),
         }
+    }
+}
+
+/// Whether a predicate holds of the event at hand, over the events bound before it. Takes no memory.
+/// Of a chain the right side is tried first, and the left one gone on with in a loop; calls nest as
+/// deep as brackets and NOTs do.
+#[cycle(holds)]
+pub fn holds(pred: &Pred, event: &Event, bound: &Bound) -> bool
+    requires within { b.PredWithin pred.now }
+    requires event { b.IsSmall event.now }
+    requires bound { b.AllSmall bound.now }
+    ensures { result ≡ Values.holds pred.now event.now bound.now }
+{
+    match pred {
+        Pred::Test { by, left, right } => sides_compare(*by, left, right, event, bound),
+        _ => chain_holds(pred, event, bound),
     }
 }
