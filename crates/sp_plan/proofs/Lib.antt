@@ -14,3 +14,5 @@ mod Zips
 mod Decided
 mod SamePlans
 pub mod Readings
+mod KnownAnswers
+mod WorkedKnown

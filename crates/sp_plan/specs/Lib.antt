@@ -16,3 +16,4 @@ pub mod Compiled
 pub mod Laws
 pub mod Same
 pub mod Groups
+pub mod Known

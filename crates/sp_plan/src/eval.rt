@@ -1,34 +1,41 @@
 // What expressions come to, and whether predicates hold.
-ghost use Rattle.std.specs.Prelude.{◌≡◌, ◌≤◌, ◌+◌, ◌*◌, ◌^◌, ◌+ℤ◌, ◌*ℤ◌, neg_ℤ, pos, unsigned_abs};
+ghost use Rattle.std.specs.Prelude.{◌≡◌, ◌≤◌, ◌+◌, ◌*◌, ◌^◌, ◌+ℤ◌, ◌*ℤ◌, neg_ℤ, pos, unsigned_abs, ◌<◌, IfSome};
 ghost use Rattle.sp_plan.specs.Values;
 ghost use Rattle.sp_plan.specs.Values.{column_of, earlier_column, last_bound};
 ghost use Rattle.sp_plan.specs.Bounds as b;
 
 use crate::{Bound, Compare, Event, Expr, Pred, Value};
 
-// What stands in a column, as a number; 0 where the event has no such column.
-fn column_value(event: &Event, column: u16) -> i128
-    requires { b.IsSmall event.now }
-    ensures value { result ≡ column_of column event.now }
-    ensures small { unsigned_abs result ≤ 1000000000000000 }
-{
-    match event.values.as_slice().get(column as usize) {
-        Some(Value::Number(n)) => i128::from(*n),
-        Some(Value::Symbol(s)) => i128::from(*s),
-        None => 0,
-    }
-}
+// The powers of ten that an i64 holds, from the one of 0 on.
+const POWERS: [i64; 19] = [
+    1,
+    10,
+    100,
+    1_000,
+    10_000,
+    100_000,
+    1_000_000,
+    10_000_000,
+    100_000_000,
+    1_000_000_000,
+    10_000_000_000,
+    100_000_000_000,
+    1_000_000_000_000,
+    10_000_000_000_000,
+    100_000_000_000_000,
+    1_000_000_000_000_000,
+    10_000_000_000_000_000,
+    100_000_000_000_000_000,
+    1_000_000_000_000_000_000,
+];
 
-// What stands in a column of the last event that is bound to a name; 0 where there is none.
-fn earlier_value(bound: &Bound, name: u8, column: u16) -> i128
-    requires { b.AllSmall bound.now }
-    ensures value { result ≡ earlier_column (last_bound name bound.now) column }
-    ensures small { unsigned_abs result ≤ 1000000000000000 }
+// Ten to this power.
+#[inline]
+fn short_power(by: u8) -> i64
+    requires { by < 19 }
+    ensures { result ≡ pos (10 ^ by) }
 {
-    match bound.get(name) {
-        Some(event) => column_value(event, column),
-        None => 0,
-    }
+    POWERS[by as usize]
 }
 
 // Ten to this power.
@@ -36,7 +43,96 @@ fn power_of_ten(by: u8) -> i128
     requires { by ≤ 36 }
     ensures { result ≡ pos (10 ^ by) }
 {
-    10u128.pow(u32::from(by)) as i128
+    if by < 19 {
+        i128::from(short_power(by))
+    } else {
+        scaled(
+            i128::from(short_power(18)),
+            i128::from(short_power(by - 18)),
+        )
+    }
+}
+
+// What stands in a column, as a number; 0 where the event has no such column.
+#[inline]
+fn column_value(event: &Event, column: u16) -> i64
+    ensures value { result ≡ column_of column event.now }
+    ensures small { b.IsSmall event.now → unsigned_abs result ≤ 1000000000000000 }
+{
+    match event.values.as_slice().get(column as usize) {
+        Some(Value::Number(n)) => *n,
+        Some(Value::Symbol(s)) => i64::from(*s),
+        None => 0,
+    }
+}
+
+// What stands in a column of the last event that is bound to a name; 0 where there is none.
+#[inline]
+fn earlier_value(bound: &Bound, name: u8, column: u16) -> i64
+    ensures value { result ≡ earlier_column (last_bound name bound.now) column }
+    ensures small { b.AllSmall bound.now → unsigned_abs result ≤ 1000000000000000 }
+{
+    match bound.get(name) {
+        Some(event) => column_value(event, column),
+        None => 0,
+    }
+}
+
+// What a literal, a text of the query or a column comes to; None for an operator.
+#[inline(always)]
+fn leaf(expr: &Expr, event: &Event, bound: &Bound) -> Option<i64>
+    ensures { IfSome result (λ n. n ≡ Values.value expr.now event.now bound.now) }
+{
+    match expr {
+        Expr::Literal(n) => Some(*n),
+        Expr::Word(symbol) => Some(i64::from(*symbol)),
+        Expr::Column(column) => Some(column_value(event, *column)),
+        Expr::Earlier { name, column } => Some(earlier_value(bound, *name, *column)),
+        _ => None,
+    }
+}
+
+// The same, where it is a part of a product.
+#[inline(never)]
+fn factor(expr: &Expr, event: &Event, bound: &Bound) -> Option<i64>
+    ensures { IfSome result (λ n. n ≡ Values.value expr.now event.now bound.now) }
+{
+    leaf(expr, event, bound)
+}
+
+// The product of two numbers, which 128 bits hold whatever they are.
+#[inline(always)]
+fn times(one: i64, other: i64) -> i128
+    ensures { result ≡ one *ℤ other }
+{
+    i128::from(one) * i128::from(other)
+}
+
+// What a leaf or a product of two comes to, by so much; None for anything else, and where it doesn't fit.
+#[inline(always)]
+fn product(expr: &Expr, by: i64, event: &Event, bound: &Bound) -> Option<i128>
+    ensures { IfSome result (λ n. n ≡ Values.value expr.now event.now bound.now *ℤ by) }
+{
+    match expr {
+        Expr::Mul(left, right) => {
+            let right = factor(right, event, bound)?;
+            let by = right.checked_mul(by)?;
+            Some(times(factor(left, event, bound)?, by))
+        }
+        _ => Some(times(factor(expr, event, bound)?, by)),
+    }
+}
+
+// What a leaf or the product of two comes to, or one of these raised; None for anything else, and where
+// it doesn't fit.
+#[inline(always)]
+fn short_value(expr: &Expr, event: &Event, bound: &Bound) -> Option<i128>
+    ensures { IfSome result (λ n. n ≡ Values.value expr.now event.now bound.now) }
+{
+    match expr {
+        Expr::Raise { by, inner } if *by < 19 => product(inner, short_power(*by), event, bound),
+        _ => product(expr, 1, event, bound),
+    }
 }
 
 // A factor times a value. A factor beside which the rest of a product is 0 may be of any size, and
@@ -83,9 +179,15 @@ fn chain(expr: &Expr, event: &Event, bound: &Bound) -> i128
         match rest {
             Expr::Literal(n) => return added(sum, factor, i128::from(*n)),
             Expr::Word(symbol) => return added(sum, factor, i128::from(*symbol)),
-            Expr::Column(column) => return added(sum, factor, column_value(event, *column)),
+            Expr::Column(column) => {
+                return added(sum, factor, i128::from(column_value(event, *column)));
+            }
             Expr::Earlier { name, column } => {
-                return added(sum, factor, earlier_value(bound, *name, *column));
+                return added(
+                    sum,
+                    factor,
+                    i128::from(earlier_value(bound, *name, *column)),
+                );
             }
             Expr::Raise { by, inner } => {
                 factor = scaled(factor, power_of_ten(*by));
@@ -126,13 +228,14 @@ pub fn value(expr: &Expr, event: &Event, bound: &Bound) -> i128
     match expr {
         Expr::Literal(n) => i128::from(*n),
         Expr::Word(symbol) => i128::from(*symbol),
-        Expr::Column(column) => column_value(event, *column),
-        Expr::Earlier { name, column } => earlier_value(bound, *name, *column),
+        Expr::Column(column) => i128::from(column_value(event, *column)),
+        Expr::Earlier { name, column } => i128::from(earlier_value(bound, *name, *column)),
         _ => chain(expr, event, bound),
     }
 }
 
 // Whether two values compare so.
+#[inline]
 fn compares(by: Compare, left: i128, right: i128) -> bool
     ensures { result ≡ Values.compares by left right }
 {
@@ -146,10 +249,52 @@ fn compares(by: Compare, left: i128, right: i128) -> bool
     }
 }
 
-/// Whether a predicate holds of the event at hand, over the events bound before it. Takes no memory.
-/// Of a chain the right side is tried first, and the left one gone on with in a loop; calls nest as
-/// deep as brackets and NOTs do.
-pub fn holds(pred: &Pred, event: &Event, bound: &Bound) -> bool
+// Whether what two sides come to compares so, where one of them is no leaf.
+#[inline(never)]
+fn long_sides_compare(by: Compare, left: &Expr, right: &Expr, event: &Event, bound: &Bound) -> bool
+    requires left { b.StaysWithin left.now }
+    requires right { b.StaysWithin right.now }
+    requires event { b.IsSmall event.now }
+    requires bound { b.AllSmall bound.now }
+    ensures { result ≡ Values.compares by
+        (Values.value left.now event.now bound.now) (Values.value right.now event.now bound.now) }
+{
+    if let Some(one) = short_value(left, event, bound)
+        && let Some(other) = short_value(right, event, bound)
+    {
+        return compares(by, one, other);
+    }
+    compares(by, value(left, event, bound), value(right, event, bound))
+}
+
+// Whether what two sides come to compares so: two leaves are compared in 64 bits.
+#[inline]
+pub(crate) fn sides_compare(
+    by: Compare,
+    left: &Expr,
+    right: &Expr,
+    event: &Event,
+    bound: &Bound,
+) -> bool
+    requires left { b.StaysWithin left.now }
+    requires right { b.StaysWithin right.now }
+    requires event { b.IsSmall event.now }
+    requires bound { b.AllSmall bound.now }
+    ensures { result ≡ Values.compares by
+        (Values.value left.now event.now bound.now) (Values.value right.now event.now bound.now) }
+{
+    if let Some(other) = leaf(right, event, bound)
+        && let Some(one) = leaf(left, event, bound)
+    {
+        return compares(by, i128::from(one), i128::from(other));
+    }
+    long_sides_compare(by, left, right, event, bound)
+}
+
+// Whether a chain of ANDs, ORs and NOTs holds: it is gone along in a loop, and each right side is a call.
+#[cycle(holds)]
+#[inline(never)]
+fn chain_holds(pred: &Pred, event: &Event, bound: &Bound) -> bool
     requires within { b.PredWithin pred.now }
     requires event { b.IsSmall event.now }
     requires bound { b.AllSmall bound.now }
@@ -160,9 +305,7 @@ pub fn holds(pred: &Pred, event: &Event, bound: &Bound) -> bool
         match rest {
             Pred::Always => return true,
             Pred::Test { by, left, right } => {
-                let left = value(left, event, bound);
-                let right = value(right, event, bound);
-                return compares(*by, left, right);
+                return sides_compare(*by, left, right, event, bound);
             }
             Pred::And(left, right) => {
                 if !holds(right, event, bound) {
@@ -178,5 +321,21 @@ pub fn holds(pred: &Pred, event: &Event, bound: &Bound) -> bool
             }
             Pred::Not(inner) => return !holds(inner, event, bound),
         }
+    }
+}
+
+/// Whether a predicate holds of the event at hand, over the events bound before it. Takes no memory.
+/// Of a chain the right side is tried first, and the left one gone on with in a loop; calls nest as
+/// deep as brackets and NOTs do.
+#[cycle(holds)]
+pub fn holds(pred: &Pred, event: &Event, bound: &Bound) -> bool
+    requires within { b.PredWithin pred.now }
+    requires event { b.IsSmall event.now }
+    requires bound { b.AllSmall bound.now }
+    ensures { result ≡ Values.holds pred.now event.now bound.now }
+{
+    match pred {
+        Pred::Test { by, left, right } => sides_compare(*by, left, right, event, bound),
+        _ => chain_holds(pred, event, bound),
     }
 }

@@ -1,4 +1,5 @@
 // What is true of every plan and event. A law runs no code: who calls it has the fact.
+ghost use Rattle.sp_plan.specs.Known.{KnownIsRight, WhatMayNotHoldDoesNot};
 ghost use Rattle.sp_plan.specs.Laws.{FittingEventsAreSmall, PlansAreThemselves, ReadingIsState, SamePredicatesHoldAlike};
 
 /// Law: the numbers of an event that fits a plan are at most 10^15 in magnitude.
@@ -21,4 +22,15 @@ pub fn same_predicates_hold_alike()
 /// aren't skipped; other numbers to skip, and events behind those read, don't count.
 pub fn reading_is_state()
     ensures { ReadingIsState }
+{}
+
+/// Law: a predicate that may not hold of an event, as `may_hold` says it, doesn't, whatever events are
+/// bound.
+pub fn what_may_not_hold_does_not()
+    ensures { WhatMayNotHoldDoesNot }
+{}
+
+/// Law: what `known` answers is what the predicate comes to, whatever events are bound.
+pub fn known_is_right()
+    ensures { KnownIsRight }
 {}

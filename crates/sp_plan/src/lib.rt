@@ -3,6 +3,7 @@
 //! window, and the text of its matches. Every other crate cites these definitions.
 #![tactic(auto)]
 
+mod ahead;
 mod bound;
 mod eval;
 mod event;
@@ -15,12 +16,14 @@ mod plan;
 mod same;
 mod shared;
 
+pub use ahead::{known, may_hold};
 pub use bound::Bound;
 pub use eval::{holds, value};
 pub use event::{Event, Value, Values};
 pub use found::Match;
 pub use laws::{
-    fitting_events_are_small, plans_are_themselves, reading_is_state, same_predicates_hold_alike,
+    fitting_events_are_small, known_is_right, plans_are_themselves, reading_is_state,
+    same_predicates_hold_alike, what_may_not_hold_does_not,
 };
 pub use places::Places;
 pub use plan::{
