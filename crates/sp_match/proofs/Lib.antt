@@ -25,6 +25,7 @@ pub mod RunsUndo
 pub mod Searches
 pub mod ElementsAreNamed
 pub mod TakenIsNamed
+pub mod NeverTaken
 -- What is told of runs.
 pub mod MovesAreTold
 pub mod NumbersGathered
@@ -39,9 +40,12 @@ pub mod TurnTallies
 pub mod TurnGoesOn
 -- All turns, the start of a run, and the handling of an event as a whole.
 pub mod AllTurnsGoOn
+pub mod QuietTurns
+pub mod NothingIsDone
 pub mod StartShows
 pub mod EventIsHandled
 pub mod MatcherAfterEvent
+pub mod EventIsOffered
 -- What the runs want of later events.
 pub mod LeftIsLacked
 pub mod WantedIsTold

@@ -41,7 +41,7 @@ pub ready : (q : Plan) (n count : ℕ) (ks : List Kept) → IsKept q count ks �
 ready q n count ks own below = record { good = own.good; idle = own.idle; below = all_below q n ks own.good below.events; ordered = own.ordered }
 
 -- the order is the same for each state with these runs
-ordered_as : (count : ℕ) (ks : List Kept) (s : State) → Ordered (standing count ks) → s.open_runs ≡ map started ks → s.started ≡ count → Ordered s
+pub ordered_as : (count : ℕ) (ks : List Kept) (s : State) → Ordered (standing count ks) → s.open_runs ≡ map started ks → s.started ≡ count → Ordered s
 ordered_as count ks s ordered is count_is = record {
   rising = subst (λ (l : List Started). IsStrictlyIncreasing (map (λ run. run.0) l)) (sym is) ordered.rising;
   given = subst (λ (n : ℕ). All (λ run. (1 ≤ run.0) × (run.0 ≤ n)) s.open_runs) (sym count_is) (subst (All (λ run. (1 ≤ run.0) × (run.0 ≤ count))) (sym is) ordered.given);

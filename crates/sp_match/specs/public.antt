@@ -2,3 +2,4 @@
 pub mod Matching
 pub mod Seen
 pub mod Laws
+pub mod Known

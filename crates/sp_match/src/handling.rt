@@ -19,7 +19,8 @@ use crate::wanting::{want_after, want_before};
 use sp_plan::SharedEvent;
 
 // All that an event does to the runs and tells, but runs that leave are only marked. Answers whether a
-// run started. After want of memory what was done to the runs can be undone.
+// run started. Where nothing is told, nothing was done. After want of memory what was done to the runs
+// can be undone.
 fn handle(
     offer: &Offer,
     shared: &mut Option<SharedEvent>,
@@ -34,6 +35,8 @@ fn handle(
     requires none { list.old.items ≡ [] }
     ensures handled { IfOk result (λ began. IsHandled offer.now.plan.now (numbered offer.now) count
         (all_kept runs.old.items) began (all_kept runs.new.items) (all_seen list.new.items)) }
+    ensures quiet { OnOk result
+        (all_seen list.new.items ≡ [] → all_kept runs.new.items ≡ all_kept runs.old.items) }
     ensures undoes { Undoes offer.now.plan.now (all_kept runs.old.items)
         (take (length runs.old.items) (all_kept runs.new.items)) }
 {
@@ -45,6 +48,28 @@ fn handle(
         }
         None => Ok(false),
     }
+}
+
+/// All that an event does and tells, as `handle` has it. What was told before is forgotten.
+pub(crate) fn handle_told(
+    offer: &Offer,
+    runs: &mut Vec<Run>,
+    count: u32,
+    list: &mut Vec<Move>,
+) -> Result<bool, Memory>
+    requires offer { IsOffer offer.now }
+    requires ready { IsReady offer.now.plan.now offer.now.number count (all_kept runs.old.items) }
+    requires below { count < offer.now.number }
+    ensures handled { IfOk result (λ began. IsHandled offer.now.plan.now (numbered offer.now) count
+        (all_kept runs.old.items) began (all_kept runs.new.items) (all_seen list.new.items)) }
+    ensures quiet { OnOk result
+        (all_seen list.new.items ≡ [] → all_kept runs.new.items ≡ all_kept runs.old.items) }
+    ensures undoes { Undoes offer.now.plan.now (all_kept runs.old.items)
+        (take (length runs.old.items) (all_kept runs.new.items)) }
+{
+    list.clear();
+    let mut shared = None;
+    handle(offer, &mut shared, runs, count, list)
 }
 
 /// All that an event does and tells, as `handle` has it, and what the runs want that were open when it
@@ -61,6 +86,8 @@ pub(crate) fn handle_all(
     requires below { count < offer.now.number }
     ensures handled { IfOk result (λ began. IsHandled offer.now.plan.now (numbered offer.now) count
         (all_kept runs.old.items) began (all_kept runs.new.items) (all_seen moves.new.list.items)) }
+    ensures quiet { OnOk result (all_seen moves.new.list.items ≡ []
+        → all_kept runs.new.items ≡ all_kept runs.old.items) }
     ensures wanted { OnOk result ((s : State)
         → s.open_runs ≡ map started (all_kept runs.old.items) → s.started ≡ count
         → moves.new.wanted.items ≡ definitions.still_wanted offer.now.plan.now s

@@ -9,6 +9,7 @@ mod binding;
 mod completing;
 mod found;
 mod handling;
+mod known;
 mod laws;
 mod leaving;
 mod matcher;
@@ -22,6 +23,7 @@ mod turns;
 mod wanting;
 
 pub use found::{match_of, places_of};
+pub use known::{Known, known_of};
 pub use laws::{
     abandonments_are_told, closing_ends_runs, completions_are_matches, handling_is_lawful,
     moves_are_handling, moves_lead_on, numbers_stay_below, one_event_more, open_has_no_match,

@@ -8,9 +8,10 @@ ghost use Rattle.sp_match.specs.public.Seen.{all_seen, seen_run};
 
 use crate::Memory;
 use crate::all_runs::{copies, same_runs};
-use crate::handling::handle_all;
+use crate::handling::{handle_all, handle_told};
+use crate::known::Known;
 use crate::leaving::abandon_all;
-use crate::moves::Moves;
+use crate::moves::{Move, Moves};
 use crate::offer::Offer;
 use crate::run::Run;
 use crate::settling::{settle, undo};
@@ -66,6 +67,8 @@ fn count_after(count: u32, began: bool) -> u32
 
 impl Matcher {
     ghost use Rattle.sp_plan.specs.Compiled.{IsCompiled};
+    ghost use Rattle.sp_plan.specs.Windows.{Numbered};
+    ghost use Rattle.sp_match.specs.public.Known.{IsKnown};
     ghost use Rattle.sp_match.specs.public.Matching.{IsAfter, SameMatching, SameRuns, TellsClosing, TellsEvent, TellsWanted, left_at, runs_of, shown};
 
     /// No run is open, and none has started. Takes no memory.
@@ -130,16 +133,78 @@ impl Matcher {
             plan: &self.plan,
             number,
             event,
+            known: Known::Any,
         };
         match handle_all(&offer, &mut self.runs, &mut self.lefts, self.count, moves) {
             Ok(started) => {
-                settle(&self.plan, &mut self.runs);
+                let is_quiet = moves.list.is_empty();
+                settle(&self.plan, &mut self.runs, is_quiet);
                 self.count = count_after(self.count, started);
                 Ok(())
             }
             Err(memory) => {
                 undo(&mut self.runs, open);
                 moves.clear();
+                Err(memory)
+            }
+        }
+    }
+
+    /// Whether an event of which this is known changes nothing: no run takes it, none leaves, and it
+    /// starts none.
+    pub fn ignores(&self, known: Known) -> bool
+        ensures stands { IsTrue result → (x : Numbered) → IsKnown self.now.plan x.1 known
+            → IsAfter x self.now self.now }
+        ensures told { IsTrue result → (x : Numbered) → IsKnown self.now.plan x.1 known
+            → TellsEvent x self.now [] }
+    {
+        match known {
+            Known::Never => true,
+            Known::Onward => self.runs.is_empty(),
+            Known::Any => false,
+        }
+    }
+
+    /// Handles the next visible event, of which this is known, as `offer_into` does, and tells its moves,
+    /// but not what the runs want. After want of memory the matcher is as before, and there are no moves.
+    pub fn offer_known(
+        &mut self,
+        alloc: Global,
+        number: u32,
+        event: &Event,
+        known: Known,
+        list: &mut Vec<Move>,
+    ) -> Result<(), Memory>
+        requires fits { fits self.old.plan event.now ≡ true }
+        requires below { Below number (runs_of self.old) }
+        requires known { IsKnown self.old.plan event.now known }
+        ensures stands { OnOk result (IsAfter (number, event.now) self.old self.new) }
+        ensures told { OnOk result
+            (TellsEvent (number, event.now) self.old (all_seen list.new.items)) }
+        ensures below { OnOk result (Below (number + 1) (runs_of self.new)) }
+        ensures plan { self.new.plan ≡ self.old.plan }
+        ensures err { OnErr result (self.new ≡ self.old) }
+        ensures cleared { OnErr result (list.new.items ≡ []) }
+    {
+        fitting_events_are_small();
+        let open = self.runs.len();
+        let offer = Offer {
+            alloc,
+            plan: &self.plan,
+            number,
+            event,
+            known,
+        };
+        match handle_told(&offer, &mut self.runs, self.count, list) {
+            Ok(started) => {
+                let is_quiet = list.is_empty();
+                settle(&self.plan, &mut self.runs, is_quiet);
+                self.count = count_after(self.count, started);
+                Ok(())
+            }
+            Err(memory) => {
+                undo(&mut self.runs, open);
+                list.clear();
                 Err(memory)
             }
         }

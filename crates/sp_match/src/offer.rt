@@ -1,9 +1,12 @@
 // An event that is offered to the runs of a window.
 ghost use Rattle.std.specs.Prelude.{◌≡◌, [], Some, IfOk, OnOk};
+ghost use Rattle.sp_plan.specs.Bounds.{IsSmall};
+ghost use Rattle.sp_plan.specs.Compiled.{IsCompiled};
 ghost use Rattle.sp_plan.specs.Runs.{takes};
 ghost use Rattle.sp_match.specs.inside.Offer.{IsOffer, IsShared, lets_leave};
 
 use crate::Memory;
+use crate::known::Known;
 use crate::run::Run;
 use crate::taking::takes;
 use sp_plan::{Event, Plan, Select, SharedEvent};
@@ -19,15 +22,30 @@ pub(crate) struct Offer<'a> {
     /// The event's number, from 1.
     pub(crate) number: u32,
     pub(crate) event: &'a Event,
+    /// What is known of it.
+    pub(crate) known: Known,
 }
 
-/// The name under which the event begins a run, if it begins one.
+/// The name under which an event begins a run, if it begins one.
+pub(crate) fn first_name(alloc: Global, plan: &Plan, event: &Event) -> Option<u8>
+    requires compiled { IsCompiled plan.now }
+    requires small { IsSmall event.now }
+    ensures { result ≡ takes plan.now [] event.now }
+{
+    let none = Run::new(alloc, 0);
+    takes(plan, &none, event)
+}
+
+/// The name under which the event begins a run, if it begins one. It isn't looked for where it is known
+/// that there is none.
 pub(crate) fn begins(offer: &Offer) -> Option<u8>
     requires { IsOffer offer.now }
     ensures { result ≡ takes offer.now.plan.now [] offer.now.event.now }
 {
-    let none = Run::new(offer.alloc, 0);
-    takes(offer.plan, &none, offer.event)
+    match offer.known {
+        Known::Never | Known::Onward => None,
+        Known::Any => first_name(offer.alloc, offer.plan, offer.event),
+    }
 }
 
 /// Whether an open run leaves that doesn't take the event: under LAST, where the event begins a run.

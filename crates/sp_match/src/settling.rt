@@ -1,5 +1,5 @@
 // The end of an event's handling: what was marked is done, or all is made as it was.
-ghost use Rattle.std.specs.Prelude.{◌≡◌, filter, map, take};
+ghost use Rattle.std.specs.Prelude.{◌≡◌, IsTrue, filter, map, take};
 ghost use Rattle.std.specs.List.{All};
 ghost use Rattle.sp_plan.specs.Compiled.{IsCompiled};
 ghost use Rattle.sp_match.specs.inside.Kept.{kept, all_kept, started, before, stays, CanUndo};
@@ -45,8 +45,8 @@ fn drop_leaving(runs: &mut Vec<Run>)
     runs.retain(|run| run.stays());
 }
 
-/// The runs that stay go on, and the others are dropped.
-pub(crate) fn settle(plan: &Plan, runs: &mut Vec<Run>)
+// The runs that stay go on, and the others are dropped.
+fn settle_changed(plan: &Plan, runs: &mut Vec<Run>)
     requires compiled { IsCompiled plan.now }
     requires good { All (Good plan.now) (all_kept runs.old.items) }
     ensures runs { map started (all_kept runs.new.items) ≡ open_runs (all_kept runs.old.items) }
@@ -56,5 +56,20 @@ pub(crate) fn settle(plan: &Plan, runs: &mut Vec<Run>)
     drop_leaving(runs);
     for run in runs.iter_mut() {
         settle_run(plan, run);
+    }
+}
+
+/// The runs that stay go on, and the others are dropped. Where the event did nothing to any run, they
+/// aren't gone through.
+pub(crate) fn settle(plan: &Plan, runs: &mut Vec<Run>, is_quiet: bool)
+    requires compiled { IsCompiled plan.now }
+    requires good { All (Good plan.now) (all_kept runs.old.items) }
+    requires quiet { IsTrue is_quiet → All IsIdle (all_kept runs.old.items) }
+    ensures runs { map started (all_kept runs.new.items) ≡ open_runs (all_kept runs.old.items) }
+    ensures good { All (Good plan.now) (all_kept runs.new.items) }
+    ensures idle { All IsIdle (all_kept runs.new.items) }
+{
+    if !is_quiet {
+        settle_changed(plan, runs);
     }
 }

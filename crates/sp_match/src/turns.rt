@@ -114,6 +114,8 @@ pub(crate) fn offer_to_all(
     requires none { list.old.items ≡ [] }
     ensures going { IfOk result (λ r. AllHadTurns offer.now.plan.now (numbered offer.now)
         (all_kept runs.old) (all_kept runs.new) (all_seen list.new.items) r) }
+    ensures quiet { OnOk result
+        (all_seen list.new.items ≡ [] → all_kept runs.new ≡ all_kept runs.old) }
     ensures shared { IsShared offer.now shared.new }
     ensures undoes { Undoes offer.now.plan.now (all_kept runs.old) (all_kept runs.new) }
 {

@@ -4,3 +4,4 @@ pub mod Sweeping
 pub mod Spanning
 pub mod Feeding
 pub mod Adding
+pub mod MoreIsKnown

@@ -2,3 +2,4 @@ pub mod Marked
 pub mod Unconsumed
 pub mod Completed
 pub mod Spans
+pub mod Learned

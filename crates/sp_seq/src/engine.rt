@@ -8,8 +8,9 @@ ghost use Rattle.sp_plan.specs.Windows.{closed};
 ghost use Rattle.sp_window.specs.Standing.{Stands};
 ghost use Rattle.sp_seq.specs.Spans.{IsSpan};
 
-use crate::window::{Window, consume, match_window};
-use sp_match::{Matcher, Moves};
+use crate::learning::learn;
+use crate::window::{Seats, Window, consume, match_window};
+use sp_match::Matcher;
 use sp_plan::{Event, Match, Memory, Plan};
 use sp_window::{Windows, closed_come_first, windows_hold};
 use std::alloc::Global;
@@ -72,8 +73,8 @@ fn behind(matches: &[Match], count: usize) -> &[Match]
     &matches[count..]
 }
 
-// The matches of the closed windows. The flags of the consumed events, and the matcher, are made once
-// for all windows.
+// The matches of the closed windows. The flags of the consumed events, what is known of each event, and the
+// matcher are made once for all windows.
 fn match_windows(
     alloc: Global,
     plan: Arc<Plan>,
@@ -87,20 +88,26 @@ fn match_windows(
     requires fit { AllFit (arc_value plan) events.now }
     ensures { IfOk result (λ matches. matches.items ≡ (whole (arc_value plan) events.now windows.now.ended).matches) }
 {
-    let mut matcher = Matcher::new(alloc, plan)?;
-    let mut moves = Moves::new(alloc);
+    let mut matcher = Matcher::new(alloc, plan.clone()?)?;
+    let mut moves = Vec::new(alloc);
+    let mut known = Vec::with_capacity(alloc, events.len())?;
     let mut consumed = vec![in alloc; false; events.len()]?;
     let mut matches = Vec::new(alloc);
     for count in 0..windows.closed() {
         let earlier = matches.len();
         let window = closed_window(windows, events, count + 1);
+        learn(alloc, &plan, events, window.first, window.end, &mut known)?;
+        let seats = Seats {
+            events,
+            known: &known,
+            consumed: &consumed,
+        };
         match_window(
             alloc,
             &mut matcher,
             &mut moves,
-            events,
+            &seats,
             window,
-            &consumed,
             &mut matches,
         )?;
         consume(&mut consumed, behind(&matches, earlier));

@@ -5,6 +5,7 @@
 
 mod engine;
 mod found;
+mod learning;
 mod window;
 
 pub use engine::plain;

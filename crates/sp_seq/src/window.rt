@@ -6,9 +6,10 @@ ghost use Rattle.sp_plan.specs.Runs.{state};
 ghost use Rattle.sp_seq.specs.Marked.{IsMarked};
 ghost use Rattle.sp_seq.specs.Unconsumed.{unconsumed};
 ghost use Rattle.sp_seq.specs.Completed.{with_matches};
+ghost use Rattle.sp_seq.specs.Learned.{AllKnown};
 
 use crate::found::add_matches;
-use sp_match::{Matcher, Moves, completions_are_matches, runs_are_sound};
+use sp_match::{Known, Matcher, Move, completions_are_matches, runs_are_sound};
 use sp_plan::{Event, Match, Memory};
 use std::alloc::Global;
 
@@ -42,34 +43,47 @@ pub(crate) fn consume(consumed: &mut [bool], matches: &[Match])
     }
 }
 
-// Adds the matches of one window over the events that are not consumed. The matcher and the moves are
-// begun anew: only their room is used again.
+// The events, what is known of each, and which are consumed.
+#[derive(Clone, Copy, Drop)]
+pub(crate) struct Seats<'a> {
+    pub(crate) events: &'a [Event],
+    // at least of those that the window has
+    pub(crate) known: &'a [Known],
+    pub(crate) consumed: &'a [bool],
+}
+
+// Adds the matches of one window over the events that are not consumed. The matcher and the list of moves
+// are begun anew: only their room is used again. Events that change nothing are passed over.
 pub(crate) fn match_window(
     alloc: Global,
     matcher: &mut Matcher,
-    moves: &mut Moves,
-    events: &[Event],
+    moves: &mut Vec<Move>,
+    seats: &Seats,
     window: Window,
-    consumed: &[bool],
     matches: &mut Vec<Match>,
 ) -> Result<(), Memory>
-    requires fit { AllFit matcher.old.plan events.now }
-    requires few { length events.now ≤ 1048576 }
+    requires fit { AllFit matcher.old.plan seats.now.events.now }
+    requires known { AllKnown matcher.old.plan seats.now.events.now seats.now.known.now }
+    requires few { length seats.now.events.now ≤ 1048576 }
     requires ordered { window.first ≤ window.end }
-    requires within { window.end ≤ length events.now }
-    requires same { length consumed.now ≡ length events.now }
+    requires within { window.end ≤ length seats.now.events.now }
+    requires learned { window.end ≤ length seats.now.known.now }
+    requires same { length seats.now.consumed.now ≡ length seats.now.events.now }
     ensures plan { matcher.new.plan ≡ matcher.old.plan }
     ensures more { OnOk result (length matches.old.items ≤ length matches.new.items) }
-    ensures matches { OnOk result ((before : List ℕ) → IsMarked before consumed.now
-        → matches.new.items ≡ with_matches matcher.old.plan window.number matches.old.items (state matcher.old.plan (unconsumed before events.now window.first window.end))) }
+    ensures matches { OnOk result ((before : List ℕ) → IsMarked before seats.now.consumed.now
+        → matches.new.items ≡ with_matches matcher.old.plan window.number matches.old.items (state matcher.old.plan (unconsumed before seats.now.events.now window.first window.end))) }
 {
     completions_are_matches();
     runs_are_sound();
     matcher.clear();
     for i in window.first..window.end {
-        if !consumed[i] {
-            matcher.offer_into(alloc, (i + 1) as u32, &events[i], moves)?;
-            add_matches(alloc, window.number, &moves.list, matches)?;
+        if !seats.consumed[i] {
+            let known = seats.known[i];
+            if !matcher.ignores(known) {
+                matcher.offer_known(alloc, (i + 1) as u32, &seats.events[i], known, moves)?;
+                add_matches(alloc, window.number, moves, matches)?;
+            }
         }
     }
     Ok(())

@@ -6,6 +6,7 @@ use Rattle.sp_plan.specs.Compiled.{IsCompiled}
 use Rattle.sp_plan.specs.Windows.{Numbered}
 use Rattle.sp_plan.specs.Runs.{leaves}
 use Rattle.sp_match.specs.declared.offer.Offer.{Offer}
+use Rattle.sp_match.specs.public.Known.{IsKnown}
 
 -- the event with its number
 abbrev pub numbered : Offer → Numbered
@@ -15,10 +16,11 @@ numbered o = (o.number, o.event.now)
 abbrev pub lets_leave : Offer → Bool
 lets_leave o = leaves o.plan.now.select o.plan.now o.event.now
 
--- The plan is compiled, and the event's values are small.
+-- The plan is compiled, the event's values are small, and what is known of it is so.
 pub record IsOffer (o : Offer) : Type 0 where
   pub compiled : IsCompiled o.plan.now
   pub small : IsSmall o.event.now
+  pub known : IsKnown o.plan.now o.event.now o.known
 
 -- What runs share of an event is the event, where one has bound it.
 abbrev pub IsShared : Offer → Option Event → Type 0

@@ -17,6 +17,7 @@ use Rattle.sp_match.specs.public.Seen.{seen}
 use Rattle.sp_match.proofs.TakenIsNamed.{takes_named}
 use Rattle.sp_match.proofs.RunsUndo.{undoes_on}
 use Rattle.sp_match.proofs.EventIsHandled.{none_starts, one_starts, started_name}
+use Rattle.sp_match.proofs.QuietTurns.{never_empty}
 use Rattle.sp_match.proofs.handling.handle.Goals as goal
 
 -- what is known when all runs had their turn, of the vectors of runs before and after
@@ -101,6 +102,7 @@ returns-in_ok-open-in-Some c =
     record {
       handled = a_run q x c.args.count c.args.runs.now.items c.offer_to_all.new.runs now ts c.in_ok-so_far.so_far c.in-Some.name c.start_name.result (map kept c.open.new.runs.items) (map seen c.open.new.list.items) t c.in-Some.is
           c.in_ok-open-in-Some.ensures.runs c.in_ok-open-in-Some.ensures.told c.in_ok-open-in-Some.ensures.good;
+      quiet = λ e. absurd (never_empty ts (runs_binding_told q c.in-Some.name x (length now) (map kept now ++ empty (c.args.count + 1) ∷ [])) (OpenedTold (c.args.count + 1)) (sym c.in_ok-open-in-Some.ensures.told ∙ e));
       undoes = undone_more q x c.args.count c.args.runs.now.items c.offer_to_all.new.runs now ts c.in_ok-so_far.so_far c.start_name.result (map kept c.open.new.runs.items) t c.in_ok-open-in-Some.ensures.undoes;
     }
 
@@ -113,6 +115,11 @@ returns-in-None-clause-handled c =
     ts c.in_ok-so_far.so_far c.start_name.result c.requires.ready c.deref_mut.ensures.value (c.offer_to_all.auto.runs ∙ c.deref_mut.ensures.len) c.deref_mut.ensures.len
     c.deref.ensures.value c.in_ok-so_far.ensures.undoes c.in_ok-so_far.ensures.going c.start_name.ensures in
     no_run q x c.args.count c.args.runs.now.items c.offer_to_all.new.runs (take c.args.runs.now.len (c.offer_to_all.new.runs ++ drop (length c.offer_to_all.new.runs) c.args.runs.now.items)) ts c.in_ok-so_far.so_far c.start_name.result t c.in-None.is
+
+pub returns-in-None-clause-quiet : goal.returns-in-None-clause-quiet
+returns-in-None-clause-quiet c = λ e.
+    let new = c.offer_to_all.new.runs in
+    ap (map kept) (take_at new (drop (length new) c.args.runs.now.items) c.args.runs.now.len (c.offer_to_all.auto.runs ∙ c.deref_mut.ensures.len)) ∙ c.in_ok-so_far.ensures.quiet e ∙ ap (map kept) c.deref_mut.ensures.value
 
 pub returns-in_err-so_far-clause-undoes : goal.returns-in_err-so_far-clause-undoes
 returns-in_err-so_far-clause-undoes c = grind (arith, common_steps)

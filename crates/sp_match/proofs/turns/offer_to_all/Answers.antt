@@ -1,4 +1,4 @@
-use Rattle.std.proofs.Common.{◌≡◌, ℕ, ◌<◌, List, map, length, refl, sym, ap, subst, arith}
+use Rattle.std.proofs.Common.{◌≡◌, ℕ, ◌<◌, List, map, length, refl, sym, ap, subst, ◌∙◌, arith}
 use Rattle.std.proofs.lemmas.List.{length-map}
 use Rattle.sp_plan.specs.Windows.{Numbered}
 use Rattle.sp_plan.specs.Moves.{Told}
@@ -8,6 +8,8 @@ use Rattle.sp_match.specs.inside.Going.{Going, standing}
 use Rattle.sp_match.specs.declared.turns.Reception.TheVariants.{Passed}
 use Rattle.sp_match.proofs.RunsUndo.{all_stay, undoes_on}
 use Rattle.sp_match.proofs.AllTurnsGoOn.{below_at_hand, going_more, going_start, idle_at_hand}
+use Rattle.sp_match.specs.inside.Offer.{lets_leave}
+use Rattle.sp_match.proofs.QuietTurns.{turn_quiet}
 use Rattle.sp_match.proofs.turns.offer_to_all.Goals as goal
 
 pub loop-at-init : goal.loop-at-init
@@ -18,6 +20,7 @@ loop-at-init c =
     let none = ap (map seen) c.requires.none in
     record {
       going = λ s is. subst (λ (l : List Told). Going q x s old 0 old l Passed) (sym none) (going_start q x s c.args.offer.now.number c.requires.ready.0 old c.requires.ready.1 is);
+      quiet = λ e. refl;
       shared = c.requires.shared;
       undoes = all_stay q old c.requires.ready.1.good;
     }
@@ -52,6 +55,10 @@ loop-at-preserved c =
     record {
       going = λ s is. going_more q x s c.requires.ready.0 c.args.offer.now.number c.loop-at.at old (map kept c.loop-at.runs) (map kept c.turn.new.runs) (map seen c.loop-at.list.items) (map seen c.turn.new.list.items)
           c.loop-at.so_far c.in_ok-so_far.so_far c.requires.ready.1 within c.loop-at.invariant.undoes (c.loop-at.invariant.going s is) c.in_ok-so_far.ensures.turned;
+      quiet = λ e.
+          let turn = turn_quiet q (lets_leave c.args.offer.now) c.loop-at.at x (map kept c.loop-at.runs) (map kept c.turn.new.runs) (map seen c.loop-at.list.items) (map seen c.turn.new.list.items) c.loop-at.so_far c.in_ok-so_far.so_far
+          c.in_ok-so_far.ensures.turned e in
+          turn.1 ∙ c.loop-at.invariant.quiet turn.0;
       shared = c.in_ok-so_far.ensures.shared;
       undoes = undoes_on q old (map kept c.loop-at.runs) (map kept c.turn.new.runs) c.loop-at.invariant.undoes c.in_ok-so_far.ensures.undoes;
     }
@@ -64,6 +71,7 @@ returns c =
     let end : c.loop-at.at ≡ length old = omega (arith, c.loop-at-test.false, c.loop-at.auto.at-end, length-map c.args.runs.now kept) in
     record {
       going = λ s is. subst (λ (i : ℕ). Going q x s old i (map kept c.loop-at.runs) (map seen c.loop-at.list.items) c.loop-at.so_far) end (c.loop-at.invariant.going s is);
+      quiet = c.loop-at.invariant.quiet;
       shared = c.loop-at.invariant.shared;
       undoes = c.loop-at.invariant.undoes;
     }

@@ -1,4 +1,4 @@
-use Rattle.std.proofs.Common.{◌≡◌, map}
+use Rattle.std.proofs.Common.{◌≡◌, [], map}
 use Rattle.sp_plan.specs.Runs.{State}
 use Rattle.sp_match.specs.inside.Kept.{kept, started}
 use Rattle.sp_match.specs.inside.Good.{Undoes}
@@ -10,6 +10,7 @@ use Rattle.sp_match.proofs.turns.offer_to_all.Given as goal
 abbrev pub invariant-loop-at : goal.invariant-loop-at
 invariant-loop-at l = record {
   going : (s : State) → s.open_runs ≡ map started (map kept l.initial.runs) → Going l.offer.plan.now (l.offer.number, l.offer.event.now) s (map kept l.initial.runs) l.at (map kept l.runs) (map seen l.list.items) l.so_far;
+  quiet : map seen l.list.items ≡ [] → map kept l.runs ≡ map kept l.initial.runs;
   shared : IsShared l.offer l.shared;
   undoes : Undoes l.offer.plan.now (map kept l.initial.runs) (map kept l.runs);
 }

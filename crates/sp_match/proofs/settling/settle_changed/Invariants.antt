@@ -4,7 +4,7 @@ use Rattle.sp_match.specs.declared.run.Turn.TheVariants.{Idle}
 use Rattle.sp_match.specs.declared.run.Fate.TheVariants.{Stays}
 use Rattle.sp_match.specs.inside.Kept.{kept, started}
 use Rattle.sp_match.specs.inside.Good.{Good}
-use Rattle.sp_match.proofs.settling.settle.Given as goal
+use Rattle.sp_match.proofs.settling.settle_changed.Given as goal
 
 abbrev pub invariant-loop-run : goal.invariant-loop-run
 invariant-loop-run l = record {

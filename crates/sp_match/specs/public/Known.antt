@@ -1,0 +1,24 @@
+-- What is known of an event before any run is offered it.
+use Rattle.std.specs.Prelude.{◌≡◌, Bool, [], None, is_none, if◌then◌else◌}
+use Rattle.std.specs.List.{list_any}
+use Rattle.sp_plan.specs.declared.event.Event.{Event}
+use Rattle.sp_plan.specs.declared.plan.Name.{Name}
+use Rattle.sp_plan.specs.declared.plan.Plan.{Plan}
+use Rattle.sp_plan.specs.Known.{may_hold}
+use Rattle.sp_plan.specs.Runs.{Run, takes}
+use Rattle.sp_match.specs.declared.known.Known.{Known}
+use Rattle.sp_match.specs.declared.known.Known.TheVariants.{Never, Onward, Any}
+
+-- what is known of the event is so
+abbrev pub IsKnown : Plan → Event → Known → Type 0
+IsKnown q e Never = (r : Run) → takes q r e ≡ None
+IsKnown q e Onward = takes q [] e ≡ None
+IsKnown q e Any = Unit {0}
+
+-- whether a name's predicate may hold of the event
+abbrev pub may_take : Event → Name → Bool
+may_take e name = may_hold name.pred e
+
+-- as much as is known of the event: that no predicate may hold of it, or else that a run that has bound nothing doesn't take it
+abbrev pub known_by : Plan → Event → Known
+known_by q e = if list_any (may_take e) q.names then (if is_none (takes q [] e) then Onward else Any) else Never

@@ -1,0 +1,55 @@
+// What is known of an event before any run is offered it.
+ghost use Rattle.std.specs.Prelude.{◌≡◌, true};
+ghost use Rattle.std.specs.List.{list_any};
+ghost use Rattle.sp_plan.specs.Bounds.{IsSmall};
+ghost use Rattle.sp_plan.specs.Compiled.{IsCompiled};
+ghost use Rattle.sp_plan.specs.Events.{fits};
+ghost use Rattle.sp_match.specs.public.Known.{IsKnown, known_by, may_take};
+
+use crate::offer::first_name;
+use sp_plan::{Event, Plan, fitting_events_are_small, may_hold, what_may_not_hold_does_not};
+use std::alloc::Global;
+
+/// What is known of an event by the plan alone, whatever the open runs have bound.
+#[derive(Clone, Copy, Drop)]
+pub enum Known {
+    /// No run takes it, and it begins none.
+    Never,
+    /// It begins no run. One that is open may take it.
+    Onward,
+    /// No more than that: it may begin a run, and one that is open may take it.
+    Any,
+}
+
+// Whether some name's predicate may hold of the event.
+fn may_be_taken(alloc: Global, plan: &Plan, event: &Event) -> bool
+    requires compiled { IsCompiled plan.now }
+    requires small { IsSmall event.now }
+    ensures { result ≡ list_any (may_take event.now) plan.now.names }
+{
+    for name in plan.names.as_slice() {
+        if may_hold(alloc, &name.pred, event) {
+            return true;
+        }
+    }
+    false
+}
+
+/// What is known of an event that fits the plan, which is compiled: as much as can be said before any
+/// event is bound. Takes no memory.
+pub fn known_of(alloc: Global, plan: &Plan, event: &Event) -> Known
+    requires compiled { IsCompiled plan.now }
+    requires fits { fits plan.now event.now ≡ true }
+    ensures value { result ≡ known_by plan.now event.now }
+    ensures sure { IsKnown plan.now event.now result }
+{
+    fitting_events_are_small();
+    what_may_not_hold_does_not();
+    if !may_be_taken(alloc, plan, event) {
+        Known::Never
+    } else if first_name(alloc, plan, event).is_none() {
+        Known::Onward
+    } else {
+        Known::Any
+    }
+}
