@@ -50,13 +50,13 @@ row_given old mid new size bytes ends same is after =
     (after ∙ ap (λ (left : Left). left_behind left (size + 1)) same)
 
 -- a fault is that of the row that a line feed ends
-pub fault_given : (old mid : Left) (size : ℕ) (fault : CutFault) → EndsAt false old.bytes size → mid ≡ old → AnswersFor (ended_part (part_of mid size)) (mid.given + 1) (Err fault) → IsFault old fault
-fault_given old mid size fault ends same answers = by fault (subst (λ (left : Left). AnswersFor (ended_part (part_of left size)) (left.given + 1) (Err fault)) same answers)
+pub fault_given : (old mid : Left) (size : ℕ) (bytes : List ℕ) (fault : CutFault) → EndsAt false old.bytes size → mid ≡ old → AnswersFor (ended_part (part_of mid size)) (mid.given + 1) bytes (Err fault) → IsFault old fault
+fault_given old mid size bytes fault ends same answers = by fault (subst (λ (left : Left). AnswersFor (ended_part (part_of left size)) (left.given + 1) bytes (Err fault)) same answers)
   where
     begins : (cut : CutRow) → ended_part (part_of old size) ≡ cut → Begins old cut
     begins cut is = (rows_left (left_behind old (size + 1)), first_left old size ends ∙ ap (λ (first : CutRow). first ∷ rows_left (left_behind old (size + 1))) is)
 
-    by : (fault : CutFault) → AnswersFor (ended_part (part_of old size)) (old.given + 1) (Err fault) → IsFault old fault
+    by : (fault : CutFault) → AnswersFor (ended_part (part_of old size)) (old.given + 1) bytes (Err fault) → IsFault old fault
     by (LongRow n) answers = (begins long_row answers.0, answers.1)
     by (OpenQuote n) answers = (begins _ answers.0, answers.1)
     by Memory answers = tt

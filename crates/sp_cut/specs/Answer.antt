@@ -1,5 +1,5 @@
 -- What a cutter answers when it is asked for the next row.
-use Rattle.std.specs.Prelude.{ℕ, ◌≡◌, ◌+◌, Bool, false, List, [], ◌∷◌, ◌++◌, Option, Some, None}
+use Rattle.std.specs.Prelude.{ℕ, ◌≡◌, ◌+◌, Bool, true, false, List, [], ◌∷◌, ◌++◌, Option, Some, None}
 use Rattle.std.specs.Global.{Vec}
 use Rattle.sp_cut.specs.declared.fault.CutFault.{CutFault}
 use Rattle.sp_cut.specs.declared.fault.CutFault.TheVariants.{LongRow, OpenQuote, Memory}
@@ -22,6 +22,11 @@ pub record GivesRow (old : Left) (bytes : List ℕ) (new : Left) : Type 0 where
 pub record GivesNone (old new : Left) : Type 0 where
   pub none : rows_left old ≡ []
   pub same : new ≡ old
+
+-- the row, if one was found
+abbrev pub given_in : Bool → Vec ℕ → Option (Vec ℕ)
+given_in true row_found = Some row_found
+given_in false row_found = None
 
 -- a row was given, or none is left
 abbrev pub Gives : Left → Option (Vec ℕ) → Left → Type 0

@@ -1,12 +1,12 @@
 ghost use Rattle.std.specs.Prelude.{◌≡◌, ◌≤◌, ◌<◌, ◌+◌, ◌++◌, [], length, take, drop, true, false, IfOk, IfErr, OnOk, OnErr, vec_len};
-ghost use Rattle.sp_cut.specs.Answer.{Gives, IsFault};
+ghost use Rattle.sp_cut.specs.Answer.{Gives, IsFault, given_in};
 ghost use Rattle.sp_cut.specs.CutRows.{ended_part, is_even};
 ghost use Rattle.sp_cut.specs.Ends.{IsFound};
 ghost use Rattle.sp_cut.specs.Part.{part_of, left_behind, AnswersFor};
 
 use crate::ends::{Found, first_end};
 use crate::fault::{CutFault, Memory};
-use crate::part::{Rest, rest_of, row_of, without_mark};
+use crate::part::{Rest, rest_of, row_into, without_mark};
 use std::alloc::Global;
 use std::marker::Model;
 
@@ -86,45 +86,67 @@ impl Cutter {
         ensures fault { IfErr result (λ fault. IsFault self.old fault) }
         ensures unchanged { OnErr result (self.new ≡ self.old) }
     {
+        let mut row = Vec::new(alloc);
+        if self.next_into(&mut row)? {
+            Ok(Some(row))
+        } else {
+            Ok(None)
+        }
+    }
+
+    /// The same for a row whose room is used again: it gets the bytes of the next row in place of its own,
+    /// and whether there is one is told. Where there is none, and at a fault, any bytes may stand in it.
+    pub fn next_into(&mut self, row: &mut Vec<u8>) -> Result<bool, CutFault>
+        requires { self.old.given < 2097153 }
+        ensures given { IfOk result (λ found. Gives self.old (given_in found row.new) self.new) }
+        ensures fault { IfErr result (λ fault. IsFault self.old fault) }
+        ensures unchanged { OnErr result (self.new ≡ self.old) }
+    {
         match self.find_end() {
-            Found::End(size) => Ok(Some(self.give(alloc, size, 1)?)),
-            Found::Rest(quoted) => self.next_of_rest(alloc, quoted),
+            Found::End(size) => {
+                self.give(row, size, 1)?;
+                Ok(true)
+            }
+            Found::Rest(quoted) => self.next_of_rest(row, quoted),
         }
     }
 
     // The next row where no line feed ends one.
-    fn next_of_rest(&mut self, alloc: Global, quoted: bool) -> Result<Option<Vec<u8>>, CutFault>
+    fn next_of_rest(&mut self, row: &mut Vec<u8>, quoted: bool) -> Result<bool, CutFault>
         requires number { self.old.given < 2097153 }
         requires rest { IsFound false self.old.bytes (Found.Rest quoted) }
-        ensures given { IfOk result (λ found. Gives self.old found self.new) }
+        ensures given { IfOk result (λ found. Gives self.old (given_in found row.new) self.new) }
         ensures fault { IfErr result (λ fault. IsFault self.old fault) }
         ensures unchanged { OnErr result (self.new ≡ self.old) }
     {
         let size = self.len();
-        let row = self.given + 1;
+        let number = self.given + 1;
         match rest_of(self.part(size), self.ended, quoted) {
-            Rest::Long => Err(CutFault::LongRow { row }),
-            Rest::Nothing => Ok(None),
-            Rest::OpenQuote => Err(CutFault::OpenQuote { row }),
-            Rest::Row => Ok(Some(self.give(alloc, size, 0)?)),
+            Rest::Long => Err(CutFault::LongRow { row: number }),
+            Rest::Nothing => Ok(false),
+            Rest::OpenQuote => Err(CutFault::OpenQuote { row: number }),
+            Rest::Row => {
+                self.give(row, size, 0)?;
+                Ok(true)
+            }
         }
     }
 
     // Gives the first bytes as a row; with them go as many line feeds as end it.
-    fn give(&mut self, alloc: Global, size: usize, feeds: usize) -> Result<Vec<u8>, CutFault>
+    fn give(&mut self, row: &mut Vec<u8>, size: usize, feeds: usize) -> Result<(), CutFault>
         requires number { self.old.given < 2097153 }
         requires within { size + feeds ≤ length self.old.bytes }
-        ensures row { AnswersFor (ended_part (part_of self.old size)) (self.old.given + 1) result }
+        ensures row { AnswersFor (ended_part (part_of self.old size)) (self.old.given + 1) row.new.items result }
         ensures given { OnOk result (self.new ≡ left_behind self.old (size + feeds)) }
         ensures unchanged { OnErr result (self.new ≡ self.old) }
     {
         let number = self.given + 1;
-        let row = row_of(alloc, self.part(size), number)?;
+        row_into(row, self.part(size), number)?;
         self.start += size + feeds;
         self.scanned = 0;
         self.quoted = false;
         self.given = number;
-        Ok(row)
+        Ok(())
     }
 
     // Where the next row ends; the bytes gone through are noted.

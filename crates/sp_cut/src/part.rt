@@ -4,7 +4,6 @@ ghost use Rattle.sp_cut.specs.CutRows as cut;
 ghost use Rattle.sp_cut.specs.Part.{AnswersFor, rows_of_rest};
 
 use crate::fault::CutFault;
-use std::alloc::Global;
 
 // The most bytes that a row may have.
 const ROW: usize = 65_536;
@@ -38,15 +37,16 @@ pub(crate) fn rest_of(rest: &[u8], ended: bool, quoted: bool) -> Rest
     if quoted { Rest::OpenQuote } else { Rest::Row }
 }
 
-/// The row that a part is, where it has the number.
-pub(crate) fn row_of(alloc: Global, part: &[u8], row: u32) -> Result<Vec<u8>, CutFault>
-    ensures { AnswersFor (ended_part part.now) row result }
+/// The row that a part is, where it has the number, in place of the bytes that were there.
+pub(crate) fn row_into(row: &mut Vec<u8>, part: &[u8], number: u32) -> Result<(), CutFault>
+    ensures { AnswersFor (ended_part part.now) number row.new.items result }
 {
     if is_long(part) {
-        return Err(CutFault::LongRow { row });
+        return Err(CutFault::LongRow { row: number });
     }
-    match Vec::from_slice(alloc, without_cr(part)) {
-        Ok(bytes) => Ok(bytes),
+    row.clear();
+    match row.extend_from_slice(without_cr(part)) {
+        Ok(()) => Ok(()),
         Err(_) => Err(CutFault::Memory),
     }
 }

@@ -27,6 +27,8 @@ pub(crate) enum Taken {
 pub(crate) struct Reader {
     cutter: Cutter,
     kept: Kept,
+    // Room for the bytes of a row.
+    row: Vec<u8>,
 }
 
 impl Reader {
@@ -45,6 +47,7 @@ impl Reader {
         Ok(Reader {
             cutter: Cutter::new(alloc),
             kept: Kept::new(alloc, plan)?,
+            row: Vec::new(alloc),
         })
     }
 
@@ -117,9 +120,9 @@ impl Reader {
         }
         // a law: what is no row now is none whatever comes behind
         rows_stay();
-        match self.cutter.next_row(alloc) {
-            Ok(None) => Ok(Taken::NoRow),
-            Ok(Some(row)) => match self.kept.take(alloc, &row)? {
+        match self.cutter.next_into(&mut self.row) {
+            Ok(false) => Ok(Taken::NoRow),
+            Ok(true) => match self.kept.take(alloc, self.row.as_slice())? {
                 Some(event) => Ok(Taken::Event(event)),
                 None => Ok(Taken::Nothing),
             },

@@ -12,6 +12,7 @@ pub mod PlacedColumns
 pub mod FirstPlace
 pub mod RowValues
 pub mod PlainRows
+pub mod ByteByByte
 pub mod SmallNumbers
 pub mod FitEvents
 pub mod Times

@@ -141,7 +141,7 @@ marked a b c mark =
     (bytes_eq-Decides (a ∷ b ∷ c ∷ []) (239 ∷ 187 ∷ 191 ∷ [])).1 same
 
 -- bytes without a byte order mark stay whole
-unmarked : (bytes : List ℕ) → is_mark (take 3 bytes) ≡ false → strip_bom bytes ≡ bytes
+pub unmarked : (bytes : List ℕ) → is_mark (take 3 bytes) ≡ false → strip_bom bytes ≡ bytes
 unfolding strip_bom
 unmarked [] other = refl
 unmarked (a ∷ []) other = refl

@@ -1,4 +1,5 @@
 pub mod Cells
+pub mod Quoted
 pub mod Numbers
 pub mod Rows
 pub mod Codes

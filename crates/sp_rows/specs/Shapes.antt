@@ -5,8 +5,8 @@ use Rattle.std.specs.Option.{option_map}
 use Rattle.csv.specs.Records.{fields_of}
 use Rattle.sp_rows.specs.declared.split.Fields.{Fields}
 use Rattle.sp_rows.specs.declared.split.Fields.TheVariants as given
-use Rattle.sp_rows.specs.declared.cells.Cells.{Cells}
-use Rattle.sp_rows.specs.declared.cells.Cells.TheVariants as read
+use Rattle.sp_rows.specs.declared.quoted.Cells.{Cells}
+use Rattle.sp_rows.specs.declared.quoted.Cells.TheVariants as read
 use Rattle.sp_plan.specs.declared.plan.Column.{Column}
 use Rattle.sp_rows.specs.declared.header.Header.{Header}
 use Rattle.sp_rows.specs.declared.header.Header.TheVariants as header
@@ -20,13 +20,13 @@ use Rattle.sp_rows.specs.Rows.{ColumnAt, Cell, number, text, fault, place_of}
 -- the cells of a row
 abbrev pub fields_in : Fields → List (List ℕ)
 fields_in (given.Cut row nexts) = pieces row.now 0 nexts.now
-fields_in (given.Read record_read) = fields_of record_read
+fields_in (given.Read record_read) = fields_of record_read.now
 
--- what a row reads as
-abbrev pub shape_of : Cells → RowCells
-shape_of read.Blank = blank
-shape_of (read.One record_read) = one (fields_of record_read)
-shape_of read.Several = several
+-- what a row reads as, where these are the cells of one record
+abbrev pub shape_of : Cells → List (List ℕ) → RowCells
+shape_of read.Blank cells = blank
+shape_of read.One cells = one cells
+shape_of read.Several cells = several
 
 -- what the header gives: the place of each column, or the name of the first column that it lacks
 abbrev pub HeaderIs : List (List ℕ) → List Column → Header → Type 0

@@ -9,6 +9,8 @@ mod fault;
 mod header;
 mod numbers;
 mod progress;
+mod quoted;
+mod reading;
 mod rows;
 mod split;
 mod texts;

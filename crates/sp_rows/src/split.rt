@@ -1,4 +1,4 @@
-// The cells of a row, cut at its commas or read by the crate csv.
+// The cells of a row, cut at its commas or read byte by byte.
 ghost use Rattle.std.specs.Prelude.{◌≡◌, ◌≢◌, ◌<◌, ◌+◌, ◌++◌, ◌∷◌, ◌==◌, ◌^◌, true, false, length, [], if◌then◌else◌, slice_index_or, OnOk, IfOk};
 ghost use Rattle.std.specs.List.{slice_get};
 ghost use Rattle.std.specs.Option.{option_map};
@@ -14,8 +14,8 @@ use sp_plan::Memory;
 pub(crate) enum Fields<'a> {
     /// Cut out of a row, with the place behind each cell's comma, as if one stood behind the last too.
     Cut(&'a [u8], &'a [usize]),
-    /// As the crate csv read them.
-    Read(ByteRecord),
+    /// Read byte by byte.
+    Read(&'a ByteRecord),
 }
 
 // Whether the byte is a quote or one of a line's end.

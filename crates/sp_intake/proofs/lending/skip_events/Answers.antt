@@ -1,9 +1,14 @@
+use denote.Param.Send.{sendable}
 use Rattle.std.proofs.Common.{rules}
 use Rattle.std.specs.Arc.{arc_value}
 use Rattle.sp_intake.specs.Asked.{standing}
 use Rattle.sp_intake.specs.Standing.{ReadsFrom}
 use Rattle.sp_intake.proofs.AllGiven.{so_far_at}
+use Rattle.sp_intake.proofs.Crossing.{input_sent}
 use Rattle.sp_intake.proofs.lending.skip_events.Goals as goal
+
+pub skip-requires-send-I : goal.skip-requires-send-I
+skip-requires-send-I g c κs within = search (input_sent, sendable) depth 20
 
 pub returns : goal.returns
 returns g c =

@@ -32,4 +32,4 @@ returns-in_ok-give-in-Row-clause-given c =
     let ended = ap (λ (left : Left). left.ended) c.self.view_is in
     let old = c.args.self.now in
     let rows = rest_answer old c.len-size.result c.args.quoted c.self.inside.ended c.part.result.now (row (without_cr c.part.result.now) ∷ []) c.requires.rest c.len-size.ensures c.part.ensures ended c.in-Row.ensures in
-    rest_given old c.give.new.self c.len-size.result c.part.result.now c.in_ok-give-in-Row.field-0.items c.self.inside.ended ended c.in-Row.ensures c.len-size.ensures c.part.ensures rows c.in_ok-give-in-Row.ensures.row c.in_ok-give-in-Row.ensures.given
+    rest_given old c.give.new.self c.len-size.result c.part.result.now c.give.new.row.items c.self.inside.ended ended c.in-Row.ensures c.len-size.ensures c.part.ensures rows c.in_ok-give-in-Row.ensures.row c.in_ok-give-in-Row.ensures.given
