@@ -3,6 +3,7 @@ ghost use Rattle.sp_plan.specs.Compiled.{IsCompiled};
 
 use crate::bindings::bindings;
 use crate::cutting::cut_rows;
+use crate::drill::{generated, summary};
 use crate::given::{events_of, plan_of};
 use crate::lines::{read_line, written_line};
 use crate::loads::loads;
@@ -56,6 +57,8 @@ fn answer_of_words(
         "numbers" => numbers(alloc, words, out),
         "shares" => Ok(shares(words, out)),
         "bindings" => bindings(alloc, words, out),
+        "generate" => Ok(generated(alloc, words, out)),
+        "summary" => Ok(summary(alloc, words, out)),
         "print" => Ok(printed(alloc, words, out)),
         "same" => Ok(same(alloc, words, out)),
         _ => match plan_of(alloc, words) {

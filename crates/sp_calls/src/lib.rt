@@ -11,6 +11,7 @@
 mod bindings;
 mod call;
 mod cutting;
+mod drill;
 mod given;
 mod lines;
 mod loads;

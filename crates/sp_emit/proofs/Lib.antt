@@ -6,4 +6,5 @@ mod Named
 mod Lines
 mod StateTexts
 mod WorkedStates
+mod WorkedSummary
 mod Written

@@ -1,3 +1,4 @@
 pub mod Matches
 pub mod Reading
 pub mod StateLines
+pub mod Summary
