@@ -1,0 +1,13 @@
+//! The words of a command line, read by `clap`. Which words are which command stands in `specs/Commands.antt`.
+#![tactic(auto)]
+
+mod command;
+mod options;
+mod read;
+mod values;
+
+pub use command::{Command, QuerySource, Speed, UsageFault};
+pub use read::read_words;
+
+#[cfg(test)]
+mod tests;
