@@ -17,11 +17,11 @@ both : (a b : Bool) → a ≡ true → b ≡ true → a && b ≡ true
 both true b e f = f
 both false b e f = e
 
-first : (a b : Bool) → a && b ≡ true → a ≡ true
+pub first : (a b : Bool) → a && b ≡ true → a ≡ true
 first true b e = refl
 first false b e = e
 
-second : (a b : Bool) → a && b ≡ true → b ≡ true
+pub second : (a b : Bool) → a && b ≡ true → b ≡ true
 second true b e = e
 second false b e = absurd (cc)
 
@@ -34,7 +34,7 @@ le_true a b h = search arith
 lt_from : (a b : ℕ) → nat_lt a b ≡ true → a < b
 lt_from a b h = search arith
 
-le_from : (a b : ℕ) → nat_le a b ≡ true → a ≤ b
+pub le_from : (a b : ℕ) → nat_le a b ≡ true → a ≤ b
 le_from a b h = search arith
 
 pub number-told : (least greatest : ℕ) (text : List ℕ) (n : ℕ) → IsNumber least greatest text n → number least greatest text ≡ Some n

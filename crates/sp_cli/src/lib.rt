@@ -2,11 +2,13 @@
 #![tactic(auto)]
 
 mod command;
+mod law;
 mod options;
 mod read;
 mod values;
 
 pub use command::{Command, QuerySource, Speed, UsageFault};
+pub use law::{numbers_are_within, pairs_are_found};
 pub use read::read_words;
 
 #[cfg(test)]
