@@ -1,0 +1,6 @@
+pub mod Numbers
+pub mod Found
+pub mod Walked
+pub mod PairsFound
+pub mod Within
+pub mod Worked

@@ -1,0 +1,105 @@
+-- The numbers of a command are within their limits.
+use Rattle.std.proofs.Common.{◌≡◌, ℕ, Bool, true, false, cond, List, [], ◌∷◌, Option, Some, None, ◌&&◌, nat_le, if◌then◌else◌, refl, ap, subst, arith}
+use Rattle.std.specs.Prelude.{codes, option_and_then, option_map, unwrap_or}
+use Rattle.std.specs.Str.{bytes_eq}
+use Rattle.std.specs.Str.Parse.{digits_value}
+use Rattle.clap.specs.Walk.{Row, Text, first_of}
+use Rattle.sp_cli.specs.Numbers.{number, number_or, is_numeral, is_between}
+use Rattle.sp_cli.specs.Options.{found, run_options, plain_options, trace_options, drill_options}
+use Rattle.sp_cli.specs.Commands.{Command, QuerySource, Speed, run, plain, trace, drill, with_numbers, instances_in, live_in, batch_in, predictor_in, source_in, speed_in, run_of, trace_of, drill_of, run_in, plain_in, trace_in, drill_at, run_at, plain_at, trace_at}
+use Rattle.sp_cli.specs.Limits.{IsBetween, IsSpeedWithin, IsWithin, NumbersAreWithin}
+use Rattle.sp_cli.proofs.Numbers.{first, second, le_from}
+
+-- the value of an option that is there
+is_some_of : {X : Type 0} (x y : X) → Some x ≡ Some y → x ≡ y
+is_some_of x y e = ap (λ o. unwrap_or o x) e
+
+-- what an option has where it has anything
+abbrev Has : {X : Type 0} → (X → Type 0) → Option X → Type 0
+Has {X} P o = (x : X) → o ≡ Some x → P x
+
+has_none : {X : Type 0} (P : X → Type 0) → Has P None
+has_none P x e = absurd (cc e)
+
+has_some : {X : Type 0} (P : X → Type 0) (x : X) → P x → Has P (Some x)
+has_some P x p y e = subst P (is_some_of x y e) p
+
+of_test : (least greatest v : ℕ) (t : Bool) → (t ≡ true → IsBetween least greatest v) → Has (IsBetween least greatest) (cond t (Some v) None)
+of_test least greatest v true h = has_some (IsBetween least greatest) v (h refl)
+of_test least greatest v false h = has_none (IsBetween least greatest)
+
+number_within : (least greatest : ℕ) (text : List ℕ) → Has (IsBetween least greatest) (number least greatest text)
+number_within least greatest text =
+    let v = digits_value 10 text in
+    of_test least greatest v (is_numeral text && is_between least greatest v) (λ e.
+    let between = second (is_numeral text) (is_between least greatest v) e in
+    (le_from least v (first (nat_le least v) (nat_le v greatest) between), le_from v greatest (second (nat_le least v) (nat_le v greatest) between)))
+
+number_or_within : (left_out least greatest : ℕ) → IsBetween least greatest left_out → (said : Option (List ℕ)) → Has (IsBetween least greatest) (number_or left_out least greatest said)
+number_or_within left_out least greatest within None = has_some (IsBetween least greatest) left_out within
+number_or_within left_out least greatest within (Some text) = number_within least greatest text
+
+numbers_within : (i l b : Option ℕ) (p : Text) → Has (IsBetween 0 16) i → Has (IsBetween 1 4096) l → Has (IsBetween 1 1024) b → Has IsSpeedWithin (with_numbers i l b p)
+numbers_within None l b p hi hl hb = has_none IsSpeedWithin
+numbers_within (Some i) None b p hi hl hb = has_none IsSpeedWithin
+numbers_within (Some i) (Some l) None p hi hl hb = has_none IsSpeedWithin
+numbers_within (Some i) (Some l) (Some b) p hi hl hb =
+    has_some IsSpeedWithin (record { instances = i; live = l; batch = b; predictor = p }) (record { instances = hi i refl; live = hl l refl; batch = hb b refl })
+
+live_within : (rows : List Row) → Has (IsBetween 1 4096) (live_in rows)
+live_within rows = number_or_within 64 1 4096 (omega arith, omega arith) (first_of (codes "live") rows)
+
+speed_within : (rows : List Row) → Has IsSpeedWithin (speed_in rows)
+speed_within rows = numbers_within (instances_in rows) (live_in rows) (batch_in rows) (predictor_in rows)
+    (number_or_within 2 0 16 (omega arith, omega arith) (first_of (codes "instances") rows)) (live_within rows)
+    (number_or_within 64 1 1024 (omega arith, omega arith) (first_of (codes "batch") rows))
+
+run_within : (query : Option QuerySource) (speed : Option Speed) → Has IsSpeedWithin speed → Has IsWithin (run_of query speed)
+run_within None speed h = has_none IsWithin
+run_within (Some query) None h = has_none IsWithin
+run_within (Some query) (Some speed) h = has_some IsWithin (run query speed) (h speed refl)
+
+plain_within : (query : Option QuerySource) → Has IsWithin (option_map plain query)
+plain_within None = has_none IsWithin
+plain_within (Some query) = has_some IsWithin (plain query) tt
+
+trace_within : (query : Option QuerySource) (schedule : Option Text) (live : Option ℕ) → Has (IsBetween 1 4096) live → Has IsWithin (trace_of query schedule live)
+trace_within None schedule live h = has_none IsWithin
+trace_within (Some query) None live h = has_none IsWithin
+trace_within (Some query) (Some schedule) None h = has_none IsWithin
+trace_within (Some query) (Some schedule) (Some live) h = has_some IsWithin (trace query schedule live) (h live refl)
+
+drill_within : (events seed : Option ℕ) (speed : Option Speed) → Has (IsBetween 1 1048576) events → Has (IsBetween 0 4294967295) seed → Has IsSpeedWithin speed
+    → Has IsWithin (drill_of events seed speed)
+drill_within None seed speed he hs h = has_none IsWithin
+drill_within (Some events) None speed he hs h = has_none IsWithin
+drill_within (Some events) (Some seed) None he hs h = has_none IsWithin
+drill_within (Some events) (Some seed) (Some speed) he hs h = has_some IsWithin (drill events seed speed) (he events refl, hs seed refl, h speed refl)
+
+behind : {X : Type 0} (P : X → Type 0) (read : List Row → Option X) → ((rows : List Row) → Has P (read rows)) → (o : Option (List Row)) → Has P (option_and_then read o)
+behind P read h None = has_none P
+behind P read h (Some rows) = h rows
+
+drill_at_within : (words : List Text) → Has IsWithin (drill_at words)
+drill_at_within [] = has_none IsWithin
+drill_at_within (events ∷ []) = has_none IsWithin
+drill_at_within (events ∷ seed ∷ words) = drill_within (number 1 1048576 events) (number 0 4294967295 seed) (option_and_then speed_in (found drill_options words))
+    (number_within 1 1048576 events) (number_within 0 4294967295 seed) (behind IsSpeedWithin speed_in speed_within (found drill_options words))
+
+either : (b : Bool) (one other : Option Command) → Has IsWithin one → Has IsWithin other → Has IsWithin (if b then one else other)
+either true one other h k = h
+either false one other h k = k
+
+pub numbers_are_within : NumbersAreWithin
+numbers_are_within [] = has_none IsWithin
+numbers_are_within (name ∷ words) =
+    let runs = behind IsWithin run_in (λ rows. run_within (source_in rows) (speed_in rows) (speed_within rows)) (found run_options words) in
+    let plains = behind IsWithin plain_in (λ rows. plain_within (source_in rows)) (found plain_options words) in
+    let traces = behind IsWithin trace_in (λ rows. trace_within (source_in rows) (first_of (codes "schedule") rows) (live_in rows) (live_within rows)) (found trace_options words) in
+    let is_drill = bytes_eq name (codes "drill") in
+    let is_trace = bytes_eq name (codes "trace") in
+    let drills = either is_drill (drill_at words) None (drill_at_within words) (has_none IsWithin) in
+    let later = either is_trace (trace_at words) (if is_drill then drill_at words else None) traces drills in
+    let others = either (bytes_eq name (codes "plain")) (plain_at words) (if is_trace then trace_at words else (if is_drill then drill_at words else None)) plains later in
+    either (bytes_eq name (codes "run")) (run_at words)
+    (if bytes_eq name (codes "plain") then plain_at words else (if is_trace then trace_at words else (if is_drill then drill_at words else None))) runs others

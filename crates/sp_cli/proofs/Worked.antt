@@ -1,0 +1,154 @@
+-- The definition of words tried on rows, by computation.
+use Rattle.std.proofs.Common.{◌≡◌, ◌==◌, ℕ, List, [], ◌∷◌, Option, Some, None, if◌then◌else◌, map, refl}
+use Rattle.std.specs.Prelude.{codes}
+use Rattle.clap.proofs.OnLiterals.{clap_on_literals}
+use Rattle.sp_cli.specs.Options.{found, run_options, plain_options, trace_options, drill_options}
+use Rattle.sp_cli.specs.Commands.{Command, QuerySource, Speed, run, plain, trace, drill, text, file, command_of}
+
+-- the words of a line, with one blank between any two
+abbrev onto : ℕ → List (List ℕ) → List (List ℕ)
+onto byte [] = (byte ∷ []) ∷ []
+onto byte (word ∷ rest) = (byte ∷ word) ∷ rest
+
+abbrev parted : List ℕ → List (List ℕ)
+parted [] = [] ∷ []
+parted (byte ∷ rest) = if byte == 32 then [] ∷ parted rest else onto byte (parted rest)
+
+abbrev of : List ℕ → Option Command
+of line = command_of (parted line)
+
+abbrev speed : ℕ → ℕ → ℕ → List ℕ → Speed
+speed instances live batch predictor = record { instances = instances; live = live; batch = batch; predictor = predictor }
+
+-- how a run works where no option says more
+abbrev usual : Speed
+usual = speed 2 64 64 (codes "markov")
+
+abbrev q : QuerySource
+q = text (codes "Q")
+
+abbrev plain_q : Option Command
+plain_q = Some (plain q)
+
+abbrev run_q : Speed → Option Command
+run_q how = Some (run q how)
+
+each_spelling_of_a_short_option :
+    map of (codes "plain -q Q" ∷ codes "plain -qQ" ∷ codes "plain -q=Q" ∷ [])
+    ≡ plain_q ∷ plain_q ∷ plain_q ∷ []
+unfolding clap_on_literals found plain_options
+each_spelling_of_a_short_option = refl
+
+each_spelling_of_a_long_option :
+    map of (codes "plain --query Q" ∷ codes "plain --query=Q" ∷ codes "plain --file Q" ∷ [])
+    ≡ plain_q ∷ plain_q ∷ Some (plain (file (codes "Q"))) ∷ []
+unfolding clap_on_literals found plain_options
+each_spelling_of_a_long_option = refl
+
+a_closing_pair_of_hyphens :
+    map of (codes "plain -q Q --" ∷ codes "plain -q Q -- Q" ∷ codes "plain -- -q Q" ∷ [])
+    ≡ plain_q ∷ None ∷ None ∷ []
+unfolding clap_on_literals found plain_options
+a_closing_pair_of_hyphens = refl
+
+an_empty_value_is_one :
+    map of (codes "plain --query=" ∷ codes "plain -q " ∷ codes "plain -q= " ∷ [])
+    ≡ Some (plain (text [])) ∷ Some (plain (text [])) ∷ None ∷ []
+unfolding clap_on_literals found plain_options
+an_empty_value_is_one = refl
+
+a_value_that_begins_with_a_hyphen :
+    map of (codes "plain -f -" ∷ codes "plain -q -Q" ∷ codes "plain -q --file" ∷ codes "plain --query=-Q" ∷ [])
+    ≡ Some (plain (file (codes "-"))) ∷ None ∷ None ∷ Some (plain (text (codes "-Q"))) ∷ []
+unfolding clap_on_literals found plain_options
+a_value_that_begins_with_a_hyphen = refl
+
+just_one_source :
+    map of (codes "plain" ∷ codes "plain -q Q -f Q" ∷ codes "plain -q Q -q Q" ∷ codes "plain -q Q --query=Q" ∷ [])
+    ≡ None ∷ None ∷ None ∷ None ∷ []
+unfolding clap_on_literals found plain_options
+just_one_source = refl
+
+nothing_beside_the_options :
+    map of (codes "plain -q Q Q" ∷ codes "plain Q -q Q" ∷ codes "plain -q Q --live 1" ∷ codes "plain --que Q" ∷ codes "plain -q" ∷ [])
+    ≡ None ∷ None ∷ None ∷ None ∷ None ∷ []
+unfolding clap_on_literals found plain_options
+nothing_beside_the_options = refl
+
+help_is_no_command :
+    map of (codes "plain --help" ∷ codes "plain -q Q -h" ∷ codes "plain -q Q --version" ∷ codes "plain -q Q -V" ∷ [])
+    ≡ None ∷ None ∷ None ∷ None ∷ []
+unfolding clap_on_literals found plain_options
+help_is_no_command = refl
+
+the_name_is_exact :
+    map of (codes "" ∷ codes "Plain -q Q" ∷ codes "--help" ∷ codes "-q Q plain" ∷ codes "help" ∷ [])
+    ≡ None ∷ None ∷ None ∷ None ∷ None ∷ []
+unfolding clap_on_literals found
+the_name_is_exact = refl
+
+what_is_left_out_is_usual :
+    map of (codes "run -q Q" ∷ codes "run" ∷ codes "run --query=Q --predictor=even" ∷ [])
+    ≡ run_q usual ∷ None ∷ run_q (speed 2 64 64 (codes "even")) ∷ []
+unfolding clap_on_literals found run_options
+what_is_left_out_is_usual = refl
+
+options_in_any_order :
+    map of (codes "run --batch=2 --live 3 -qQ --instances 4 --predictor p" ∷ [])
+    ≡ run_q (speed 4 3 2 (codes "p")) ∷ []
+unfolding clap_on_literals found run_options
+options_in_any_order = refl
+
+instances_within_limits :
+    map of (codes "run -q Q --instances 0" ∷ codes "run -q Q --instances 16" ∷ codes "run -q Q --instances 17" ∷ [])
+    ≡ run_q (speed 0 64 64 (codes "markov")) ∷ run_q (speed 16 64 64 (codes "markov")) ∷ None ∷ []
+unfolding clap_on_literals found run_options
+instances_within_limits = refl
+
+live_within_limits :
+    map of (codes "run -q Q --live 0" ∷ codes "run -q Q --live 1" ∷ codes "run -q Q --live 4096" ∷ codes "run -q Q --live 4097" ∷ [])
+    ≡ None ∷ run_q (speed 2 1 64 (codes "markov")) ∷ run_q (speed 2 4096 64 (codes "markov")) ∷ None ∷ []
+unfolding clap_on_literals found run_options
+live_within_limits = refl
+
+batch_within_limits :
+    map of (codes "run -q Q --batch 0" ∷ codes "run -q Q --batch 1" ∷ codes "run -q Q --batch 1024" ∷ codes "run -q Q --batch 1025" ∷ [])
+    ≡ None ∷ run_q (speed 2 64 1 (codes "markov")) ∷ run_q (speed 2 64 1024 (codes "markov")) ∷ None ∷ []
+unfolding clap_on_literals found run_options
+batch_within_limits = refl
+
+one_to_ten_digits :
+    map of (codes "run -q Q --live 0000000007" ∷ codes "run -q Q --live 00000000007" ∷ codes "run -q Q --live=" ∷ [])
+    ≡ run_q (speed 2 7 64 (codes "markov")) ∷ None ∷ None ∷ []
+unfolding clap_on_literals found run_options
+one_to_ten_digits = refl
+
+digits_alone :
+    map of (codes "run -q Q --live +7" ∷ codes "run -q Q --live=-7" ∷ codes "run -q Q --live 7x" ∷ codes "run -q Q --live 1_0" ∷ [])
+    ≡ None ∷ None ∷ None ∷ None ∷ []
+unfolding clap_on_literals found run_options
+digits_alone = refl
+
+an_option_twice :
+    map of (codes "run -q Q --live 1 --live 1" ∷ codes "run -q Q --live=1 --batch 1 --live=1" ∷ [])
+    ≡ None ∷ None ∷ []
+unfolding clap_on_literals found run_options
+an_option_twice = refl
+
+the_options_of_a_trace :
+    map of (codes "trace -q Q --schedule S" ∷ codes "trace --live=4096 --schedule=S -f F" ∷ codes "trace -q Q" ∷ codes "trace -q Q --schedule S --live 4097" ∷ codes "trace -q Q --schedule S --batch 1" ∷ [])
+    ≡ Some (trace q (codes "S") 64) ∷ Some (trace (file (codes "F")) (codes "S") 4096) ∷ None ∷ None ∷ None ∷ []
+unfolding clap_on_literals found trace_options
+the_options_of_a_trace = refl
+
+the_words_of_a_drill :
+    map of (codes "drill 8 7" ∷ codes "drill 1048576 4294967295 --predictor even" ∷ codes "drill 1048577 7" ∷ codes "drill 0 7" ∷ codes "drill 8 4294967296" ∷ [])
+    ≡ Some (drill 8 7 usual) ∷ Some (drill 1048576 4294967295 (speed 2 64 64 (codes "even"))) ∷ None ∷ None ∷ None ∷ []
+unfolding clap_on_literals found drill_options
+the_words_of_a_drill = refl
+
+both_numbers_of_a_drill :
+    map of (codes "drill" ∷ codes "drill 8" ∷ codes "drill +8 7" ∷ codes "drill 8 +7" ∷ codes "drill 8 7 -q Q" ∷ codes "drill --live 1 8 7" ∷ codes "drill 8 7 9" ∷ [])
+    ≡ None ∷ None ∷ None ∷ None ∷ None ∷ None ∷ None ∷ []
+unfolding clap_on_literals found drill_options
+both_numbers_of_a_drill = refl

@@ -1,0 +1,136 @@
+-- Which command words are.
+use Rattle.std.specs.Prelude.{ℕ, List, [], ◌∷◌, Option, Some, None, if◌then◌else◌, option_and_then, option_map, string_bytes, unwrap_or, codes}
+use Rattle.std.specs.Str.{bytes_eq}
+use Rattle.clap.specs.Walk.{Row, Text, first_of, rows_of}
+use Rattle.clap.specs.Matches.{found_of}
+use Rattle.clap.specs.declared.parser.matches.ArgMatches.{ArgMatches}
+use Rattle.sp_cli.specs.Numbers.{number, number_or}
+use Rattle.sp_cli.specs.Options.{found, run_options, plain_options, trace_options, drill_options}
+use Rattle.sp_cli.specs.declared.command.Command.{Command as FoundCommand}
+use Rattle.sp_cli.specs.declared.command.Command.TheVariants as c
+use Rattle.sp_cli.specs.declared.command.QuerySource.{QuerySource as FoundSource}
+use Rattle.sp_cli.specs.declared.command.QuerySource.TheVariants as q
+use Rattle.sp_cli.specs.declared.command.Speed.{Speed as FoundSpeed}
+
+-- where a query stands: in a text, or in the file of a name
+pub data QuerySource : Type 0 where
+  text : (content : Text) → QuerySource
+  file : (name : Text) → QuerySource
+
+-- How a run works: how many instances read, how many versions may be live, how many events are fed or lent at a time, and the
+-- predictor's name.
+pub record Speed : Type 0 where
+  pub instances : ℕ
+  pub live : ℕ
+  pub batch : ℕ
+  pub predictor : Text
+
+-- a run of a query, the same window by window, a run of the machine over a schedule's file, or a run over generated rows
+pub data Command : Type 0 where
+  run : (query : QuerySource) → (speed : Speed) → Command
+  plain : (query : QuerySource) → Command
+  trace : (query : QuerySource) → (schedule : Text) → (live : ℕ) → Command
+  drill : (events : ℕ) → (seed : ℕ) → (speed : Speed) → Command
+
+-- one of the two says where the query stands, and the other is left out
+abbrev pub one_source : Option Text → Option Text → Option QuerySource
+one_source (Some content) None = Some (text content)
+one_source None (Some name) = Some (file name)
+one_source None None = None
+one_source (Some content) (Some name) = None
+
+abbrev pub source_in : List Row → Option QuerySource
+source_in rows = one_source (first_of (codes "query") rows) (first_of (codes "file") rows)
+
+abbrev pub instances_in : List Row → Option ℕ
+instances_in rows = number_or 2 0 16 (first_of (codes "instances") rows)
+
+abbrev pub live_in : List Row → Option ℕ
+live_in rows = number_or 64 1 4096 (first_of (codes "live") rows)
+
+abbrev pub batch_in : List Row → Option ℕ
+batch_in rows = number_or 64 1 1024 (first_of (codes "batch") rows)
+
+abbrev pub predictor_in : List Row → Text
+predictor_in rows = unwrap_or (first_of (codes "predictor") rows) (codes "markov")
+
+abbrev pub with_numbers : Option ℕ → Option ℕ → Option ℕ → Text → Option Speed
+with_numbers (Some instances) (Some live) (Some batch) predictor =
+    Some (record { instances = instances; live = live; batch = batch; predictor = predictor })
+with_numbers _ _ _ predictor = None
+
+abbrev pub speed_in : List Row → Option Speed
+speed_in rows = with_numbers (instances_in rows) (live_in rows) (batch_in rows) (predictor_in rows)
+
+abbrev pub run_of : Option QuerySource → Option Speed → Option Command
+run_of (Some query) (Some speed) = Some (run query speed)
+run_of _ _ = None
+
+abbrev pub trace_of : Option QuerySource → Option Text → Option ℕ → Option Command
+trace_of (Some query) (Some schedule) (Some live) = Some (trace query schedule live)
+trace_of _ _ _ = None
+
+abbrev pub drill_of : Option ℕ → Option ℕ → Option Speed → Option Command
+drill_of (Some events) (Some seed) (Some speed) = Some (drill events seed speed)
+drill_of _ _ _ = None
+
+-- the command of each name, by what is found behind it
+abbrev pub run_in : List Row → Option Command
+run_in rows = run_of (source_in rows) (speed_in rows)
+
+abbrev pub plain_in : List Row → Option Command
+plain_in rows = option_map plain (source_in rows)
+
+abbrev pub trace_in : List Row → Option Command
+trace_in rows = trace_of (source_in rows) (first_of (codes "schedule") rows) (live_in rows)
+
+-- the command of each name, by the words behind it
+abbrev pub run_at : List Text → Option Command
+run_at words = option_and_then run_in (found run_options words)
+
+abbrev pub plain_at : List Text → Option Command
+plain_at words = option_and_then plain_in (found plain_options words)
+
+abbrev pub trace_at : List Text → Option Command
+trace_at words = option_and_then trace_in (found trace_options words)
+
+-- the two words behind `drill` are its events and its seed
+abbrev pub drill_at : List Text → Option Command
+drill_at (events ∷ seed ∷ words) =
+    drill_of (number 1 1048576 events) (number 0 4294967295 seed) (option_and_then speed_in (found drill_options words))
+drill_at _ = None
+
+abbrev pub command_at : Text → List Text → Option Command
+command_at name words =
+    if bytes_eq name (codes "run") then run_at words
+    else (if bytes_eq name (codes "plain") then plain_at words
+    else (if bytes_eq name (codes "trace") then trace_at words
+    else (if bytes_eq name (codes "drill") then drill_at words else None)))
+
+-- The command that the words are, or none: the first word is its name.
+abbrev pub command_of : List Text → Option Command
+command_of [] = None
+command_of (name ∷ words) = command_at name words
+
+-- what was found at words
+abbrev pub rows_in : ArgMatches → List Row
+rows_in matches = rows_of (found_of matches)
+
+-- what was read, as the command that it is
+abbrev pub source_seen : FoundSource → QuerySource
+source_seen (q.Text content) = text (string_bytes content)
+source_seen (q.File name) = file (string_bytes name)
+
+abbrev pub speed_seen : FoundSpeed → Speed
+speed_seen read = record {
+  instances = read.instances;
+  live = read.live;
+  batch = read.batch;
+  predictor = string_bytes read.predictor;
+}
+
+abbrev pub seen : FoundCommand → Command
+seen (c.Run query speed) = run (source_seen query) (speed_seen speed)
+seen (c.Plain query) = plain (source_seen query)
+seen (c.Trace query schedule live) = trace (source_seen query) (string_bytes schedule) live
+seen (c.Drill events seed speed) = drill events seed (speed_seen speed)

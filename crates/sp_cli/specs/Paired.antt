@@ -1,0 +1,52 @@
+-- Words in pairs: the name of an option, and what it says as a word of its own.
+use Rattle.std.specs.Prelude.{◌≡◌, ◌≢◌, List, [], ◌∷◌, Option, Some, None, if◌then◌else◌, slice_index, codes}
+use Rattle.std.specs.List.{All}
+use Rattle.std.specs.Str.{bytes_eq}
+use Rattle.clap.specs.Simple.{App}
+use Rattle.clap.specs.Walk.{Row, Text, first_of}
+use Rattle.sp_cli.specs.Options.{found, run_options, plain_options, trace_options, drill_options}
+
+-- the options that say where a query stands, by their short names
+pub data IsSourceName : Text → Text → Type 0 where
+  query : IsSourceName (codes "-q") (codes "query")
+  file : IsSourceName (codes "-f") (codes "file")
+
+-- the options that say how a run works
+pub data IsSpeedName : Text → Text → Type 0 where
+  instances : IsSpeedName (codes "--instances") (codes "instances")
+  live : IsSpeedName (codes "--live") (codes "live")
+  batch : IsSpeedName (codes "--batch") (codes "batch")
+  predictor : IsSpeedName (codes "--predictor") (codes "predictor")
+
+pub data IsRunName : Text → Text → Type 0 where
+  source : (word id : Text) → IsSourceName word id → IsRunName word id
+  speed : (word id : Text) → IsSpeedName word id → IsRunName word id
+
+pub data IsTraceName : Text → Text → Type 0 where
+  source : (word id : Text) → IsSourceName word id → IsTraceName word id
+  schedule : IsTraceName (codes "--schedule") (codes "schedule")
+  live : IsTraceName (codes "--live") (codes "live")
+
+-- The words are pairs, no option stands there twice, and no value begins with a hyphen (45).
+pub data ArePairs (IsName : Text → Text → Type 0) : List Text → List (Text × Text) → Type 0 where
+  nothing : ArePairs IsName [] []
+  more : (word id value : Text) (words : List Text) (said : List (Text × Text)) → IsName word id → slice_index value 0 ≢ 45
+      → All (λ other. id ≢ other.0) said → ArePairs IsName words said
+      → ArePairs IsName (word ∷ value ∷ words) ((id, value) ∷ said)
+
+-- what the option of this name says
+abbrev pub value_of : Text → List (Text × Text) → Option Text
+value_of id [] = None
+value_of id (one ∷ rest) = if bytes_eq one.0 id then Some one.1 else value_of id rest
+
+-- words in pairs are taken, and each option says what stands behind its name
+abbrev pub FindsPairs : App → (Text → Text → Type 0) → Type 0
+FindsPairs app IsName = (words : List Text) (said : List (Text × Text)) → ArePairs IsName words said
+    → (rows : List Row) × (found app words ≡ Some rows) × ((id : Text) → first_of id rows ≡ value_of id said)
+
+-- The options of each command may be written in pairs, in any order.
+pub record PairsAreFound : Type 0 where
+  pub run : FindsPairs run_options IsRunName
+  pub plain : FindsPairs plain_options IsSourceName
+  pub trace : FindsPairs trace_options IsTraceName
+  pub drill : FindsPairs drill_options IsSpeedName

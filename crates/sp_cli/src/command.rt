@@ -1,0 +1,69 @@
+// What the words of a command line ask for, or why they ask for nothing.
+ghost use Rattle.std.specs.Prelude.{◌≡◌};
+
+use std::alloc::AllocError;
+
+/// Where a query stands: in a text, or in the file of this name.
+#[derive(Debug, Drop, PartialEq)]
+pub enum QuerySource {
+    Text(String),
+    File(String),
+}
+
+/// How a run works.
+#[derive(Debug, Drop, PartialEq)]
+pub struct Speed {
+    /// How many instances read, each on a thread of its own: 0 to 16.
+    pub instances: u32,
+    /// The most versions that may be live at a time: 1 to 4096.
+    pub live: u32,
+    /// The most events that are fed or lent at a time: 1 to 1024.
+    pub batch: u32,
+    /// The name of the predictor.
+    pub predictor: String,
+}
+
+/// What the words ask for.
+#[derive(Debug, Drop, PartialEq)]
+pub enum Command {
+    /// A query over the input, by the speculative engine.
+    Run {
+        query: QuerySource,
+        speed: Speed,
+    },
+    /// The same window by window.
+    Plain {
+        query: QuerySource,
+    },
+    /// The machine over the schedule in the file of this name, with so many live versions at most: 1 to 4096.
+    Trace {
+        query: QuerySource,
+        schedule: String,
+        live: u32,
+    },
+    /// A run over so many generated events, 1 to 1,048,576, from this seed.
+    Drill {
+        events: u32,
+        seed: u32,
+        speed: Speed,
+    },
+}
+
+/// Why no command was read.
+#[derive(Clone, Copy, Debug, Drop, PartialEq)]
+pub enum UsageFault {
+    /// The words are no command.
+    Usage,
+    /// Want of memory.
+    Memory,
+}
+
+impl From<AllocError> for UsageFault {
+    ghost use Rattle.sp_cli.specs.declared.command.UsageFault.TheVariants.{Memory};
+
+    ghost from_gives = { λ _ e. e ≡ Memory };
+
+    fn from(_: AllocError) -> UsageFault {
+        UsageFault::Memory
+    }
+}

@@ -1,0 +1,96 @@
+// The command that words are.
+ghost use Rattle.std.specs.Prelude.{◌≡◌, Some, None, map, IfOk, IfErr, string_bytes};
+ghost use Rattle.sp_cli.specs.Commands.{command_of, run_at, plain_at, trace_at, drill_at, seen};
+
+use crate::command::{Command, UsageFault};
+use crate::options::{drill_options, find_options, plain_options, run_options, trace_options};
+use crate::values::{Limits, live_in, number_of, source_in, speed_in, value_of};
+use std::alloc::Global;
+
+// How many events a drill may have.
+const EVENTS: Limits = Limits {
+    least: 1,
+    greatest: 1_048_576,
+};
+
+const SEED: Limits = Limits {
+    least: 0,
+    greatest: u32::MAX,
+};
+
+// What stands behind `run`.
+fn read_run(alloc: Global, words: &[String]) -> Result<Command, UsageFault>
+    ensures command { IfOk result (λ read. run_at (map string_bytes words.now) ≡ Some (seen read)) }
+    ensures usage { IfErr result (λ e. e ≡ UsageFault.Usage → run_at (map string_bytes words.now) ≡ None) }
+{
+    let matches = find_options(run_options(alloc)?, words)?;
+    let query = source_in(alloc, &matches)?;
+    let speed = speed_in(alloc, &matches)?;
+    Ok(Command::Run { query, speed })
+}
+
+// What stands behind `plain`.
+fn read_plain(alloc: Global, words: &[String]) -> Result<Command, UsageFault>
+    ensures command { IfOk result (λ read. plain_at (map string_bytes words.now) ≡ Some (seen read)) }
+    ensures usage { IfErr result (λ e. e ≡ UsageFault.Usage → plain_at (map string_bytes words.now) ≡ None) }
+{
+    let matches = find_options(plain_options(alloc)?, words)?;
+    let query = source_in(alloc, &matches)?;
+    Ok(Command::Plain { query })
+}
+
+// What stands behind `trace`.
+fn read_trace(alloc: Global, words: &[String]) -> Result<Command, UsageFault>
+    ensures command { IfOk result (λ read. trace_at (map string_bytes words.now) ≡ Some (seen read)) }
+    ensures usage { IfErr result (λ e. e ≡ UsageFault.Usage → trace_at (map string_bytes words.now) ≡ None) }
+{
+    let matches = find_options(trace_options(alloc)?, words)?;
+    let query = source_in(alloc, &matches)?;
+    let live = live_in(&matches)?;
+    let Some(name) = value_of(&matches, "schedule") else {
+        return Err(UsageFault::Usage);
+    };
+    let schedule = String::from_str(alloc, name)?;
+    Ok(Command::Trace {
+        query,
+        schedule,
+        live,
+    })
+}
+
+// What stands behind `drill`: its events and its seed by their places, and then options.
+fn read_drill(alloc: Global, words: &[String]) -> Result<Command, UsageFault>
+    ensures command { IfOk result (λ read. drill_at (map string_bytes words.now) ≡ Some (seen read)) }
+    ensures usage { IfErr result (λ e. e ≡ UsageFault.Usage → drill_at (map string_bytes words.now) ≡ None) }
+{
+    let [events, seed, rest @ ..] = words else {
+        return Err(UsageFault::Usage);
+    };
+    let events = number_of(events.as_str(), EVENTS)?;
+    let seed = number_of(seed.as_str(), SEED)?;
+    let matches = find_options(drill_options(alloc)?, rest)?;
+    let speed = speed_in(alloc, &matches)?;
+    Ok(Command::Drill {
+        events,
+        seed,
+        speed,
+    })
+}
+
+/// The command that the words are: the first is its name. `Usage` comes only where they are none; want of
+/// memory may come at any words that are read.
+pub fn read_words(alloc: Global, words: &[String]) -> Result<Command, UsageFault>
+    ensures command { IfOk result (λ read. command_of (map string_bytes words.now) ≡ Some (seen read)) }
+    ensures usage { result ≡ Err UsageFault.Usage → command_of (map string_bytes words.now) ≡ None }
+{
+    let [name, rest @ ..] = words else {
+        return Err(UsageFault::Usage);
+    };
+    match name.as_str() {
+        "run" => read_run(alloc, rest),
+        "plain" => read_plain(alloc, rest),
+        "trace" => read_trace(alloc, rest),
+        "drill" => read_drill(alloc, rest),
+        _ => Err(UsageFault::Usage),
+    }
+}
