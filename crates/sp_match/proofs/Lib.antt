@@ -26,6 +26,8 @@ pub mod Searches
 pub mod ElementsAreNamed
 pub mod TakenIsNamed
 pub mod NeverTaken
+pub mod AheadIsTaken
+pub mod MasksAreSure
 -- What is told of runs.
 pub mod MovesAreTold
 pub mod NumbersGathered

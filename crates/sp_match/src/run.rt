@@ -7,7 +7,7 @@ ghost use Rattle.sp_match.specs.inside.Kept.{kept, stays, empty, grown, before, 
 
 use crate::Memory;
 use sp_base::Numbers;
-use sp_plan::{Bound, SharedEvent};
+use sp_plan::{Bound, Element, SharedEvent};
 use std::alloc::Global;
 
 /// A partial match that is open.
@@ -25,8 +25,19 @@ pub struct Run {
     pub(crate) names: [bool; 32],
     // so many elements of the pattern, from the first on, are filled
     pub(crate) filled: usize,
+    // what it may take next, where that was looked for since it bound its last event
+    pub(crate) ahead: Option<Ahead>,
     pub(crate) turn: Turn,
     pub(crate) fate: Fate,
+}
+
+/// What a run may take next.
+#[derive(Clone, Copy, Drop)]
+pub(crate) struct Ahead {
+    /// The first element that it hasn't filled.
+    pub(crate) element: Option<Element>,
+    /// Its last name, where it may be bound more than once.
+    pub(crate) again: Option<u8>,
 }
 
 /// What a run did with the event that is being handled.
@@ -62,6 +73,7 @@ impl Run {
             events: Bound::new(alloc),
             names: [false; 32],
             filled: 0,
+            ahead: None,
             turn: Turn::Idle,
             fate: Fate::Stays,
         }
@@ -156,6 +168,7 @@ impl Run {
             events: self.events.copy(alloc)?,
             names: self.names,
             filled: self.filled,
+            ahead: self.ahead,
             turn: self.turn,
             fate: self.fate,
         })
