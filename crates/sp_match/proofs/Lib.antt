@@ -28,6 +28,7 @@ pub mod TakenIsNamed
 pub mod NeverTaken
 pub mod AheadIsTaken
 pub mod MasksAreSure
+pub mod NumbersAreAbove
 -- What is told of runs.
 pub mod MovesAreTold
 pub mod NumbersGathered

@@ -1,6 +1,6 @@
 // One partial match.
-ghost use Rattle.std.specs.Prelude.{◌≡◌, ℕ, ◌<◌, ◌-◌, not, [], IfOk, OnOk, OnErr, slice_index_or, false};
-ghost use Rattle.std.specs.List.{All, list_any};
+ghost use Rattle.std.specs.Prelude.{◌≡◌, ℕ, ◌<◌, ◌-◌, not, [], IfOk, OnOk, OnErr, slice_index_or, false, map};
+ghost use Rattle.std.specs.List.{All, AllPairs, list_any};
 ghost use Rattle.sp_base.specs.Numbers.{has};
 ghost use Rattle.sp_match.specs.inside.Tally.{is_leaving};
 ghost use Rattle.sp_match.specs.inside.Kept.{kept, stays, empty, grown, before, CanGrow, CanUndo};
@@ -93,11 +93,30 @@ impl Run {
         matches!(self.fate, Fate::Leaves)
     }
 
-    // Whether it has bound one of these numbers, under whatever name.
+    // Whether it has bound one of these numbers, under whatever name. Its numbers rise, so those below all
+    // of these aren't looked at.
     pub(crate) fn holds_one(&self, numbers: &Numbers) -> bool
+        requires { AllPairs (λ m n. m < n) (map (λ pair. pair.1) self.now.bound.items) }
         ensures { result ≡ list_any (λ pair. has numbers.now.list pair.1) self.now.bound.items }
     {
-        self.bound.iter().any(|(_, number)| numbers.has(*number))
+        let numbers_listed = numbers.list();
+        if numbers_listed.is_empty() {
+            return false;
+        }
+        let first = numbers_listed[0];
+        let bound = self.bound.as_slice();
+        let mut left = bound.len();
+        while left > 0 {
+            let (_, number) = bound[left - 1];
+            if number < first {
+                return false;
+            }
+            if numbers.has(number) {
+                return true;
+            }
+            left -= 1;
+        }
+        false
     }
 
     // Binds an event to a name. After want of memory it is as before.
