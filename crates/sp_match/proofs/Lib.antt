@@ -26,6 +26,9 @@ pub mod Searches
 pub mod ElementsAreNamed
 pub mod TakenIsNamed
 pub mod NeverTaken
+pub mod AheadIsTaken
+pub mod MasksAreSure
+pub mod NumbersAreAbove
 -- What is told of runs.
 pub mod MovesAreTold
 pub mod NumbersGathered

@@ -1,5 +1,5 @@
 -- An event that no open run takes, and that begins none, changes nothing.
-use Rattle.std.proofs.Common.{◌≡◌, ℕ, Bool, true, false, List, [], ◌∷◌, Option, None, refl, sym, ap, subst, ◌∙◌}
+use Rattle.std.proofs.Common.{◌≡◌, Bool, true, false, List, [], ◌∷◌, None, refl, sym, ap, subst, ◌∙◌}
 use Rattle.std.specs.Prelude.{is_some, if◌then◌else◌}
 use Rattle.std.specs.List.{All, fold}
 use Rattle.std.proofs.lemmas.List.Elements.{All-head, All-tail}
@@ -7,7 +7,7 @@ use Rattle.sp_plan.specs.declared.plan.Plan.{Plan}
 use Rattle.sp_plan.specs.declared.plan.Select.{Select}
 use Rattle.sp_plan.specs.declared.plan.Select.TheVariants.{First, Last, Each}
 use Rattle.sp_plan.specs.Windows.{Numbered}
-use Rattle.sp_plan.specs.Runs.{Started, State, handle, holds_one, leaves, may_start, takes}
+use Rattle.sp_plan.specs.Runs.{Started, State, leaves, may_start, takes}
 use Rattle.sp_plan.specs.Moves.{Acting, abandoned, act, act_run, act_start, acted, acting_on, apply_all, handling_of, told}
 use Rattle.sp_match.specs.public.Laws.{Ordered}
 use Rattle.sp_match.specs.public.Matching.{IsAfter, Matching, Stands, TellsEvent}

@@ -1,10 +1,10 @@
 -- A run in plain values, and what every run of a matcher keeps between two events.
 pub mod Kept
+pub mod Taking
 pub mod Good
 pub mod Keeping
 -- What an event does to the runs, and how far its handling has come.
 pub mod Offer
-pub mod Taking
 pub mod Effects
 pub mod Turn
 pub mod Shows

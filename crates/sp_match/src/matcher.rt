@@ -9,7 +9,7 @@ ghost use Rattle.sp_match.specs.public.Seen.{all_seen, seen_run};
 use crate::Memory;
 use crate::all_runs::{copies, same_runs};
 use crate::handling::{handle_all, handle_told};
-use crate::known::Known;
+use crate::known::{Known, names_ahead};
 use crate::leaving::abandon_all;
 use crate::moves::{Move, Moves};
 use crate::offer::Offer;
@@ -128,12 +128,14 @@ impl Matcher {
     {
         fitting_events_are_small();
         let open = self.runs.len();
+        let may = names_ahead(alloc, &self.plan, event, open);
         let offer = Offer {
             alloc,
             plan: &self.plan,
             number,
             event,
             known: Known::Any,
+            may: &may,
         };
         match handle_all(&offer, &mut self.runs, &mut self.lefts, self.count, moves) {
             Ok(started) => {
@@ -188,12 +190,14 @@ impl Matcher {
     {
         fitting_events_are_small();
         let open = self.runs.len();
+        let may = names_ahead(alloc, &self.plan, event, open);
         let offer = Offer {
             alloc,
             plan: &self.plan,
             number,
             event,
             known,
+            may: &may,
         };
         match handle_told(&offer, &mut self.runs, self.count, list) {
             Ok(started) => {

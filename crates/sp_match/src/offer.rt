@@ -24,6 +24,8 @@ pub(crate) struct Offer<'a> {
     pub(crate) event: &'a Event,
     /// What is known of it.
     pub(crate) known: Known,
+    /// False only at names that can't take it.
+    pub(crate) may: &'a [bool; 32],
 }
 
 /// The name under which an event begins a run, if it begins one.
@@ -33,7 +35,7 @@ pub(crate) fn first_name(alloc: Global, plan: &Plan, event: &Event) -> Option<u8
     ensures { result ≡ takes plan.now [] event.now }
 {
     let none = Run::new(alloc, 0);
-    takes(plan, &none, event)
+    takes(plan, &none, event, &[true; 32])
 }
 
 /// The name under which the event begins a run, if it begins one. It isn't looked for where it is known

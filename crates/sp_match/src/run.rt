@@ -1,13 +1,13 @@
 // One partial match.
-ghost use Rattle.std.specs.Prelude.{◌≡◌, ℕ, ◌<◌, ◌-◌, not, [], IfOk, OnOk, OnErr, slice_index_or, false};
-ghost use Rattle.std.specs.List.{All, list_any};
+ghost use Rattle.std.specs.Prelude.{◌≡◌, ℕ, ◌<◌, ◌-◌, not, [], IfOk, OnOk, OnErr, slice_index_or, false, map};
+ghost use Rattle.std.specs.List.{All, AllPairs, list_any};
 ghost use Rattle.sp_base.specs.Numbers.{has};
 ghost use Rattle.sp_match.specs.inside.Tally.{is_leaving};
 ghost use Rattle.sp_match.specs.inside.Kept.{kept, stays, empty, grown, before, CanGrow, CanUndo};
 
 use crate::Memory;
 use sp_base::Numbers;
-use sp_plan::{Bound, SharedEvent};
+use sp_plan::{Bound, Element, SharedEvent};
 use std::alloc::Global;
 
 /// A partial match that is open.
@@ -25,8 +25,19 @@ pub struct Run {
     pub(crate) names: [bool; 32],
     // so many elements of the pattern, from the first on, are filled
     pub(crate) filled: usize,
+    // what it may take next, where that was looked for since it bound its last event
+    pub(crate) ahead: Option<Ahead>,
     pub(crate) turn: Turn,
     pub(crate) fate: Fate,
+}
+
+/// What a run may take next.
+#[derive(Clone, Copy, Drop)]
+pub(crate) struct Ahead {
+    /// The first element that it hasn't filled.
+    pub(crate) element: Option<Element>,
+    /// Its last name, where it may be bound more than once.
+    pub(crate) again: Option<u8>,
 }
 
 /// What a run did with the event that is being handled.
@@ -62,6 +73,7 @@ impl Run {
             events: Bound::new(alloc),
             names: [false; 32],
             filled: 0,
+            ahead: None,
             turn: Turn::Idle,
             fate: Fate::Stays,
         }
@@ -81,11 +93,30 @@ impl Run {
         matches!(self.fate, Fate::Leaves)
     }
 
-    // Whether it has bound one of these numbers, under whatever name.
+    // Whether it has bound one of these numbers, under whatever name. Its numbers rise, so those below all
+    // of these aren't looked at.
     pub(crate) fn holds_one(&self, numbers: &Numbers) -> bool
+        requires { AllPairs (λ m n. m < n) (map (λ pair. pair.1) self.now.bound.items) }
         ensures { result ≡ list_any (λ pair. has numbers.now.list pair.1) self.now.bound.items }
     {
-        self.bound.iter().any(|(_, number)| numbers.has(*number))
+        let numbers_listed = numbers.list();
+        if numbers_listed.is_empty() {
+            return false;
+        }
+        let first = numbers_listed[0];
+        let bound = self.bound.as_slice();
+        let mut left = bound.len();
+        while left > 0 {
+            let (_, number) = bound[left - 1];
+            if number < first {
+                return false;
+            }
+            if numbers.has(number) {
+                return true;
+            }
+            left -= 1;
+        }
+        false
     }
 
     // Binds an event to a name. After want of memory it is as before.
@@ -156,6 +187,7 @@ impl Run {
             events: self.events.copy(alloc)?,
             names: self.names,
             filled: self.filled,
+            ahead: self.ahead,
             turn: self.turn,
             fate: self.fate,
         })

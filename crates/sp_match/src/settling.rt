@@ -9,7 +9,7 @@ ghost use Rattle.sp_match.specs.inside.Effects.{open_runs};
 ghost use Rattle.sp_match.specs.declared.run.Turn.TheVariants.{Idle};
 
 use crate::run::{Run, Turn};
-use crate::taking::filled_front;
+use crate::taking::{filled_front, look_ahead};
 use sp_plan::Plan;
 
 /// The runs are as before the event at hand, where so many were there then.
@@ -33,7 +33,10 @@ fn settle_run(plan: &Plan, run: &mut Run)
     ensures fate { run.new.fate ≡ run.old.fate }
 {
     if let Turn::Grew { .. } = run.turn {
-        run.filled = filled_front(plan, run);
+        let filled = filled_front(plan, run);
+        let ahead = look_ahead(plan, run);
+        run.filled = filled;
+        run.ahead = Some(ahead);
         run.turn = Turn::Idle;
     }
 }

@@ -1,5 +1,5 @@
 // Which name a run takes an event under.
-ghost use Rattle.std.specs.Prelude.{◌≡◌, ◌⊎◌, ◌<◌, ◌≤◌, ◌-◌, ◌&&◌, true, length, take, not, find, slice_get, IfSome, if◌then◌else◌};
+ghost use Rattle.std.specs.Prelude.{◌≡◌, ◌⊎◌, ◌<◌, ◌≤◌, ◌-◌, ◌&&◌, true, Some, None, length, take, not, slice_index_or, IfSome, if◌then◌else◌};
 ghost use Rattle.std.specs.List.{range_with_len, list_any, list_all, last_or};
 ghost use Rattle.sp_plan.specs.declared.plan.Plan.{Plan};
 ghost use Rattle.sp_plan.specs.Bounds.{IsSmall};
@@ -8,9 +8,10 @@ ghost use Rattle.sp_plan.specs.Runs;
 ghost use Rattle.sp_plan.specs.Runs.{is_bound, is_plus, names_of, name_holds, unbound};
 ghost use Rattle.sp_match.specs.inside.Kept.{kept, pairs};
 ghost use Rattle.sp_match.specs.inside.Good.{Good, IsNamed};
-ghost use Rattle.sp_match.specs.inside.Taking.{next_element, held_of, held_again, repeated};
+ghost use Rattle.sp_match.specs.inside.Taking.{IsAhead, IsMask, next_element, held_of, held_once_more, last_again};
+ghost use Rattle.sp_match.specs.declared.run.Turn.TheVariants.{Idle};
 
-use crate::run::Run;
+use crate::run::{Ahead, Run};
 use sp_plan::{Element, Event, Plan, holds};
 
 // Whether a run has bound an event to the name.
@@ -33,6 +34,27 @@ fn fits_name(plan: &Plan, run: &Run, event: &Event, name: u8) -> bool
         Some(name) => holds(&name.pred, event, &run.events),
         None => false,
     }
+}
+
+// Whether it is known that no run takes the event under the name.
+fn is_out(may: &[bool; 32], name: u8) -> bool
+    ensures { result ≡ not (slice_index_or may.now name true) }
+{
+    match may.get(name as usize) {
+        Some(may) => !*may,
+        None => false,
+    }
+}
+
+// Whether the run takes the event under the name. The predicate is asked only of names that may take it.
+fn takes_as(plan: &Plan, run: &Run, event: &Event, may: &[bool; 32], name: u8) -> bool
+    requires compiled { IsCompiled plan.now }
+    requires good { Good plan.now (kept run.now) }
+    requires small { IsSmall event.now }
+    requires may { IsMask plan.now event.now may.now }
+    ensures { result ≡ name_holds plan.now (pairs (kept run.now)) event.now name }
+{
+    !is_out(may, name) && fits_name(plan, run, event, name)
 }
 
 // The names of an element are those from the first number on and below the second.
@@ -106,28 +128,30 @@ pub(crate) fn is_complete(plan: &Plan, run: &Run) -> bool
 }
 
 // Whether a run has bound no event to the name, and takes the event under it.
-fn takes_anew(plan: &Plan, run: &Run, event: &Event, name: u8) -> bool
+fn takes_anew(plan: &Plan, run: &Run, event: &Event, may: &[bool; 32], name: u8) -> bool
     requires compiled { IsCompiled plan.now }
     requires good { Good plan.now (kept run.now) }
     requires small { IsSmall event.now }
+    requires may { IsMask plan.now event.now may.now }
     requires named { name < 32 }
     ensures { result ≡ (not (is_bound (pairs (kept run.now)) name)
         && name_holds plan.now (pairs (kept run.now)) event.now name) }
 {
-    !has(run, name) && fits_name(plan, run, event, name)
+    !has(run, name) && takes_as(plan, run, event, may, name)
 }
 
 // The first name that the run lacks of the element and under which it takes the event.
-fn lacking(plan: &Plan, run: &Run, event: &Event, element: Element) -> Option<u8>
+fn lacking(plan: &Plan, run: &Run, event: &Event, may: &[bool; 32], element: Element) -> Option<u8>
     requires compiled { IsCompiled plan.now }
     requires good { Good plan.now (kept run.now) }
     requires small { IsSmall event.now }
+    requires may { IsMask plan.now event.now may.now }
     requires named { IsNamed element }
     ensures { result ≡ held_of plan.now (pairs (kept run.now)) event.now (Some element) }
 {
     let (first, past) = span(element);
     for name in first..past {
-        if takes_anew(plan, run, event, name) {
+        if takes_anew(plan, run, event, may, name) {
             return Some(name);
         }
     }
@@ -154,55 +178,113 @@ fn repeats(plan: &Plan, name: u8) -> bool
         .any(|element| is_plus(name, *element))
 }
 
-// The name, where it may be bound more than once and the run takes the event under it.
-fn takes_again(plan: &Plan, run: &Run, event: &Event, name: u8) -> Option<u8>
-    requires compiled { IsCompiled plan.now }
-    requires good { Good plan.now (kept run.now) }
-    requires small { IsSmall event.now }
-    ensures { result ≡ repeated plan.now (pairs (kept run.now)) event.now name }
+// The name, where it may be bound more than once.
+fn repeated(plan: &Plan, name: u8) -> Option<u8>
+    ensures { result ≡ (if list_any (is_plus name) plan.now.elements then Some name else None) }
 {
-    let may = repeats(plan, name) && fits_name(plan, run, event, name);
-    if may { Some(name) } else { None }
+    if repeats(plan, name) {
+        Some(name)
+    } else {
+        None
+    }
 }
 
-// The last name of a run, where it takes the event under it once more.
-fn once_more(plan: &Plan, run: &Run, event: &Event) -> Option<u8>
+// The last name of a run, where it may be bound more than once.
+fn last_again(plan: &Plan, run: &Run) -> Option<u8>
     requires compiled { IsCompiled plan.now }
     requires good { Good plan.now (kept run.now) }
-    requires small { IsSmall event.now }
-    ensures { result ≡ held_again plan.now (pairs (kept run.now)) event.now }
+    ensures { result ≡ last_again plan.now (pairs (kept run.now)) }
 {
     match run.bound.last() {
-        Some((name, _)) => takes_again(plan, run, event, *name),
+        Some((name, _)) => repeated(plan, *name),
         None => None,
     }
 }
 
-// The first name of the first element not yet filled that the run lacks and under which it takes the
-// event.
-fn onward(plan: &Plan, run: &Run, event: &Event) -> Option<u8>
+/// What a run may take next, by what it has bound.
+pub(crate) fn look_ahead(plan: &Plan, run: &Run) -> Ahead
+    requires compiled { IsCompiled plan.now }
+    requires good { Good plan.now (kept run.now) }
+    ensures ahead { IsAhead plan.now (pairs (kept run.now)) result }
+    ensures element { IfSome result.element IsNamed }
+{
+    Ahead {
+        element: first_unfilled(plan, run),
+        again: last_again(plan, run),
+    }
+}
+
+// The same, which is looked for only where the run doesn't keep it.
+fn ahead_of(plan: &Plan, run: &Run) -> Ahead
+    requires compiled { IsCompiled plan.now }
+    requires good { Good plan.now (kept run.now) }
+    requires idle { run.now.turn ≡ Idle }
+    ensures ahead { IsAhead plan.now (pairs (kept run.now)) result }
+    ensures element { IfSome result.element IsNamed }
+{
+    match run.ahead {
+        Some(ahead) => ahead,
+        None => look_ahead(plan, run),
+    }
+}
+
+// The name, which may be bound more than once, where the run takes the event under it.
+fn once_more(
+    plan: &Plan,
+    run: &Run,
+    event: &Event,
+    may: &[bool; 32],
+    again: Option<u8>,
+) -> Option<u8>
     requires compiled { IsCompiled plan.now }
     requires good { Good plan.now (kept run.now) }
     requires small { IsSmall event.now }
-    ensures { result ≡ held_of plan.now (pairs (kept run.now)) event.now
-        (next_element plan.now (pairs (kept run.now))) }
+    requires may { IsMask plan.now event.now may.now }
+    ensures { result ≡ held_once_more plan.now (pairs (kept run.now)) event.now again }
 {
-    match first_unfilled(plan, run) {
-        Some(element) => lacking(plan, run, event, element),
+    let name = again?;
+    if takes_as(plan, run, event, may, name) {
+        Some(name)
+    } else {
+        None
+    }
+}
+
+// The first name of the element that the run lacks and under which it takes the event.
+fn onward(
+    plan: &Plan,
+    run: &Run,
+    event: &Event,
+    may: &[bool; 32],
+    element: Option<Element>,
+) -> Option<u8>
+    requires compiled { IsCompiled plan.now }
+    requires good { Good plan.now (kept run.now) }
+    requires small { IsSmall event.now }
+    requires may { IsMask plan.now event.now may.now }
+    requires named { IfSome element IsNamed }
+    ensures { result ≡ held_of plan.now (pairs (kept run.now)) event.now element }
+{
+    match element {
+        Some(element) => lacking(plan, run, event, may, element),
         None => None,
     }
 }
 
 /// The name under which a run takes an event, if it takes it: of the first element not yet filled the
-/// first name that it lacks, else its last name once more.
-pub(crate) fn takes(plan: &Plan, run: &Run, event: &Event) -> Option<u8>
+/// first name that it lacks, else its last name once more. `may` is false only at names that can't take
+/// the event.
+pub(crate) fn takes(plan: &Plan, run: &Run, event: &Event, may: &[bool; 32]) -> Option<u8>
     requires compiled { IsCompiled plan.now }
     requires good { Good plan.now (kept run.now) }
     requires small { IsSmall event.now }
+    requires may { IsMask plan.now event.now may.now }
+    requires idle { run.now.turn ≡ Idle }
     ensures { result ≡ Runs.takes plan.now (pairs (kept run.now)) event.now }
 {
-    match onward(plan, run, event) {
+    let ahead = ahead_of(plan, run);
+    match onward(plan, run, event, may, ahead.element) {
         Some(name) => Some(name),
-        None => once_more(plan, run, event),
+        None => once_more(plan, run, event, may, ahead.again),
     }
 }

@@ -57,7 +57,7 @@ fn deal(
     ensures shared { IsShared offer.now shared.new }
     ensures undoes { Undoes offer.now.plan.now (all_kept runs.old) (all_kept runs.new) }
 {
-    match takes(offer.plan, &runs[at], offer.event) {
+    match takes(offer.plan, &runs[at], offer.event, offer.may) {
         Some(name) => {
             let used = bind(offer, shared, runs, at, name, list)?;
             Ok(if used {

@@ -1,12 +1,12 @@
 -- One move more adds its match, where a run completes by it.
-use Rattle.std.proofs.Common.{◌≡◌, ℕ, ◌+◌, ◌<◌, Bool, true, false, List, [], ◌∷◌, ◌++◌, length, get_or, map, take, refl, sym, ◌∙◌, ap, subst, arith, append_assoc, length-append}
+use Rattle.std.proofs.Common.{◌≡◌, ℕ, ◌+◌, ◌<◌, true, false, List, [], ◌∷◌, ◌++◌, length, get_or, map, take, refl, sym, ◌∙◌, ap, arith, append_assoc, length-append}
 use Rattle.std.specs.Prelude.{filter}
 use Rattle.std.specs.List.{enumerate_from}
 use Rattle.std.proofs.lemmas.List.{take_more, append-nil, map-append, length-map}
 use Rattle.std.proofs.lemmas.List.Elements.{filter-append}
 use Rattle.std.proofs.lemmas.List.FromFn.{length-enumerate_from}
 use Rattle.sp_plan.specs.declared.found.Match.{Match}
-use Rattle.sp_plan.specs.Moves.{Told, CompletedTold}
+use Rattle.sp_plan.specs.Moves.{Told}
 use Rattle.sp_base.specs.Numbers.{NumberList}
 use Rattle.sp_match.specs.declared.moves.Move.{Move}
 use Rattle.sp_match.specs.declared.moves.Move.TheVariants as m

@@ -4,7 +4,6 @@ use Rattle.std.specs.Prelude.{slice_get, int_le}
 use Rattle.std.specs.List.{list_all, zip}
 use Rattle.std.proofs.lemmas.Int.{ints}
 use Rattle.std.proofs.lemmas.List.{take_more}
-use Rattle.std.proofs.lemmas.Bool.Decides.{nat_tests}
 use Rattle.sp_plan.specs.declared.event.Event.{Event}
 use Rattle.sp_plan.specs.declared.plan.Plan.{Plan}
 use Rattle.sp_plan.specs.Events.{AllFit, NeverGoesBack, fits, fits_column}

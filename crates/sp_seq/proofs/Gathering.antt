@@ -2,7 +2,7 @@
 use Rattle.std.proofs.Common.{◌≡◌, ℕ, ◌+◌, ◌-◌, ◌<◌, ◌≤◌, Bool, true, false, not, List, [], ◌∷◌, ◌++◌, length, get_or, take, drop, map, refl, sym, ◌∙◌, ap, subst, arith, append_assoc, length-append}
 use Rattle.std.specs.Prelude.{filter, slice_range}
 use Rattle.std.specs.List.{All, enumerate_from}
-use Rattle.std.proofs.lemmas.List.{take_more, get_or-drop, length-drop, append-nil, map-append, length-map}
+use Rattle.std.proofs.lemmas.List.{take_more, get_or-drop, length-drop, append-nil, length-map}
 use Rattle.std.proofs.lemmas.List.Elements.{filter-append, All-weaker, All-nil}
 use Rattle.std.proofs.lemmas.List.Sums.{fold_push}
 use Rattle.std.proofs.lemmas.List.FromFn.{length-enumerate_from, get_or-enumerate_from}
@@ -10,7 +10,7 @@ use Rattle.sp_plan.specs.declared.event.Event.{Event}
 use Rattle.sp_plan.specs.declared.plan.Plan.{Plan}
 use Rattle.sp_plan.specs.declared.found.Match.{Match}
 use Rattle.sp_plan.specs.Windows.{Numbered, numbered}
-use Rattle.sp_plan.specs.Runs.{Pair, Started, State, is_among, handle, state, fresh, matched_runs}
+use Rattle.sp_plan.specs.Runs.{Pair, Started, State, is_among, handle, state, fresh}
 use Rattle.sp_plan.specs.Moves.{Told, told, moves}
 use Rattle.sp_plan.specs.Sequential.{match_of}
 use Rattle.sp_match.specs.public.Laws.{RunsAreSound, CompletionsAreMatches, Below, completion, is_completion}

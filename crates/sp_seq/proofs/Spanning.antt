@@ -1,6 +1,6 @@
 -- The events of a closed window stand side by side.
-use Rattle.std.proofs.Common.{◌≡◌, ℕ, ◌+◌, ◌-◌, ◌<◌, ◌≤◌, Bool, true, false, ◌==◌, List, length, take, drop, Option, Some, None, refl, sym, ◌∙◌, ap, subst, arith}
-use Rattle.std.specs.Prelude.{slice_get, filter, slice_range, if◌then◌else◌}
+use Rattle.std.proofs.Common.{◌≡◌, ℕ, ◌+◌, ◌-◌, ◌<◌, ◌≤◌, Bool, true, false, ◌==◌, List, take, drop, Option, Some, None, refl, sym, ◌∙◌, ap, arith}
+use Rattle.std.specs.Prelude.{slice_get, filter, if◌then◌else◌}
 use Rattle.std.specs.Option.{option_map}
 use Rattle.std.proofs.lemmas.Bool.Decides.{nat_tests}
 use Rattle.sp_plan.specs.declared.event.Event.{Event}
@@ -13,7 +13,6 @@ use Rattle.sp_plan.specs.Sequential.{visible}
 use Rattle.sp_window.specs.declared.windows.Window.{Window}
 use Rattle.sp_window.specs.Standing.{shown}
 use Rattle.sp_window.specs.Laws.{IsNumber, Holds, ClosedFirst}
-use Rattle.sp_seq.specs.Unconsumed.{unconsumed}
 use Rattle.sp_seq.specs.Spans.{IsSpan}
 use Rattle.sp_seq.proofs.Gathering.{is_left}
 

@@ -1,12 +1,14 @@
 -- What every run of a matcher keeps.
-use Rattle.std.specs.Prelude.{◌≡◌, ◌⊎◌, ℕ, ◌+◌, ◌<◌, ◌≤◌, false, true, List, length, map, take, slice_index_or}
+use Rattle.std.specs.Prelude.{◌≡◌, ◌⊎◌, ℕ, ◌+◌, ◌<◌, ◌≤◌, false, true, List, IfSome, length, map, take, slice_index_or}
 use Rattle.std.specs.List.{All, AllPairs, list_all}
 use Rattle.sp_plan.specs.declared.plan.Plan.{Plan}
 use Rattle.sp_plan.specs.declared.plan.Element.{Element}
 use Rattle.sp_plan.specs.declared.plan.Element.TheVariants.{One, Plus, Set}
 use Rattle.sp_plan.specs.Bounds.{AllSmall}
 use Rattle.sp_plan.specs.Runs.{is_bound, is_filled, used}
+use Rattle.sp_match.specs.declared.run.Turn.TheVariants.{Idle}
 use Rattle.sp_match.specs.inside.Kept.{Kept, CanUndo, before, pairs}
+use Rattle.sp_match.specs.inside.Taking.{IsAhead}
 
 -- the names of an element are below 32
 abbrev pub IsNamed : Element → Type 0
@@ -14,8 +16,8 @@ IsNamed (One name) = name < 32
 IsNamed (Plus name) = name < 32
 IsNamed (Set first count) = (first + count ≤ 32) ⊎ (count ≡ 0)
 
--- The parts of a run fit together: the events and the flags are those of its pairs, the elements in front are filled, the
--- numbers rise, and it would use those of consumed names.
+-- The parts of a run fit together: the events and the flags are those of its pairs, the elements in front are filled, what it
+-- may take next is so where it has bound nothing since, the numbers rise, and it would use those of consumed names.
 pub record Good (q : Plan) (k : Kept) : Type 0 where
   pub same_names : map (λ p. p.0) k.bound ≡ map (λ p. p.0) k.events
   pub named : All (λ p. p.0 < length q.names) k.bound
@@ -23,6 +25,7 @@ pub record Good (q : Plan) (k : Kept) : Type 0 where
   pub marks : (name : ℕ) → name < 32 → slice_index_or k.names name false ≡ is_bound (pairs k) name
   pub within : k.filled ≤ length q.elements
   pub filled : list_all (is_filled (pairs k)) (take k.filled q.elements) ≡ true
+  pub ahead_is : k.turn ≡ Idle → IfSome k.ahead (λ ahead. IsAhead q (pairs k) ahead)
   pub used_is : k.used ≡ used q (pairs k)
   pub rising : AllPairs (λ m n. m < n) (map (λ p. p.1) k.bound)
   pub small : AllSmall k.events

@@ -1,9 +1,10 @@
 -- A run in plain values, with what the handling of the event at hand has done to it.
-use Rattle.std.specs.Prelude.{◌≡◌, ℕ, ◌-◌, ◌<◌, Bool, false, true, not, List, [], ◌∷◌, ◌++◌, length, map, take, replicate, slice_set, slice_index_or, if◌then◌else◌}
+use Rattle.std.specs.Prelude.{◌≡◌, ℕ, ◌-◌, ◌<◌, Bool, false, true, not, List, [], ◌∷◌, ◌++◌, length, map, take, replicate, Option, None, slice_set, slice_index_or, if◌then◌else◌}
 use Rattle.std.specs.List.{All, zip}
 use Rattle.sp_plan.specs.declared.event.Event.{Event}
 use Rattle.sp_plan.specs.Runs.{Pair, Started}
 use Rattle.sp_match.specs.declared.run.Run.{Run}
+use Rattle.sp_match.specs.declared.run.Ahead.{Ahead}
 use Rattle.sp_match.specs.declared.run.Turn.{Turn}
 use Rattle.sp_match.specs.declared.run.Turn.TheVariants.{Idle, Grew}
 use Rattle.sp_match.specs.declared.run.Fate.{Fate}
@@ -17,12 +18,13 @@ pub record Kept : Type 0 where
   pub events : List (ℕ × Event)
   pub names : List Bool
   pub filled : ℕ
+  pub ahead : Option Ahead
   pub turn : Turn
   pub fate : Fate
 
 -- the plain values of a run
 abbrev pub kept : Run → Kept
-kept r = record { number = r.number; bound = r.bound.items; used = r.used.list; events = r.events; names = r.names; filled = r.filled; turn = r.turn; fate = r.fate }
+kept r = record { number = r.number; bound = r.bound.items; used = r.used.list; events = r.events; names = r.names; filled = r.filled; ahead = r.ahead; turn = r.turn; fate = r.fate }
 
 -- those of all runs
 abbrev pub all_kept : List Run → List Kept
@@ -48,7 +50,7 @@ stays Leaves = false
 
 -- a run that has bound no event
 abbrev pub empty : ℕ → Kept
-empty number = record { number = number; bound = []; used = []; events = []; names = replicate 32 false; filled = 0; turn = Idle; fate = Stays }
+empty number = record { number = number; bound = []; used = []; events = []; names = replicate 32 false; filled = 0; ahead = None; turn = Idle; fate = Stays }
 
 -- a run with one pair more
 abbrev pub grown : ℕ → Bool → ℕ → Event → Kept → Kept

@@ -7,6 +7,7 @@ use Rattle.sp_plan.specs.Windows.{Numbered}
 use Rattle.sp_plan.specs.Runs.{leaves}
 use Rattle.sp_match.specs.declared.offer.Offer.{Offer}
 use Rattle.sp_match.specs.public.Known.{IsKnown}
+use Rattle.sp_match.specs.inside.Taking.{IsMask}
 
 -- the event with its number
 abbrev pub numbered : Offer → Numbered
@@ -21,6 +22,7 @@ pub record IsOffer (o : Offer) : Type 0 where
   pub compiled : IsCompiled o.plan.now
   pub small : IsSmall o.event.now
   pub known : IsKnown o.plan.now o.event.now o.known
+  pub may : IsMask o.plan.now o.event.now o.may.now
 
 -- What runs share of an event is the event, where one has bound it.
 abbrev pub IsShared : Offer → Option Event → Type 0

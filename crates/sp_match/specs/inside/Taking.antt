@@ -1,10 +1,11 @@
 -- The name under which a run takes an event, step by step.
-use Rattle.std.specs.Prelude.{ℕ, not, ◌&&◌, List, Option, Some, None, find, if◌then◌else◌}
+use Rattle.std.specs.Prelude.{◌≡◌, ℕ, Bool, true, false, not, List, Option, Some, None, find, slice_index_or, if◌then◌else◌}
 use Rattle.std.specs.List.{last_or, list_any}
 use Rattle.sp_plan.specs.declared.event.Event.{Event}
 use Rattle.sp_plan.specs.declared.plan.Element.{Element}
 use Rattle.sp_plan.specs.declared.plan.Plan.{Plan}
-use Rattle.sp_plan.specs.Runs.{Pair, again, is_filled, is_plus, name_holds, unbound}
+use Rattle.sp_plan.specs.Runs.{Pair, is_filled, is_plus, name_holds, unbound}
+use Rattle.sp_match.specs.declared.run.Ahead.{Ahead}
 
 -- the first element that a run of these pairs hasn't filled
 abbrev pub next_element : Plan → List Pair → Option Element
@@ -18,10 +19,24 @@ first_held q r e names = find (name_holds q r e) names
 abbrev pub held_of : Plan → List Pair → Event → Option Element → Option ℕ
 held_of q r e element = first_held q r e (unbound r element)
 
--- the last name of the run, where it takes the event under it once more
-abbrev pub held_again : Plan → List Pair → Event → Option ℕ
-held_again q r e = first_held q r e (again q.elements (last_or None r))
+-- the name of a pair, where it may be bound more than once
+abbrev pub again_name : List Element → Option Pair → Option ℕ
+again_name elements None = None
+again_name elements (Some pair) = if list_any (is_plus pair.name) elements then Some pair.name else None
 
--- the name, where it may be bound more than once and the run takes the event under it
-abbrev pub repeated : Plan → List Pair → Event → ℕ → Option ℕ
-repeated q r e name = if list_any (is_plus name) q.elements && name_holds q r e name then Some name else None
+-- the last name of a run of these pairs, where it may be bound more than once
+abbrev pub last_again : Plan → List Pair → Option ℕ
+last_again q r = again_name q.elements (last_or None r)
+
+-- what a run of these pairs may take next is so: the first element that it hasn't filled, and its last name once more
+abbrev pub IsAhead : Plan → List Pair → Ahead → Type 0
+IsAhead q r ahead = (ahead.element ≡ next_element q r) × (ahead.again ≡ last_again q r)
+
+-- the name, where the run takes the event under it
+abbrev pub held_once_more : Plan → List Pair → Event → Option ℕ → Option ℕ
+held_once_more q r e None = None
+held_once_more q r e (Some name) = if name_holds q r e name then Some name else None
+
+-- No run takes the event under a name at which this is false.
+abbrev pub IsMask : Plan → Event → List Bool → Type 0
+IsMask q e may = (name : ℕ) (r : List Pair) → slice_index_or may name true ≡ false → name_holds q r e name ≡ false

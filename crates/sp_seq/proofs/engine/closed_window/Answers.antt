@@ -1,6 +1,5 @@
-use Rattle.std.proofs.Common.{◌≡◌, Some, ◌∙◌, sym, ap, subst, arith}
+use Rattle.std.proofs.Common.{◌≡◌, ◌∙◌, ap, arith}
 use Rattle.sp_window.specs.declared.windows.Window.{Window}
-use Rattle.sp_seq.specs.Spans.{IsSpan}
 use Rattle.sp_seq.proofs.Spanning.{shows, spans, first_low}
 use Rattle.sp_seq.proofs.engine.closed_window.Goals as goal
 

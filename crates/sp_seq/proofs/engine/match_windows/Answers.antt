@@ -1,8 +1,7 @@
-use Rattle.std.proofs.Common.{◌≡◌, ℕ, ◌+◌, ◌≤◌, Bool, List, ◌++◌, length, drop, take, refl, ◌∙◌, sym, ap, subst, arith, rules}
+use Rattle.std.proofs.Common.{◌≡◌, ℕ, ◌+◌, List, ◌++◌, length, drop, take, ◌∙◌, sym, ap, subst, arith, rules}
 use Rattle.std.specs.Arc.{arc_value}
 use Rattle.std.specs.List.{flat_map}
 use Rattle.std.proofs.lemmas.List.{take_at}
-use Rattle.sp_plan.specs.declared.event.Event.{Event}
 use Rattle.sp_plan.specs.declared.plan.Plan.{Plan}
 use Rattle.sp_plan.specs.declared.found.Match.{Match}
 use Rattle.sp_plan.specs.Windows.{closed}
@@ -13,7 +12,7 @@ use Rattle.sp_seq.specs.Unconsumed.{unconsumed}
 use Rattle.sp_seq.specs.Completed.{with_matches}
 use Rattle.sp_seq.specs.Learned.{AllKnown}
 use Rattle.sp_seq.specs.Spans.{IsSpan, IsSwept}
-use Rattle.sp_seq.proofs.Sweeping.{Sweeping, swept_more}
+use Rattle.sp_seq.proofs.Sweeping.{swept_more}
 use Rattle.sp_seq.proofs.engine.match_windows.Goals as goal
 
 pub loop-count-preserved : goal.loop-count-preserved

@@ -1,4 +1,3 @@
-use Rattle.std.proofs.Common.{◌≡◌}
 use Rattle.std.specs.Arc.{arc_value}
 use Rattle.sp_seq.specs.Learned.{AllKnown}
 use Rattle.sp_seq.proofs.Sweeping.{Sweeping}

@@ -1,10 +1,6 @@
-use Rattle.std.proofs.Common.{◌≡◌, true, false, List, ◌∙◌, sym, ap, subst, arith, rules}
+use Rattle.std.proofs.Common.{arith}
 use Rattle.std.specs.Arc.{arc_value}
-use Rattle.std.proofs.lemmas.List.{take_all}
-use Rattle.sp_plan.specs.declared.event.Event.{Event}
-use Rattle.sp_plan.specs.declared.plan.Plan.{Plan}
-use Rattle.sp_plan.specs.Events.{fits}
-use Rattle.sp_seq.proofs.Feeding.{fed_none, fed_more, in_order}
+use Rattle.sp_seq.proofs.Feeding.{fed_none, fed_more}
 use Rattle.sp_seq.proofs.engine.windows_of.Goals as goal
 
 pub loop-event-init : goal.loop-event-init

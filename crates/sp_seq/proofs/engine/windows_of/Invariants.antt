@@ -1,6 +1,4 @@
-use Rattle.std.proofs.Common.{◌≡◌, take, false}
 use Rattle.std.specs.Arc.{arc_value}
-use Rattle.sp_window.specs.Standing.{Stands}
 use Rattle.sp_seq.proofs.Feeding.{Fed}
 use Rattle.sp_seq.proofs.engine.windows_of.Given as goal
 

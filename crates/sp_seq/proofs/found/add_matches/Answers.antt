@@ -1,7 +1,7 @@
-use Rattle.std.proofs.Common.{◌≡◌, ℕ, ◌+◌, Bool, true, false, List, [], ◌∷◌, ◌++◌, length, get_or, map, take, refl, sym, ◌∙◌, ap, subst, arith, rules}
+use Rattle.std.proofs.Common.{◌≡◌, ◌+◌, true, false, [], ◌∷◌, ◌++◌, length, map, sym, ◌∙◌, ap, arith, rules}
 use Rattle.sp_match.specs.public.Laws.{is_completion}
 use Rattle.sp_match.specs.public.Seen.{seen, seen_name}
-use Rattle.sp_plan.specs.Moves.{Told, CompletedTold}
+use Rattle.sp_plan.specs.Moves.{CompletedTold}
 use Rattle.sp_plan.specs.declared.found.Match.{Match}
 use Rattle.sp_seq.specs.Completed.{match_told}
 use Rattle.sp_seq.proofs.Adding.{adds_one, adds_none, not_completion}

@@ -1,7 +1,6 @@
-use Rattle.std.proofs.Common.{◌≡◌, ℕ, ◌+◌, List, [], ◌∷◌, ◌++◌, length, get_or, sym, subst, ◌∙◌, arith}
+use Rattle.std.proofs.Common.{◌≡◌, ℕ, ◌+◌, [], ◌∷◌, ◌++◌, length, get_or, sym, subst, ◌∙◌}
 use Rattle.std.proofs.lemmas.List.{length_push}
 use Rattle.sp_plan.specs.declared.event.Event.{Event}
-use Rattle.sp_match.specs.declared.known.Known.{Known}
 use Rattle.sp_match.specs.public.Known.{IsKnown}
 use Rattle.sp_seq.specs.Learned.{AllKnown}
 use Rattle.sp_seq.proofs.MoreIsKnown.{known_more}

@@ -1,9 +1,8 @@
-use Rattle.std.proofs.Common.{◌≡◌, ℕ, pos, ◌+◌, Bool, true, false, List, [], ◌++◌, length, get_or, map, refl, sym, ◌∙◌, ap, subst, arith, length-append}
+use Rattle.std.proofs.Common.{◌≡◌, ℕ, pos, ◌+◌, List, [], ◌++◌, length, get_or, map, refl, sym, ◌∙◌, ap, subst, arith, length-append}
 use Rattle.std.specs.Prelude.{filter}
 use Rattle.sp_plan.specs.declared.event.Event.{Event}
 use Rattle.sp_plan.specs.declared.plan.Plan.{Plan}
 use Rattle.sp_plan.specs.declared.found.Match.{Match}
-use Rattle.sp_plan.specs.Events.{AllFit, fits}
 use Rattle.sp_plan.specs.Runs.{State, handle, state}
 use Rattle.sp_plan.specs.Moves as definitions
 use Rattle.sp_plan.specs.Moves.{Told}
@@ -14,7 +13,7 @@ use Rattle.sp_match.specs.public.Matching.{Stands}
 use Rattle.sp_match.specs.public.Seen.{seen}
 use Rattle.sp_seq.specs.Completed.{matches_told, with_matches}
 use Rattle.sp_seq.specs.Unconsumed.{unconsumed}
-use Rattle.sp_seq.proofs.Gathering.{Gathering, gathered_none, gathered_skip, gathered_offer, below_more, below_none, gathering_as}
+use Rattle.sp_seq.proofs.Gathering.{gathered_none, gathered_skip, gathered_offer, below_more, below_none, gathering_as}
 use Rattle.std.proofs.lemmas.List.{append-nil}
 use Rattle.sp_seq.proofs.window.match_window.Goals as goal
 use Rattle.sp_seq.proofs.window.match_window.Goals.{then-not-seats-i+then-not-ignores+in_ok-offer_known+in_ok-add_matches, then-not-seats-i+else-not-ignores, else-not-seats-i}

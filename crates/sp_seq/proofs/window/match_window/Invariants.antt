@@ -1,7 +1,4 @@
-use Rattle.std.proofs.Common.{◌≡◌, ◌+◌}
-use Rattle.sp_match.specs.public.Laws.{Below}
-use Rattle.sp_match.specs.public.Matching.{runs_of}
-use Rattle.sp_seq.proofs.Gathering.{Gathered, Gathering}
+use Rattle.sp_seq.proofs.Gathering.{Gathering}
 use Rattle.sp_seq.proofs.window.match_window.Given as goal
 
 abbrev pub invariant-loop-i : goal.invariant-loop-i

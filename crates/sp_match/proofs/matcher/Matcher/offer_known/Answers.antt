@@ -1,18 +1,15 @@
-use Rattle.std.proofs.Common.{◌≡◌, ℕ, ◌+◌, Bool, List, map, length, take, refl, sym, ap, subst, ◌∙◌, rules}
+use Rattle.std.proofs.Common.{◌≡◌, ℕ, map, length, refl, sym, subst, ◌∙◌, rules}
 use Rattle.std.specs.List.{All}
 use Rattle.std.specs.Arc.{arc_value}
 use Rattle.sp_plan.specs.declared.plan.Plan.{Plan}
 use Rattle.sp_plan.specs.Windows.{Numbered}
-use Rattle.sp_plan.specs.Runs.{State, handle}
-use Rattle.sp_plan.specs.Moves.{Told, moves, still_wanted, told}
 use Rattle.sp_match.specs.public.Laws.{Below}
-use Rattle.sp_match.specs.public.Matching.{Matching, Stands, runs_of}
-use Rattle.sp_match.specs.inside.Kept.{Kept, before, kept, started}
-use Rattle.sp_match.specs.inside.Good.{Good, Undoes}
-use Rattle.sp_match.specs.inside.Effects.{open_runs}
-use Rattle.sp_match.specs.inside.Going.{IsIdle, IsReady}
+use Rattle.sp_match.specs.public.Matching.{Matching, runs_of}
+use Rattle.sp_match.specs.inside.Kept.{kept, started}
+use Rattle.sp_match.specs.inside.Good.{Good}
+use Rattle.sp_match.specs.inside.Going.{IsReady}
 use Rattle.sp_match.specs.inside.Keeping.{IsKept}
-use Rattle.sp_match.specs.inside.Handling.{IsHandled, count_after}
+use Rattle.sp_match.specs.inside.Handling.{count_after}
 use Rattle.sp_match.specs.public.Seen.{seen}
 use Rattle.sp_match.proofs.MatcherAfterEvent.{ready}
 use Rattle.sp_match.proofs.EventIsOffered.{back, kept_after, offered}
@@ -22,7 +19,7 @@ pub handle_told-requires-clause-ready : goal.handle_told-requires-clause-ready
 handle_told-requires-clause-ready c =
     let ks = map kept c.self.inside.runs.items in
     let count = c.self.inside.count in
-    subst (λ (q : Plan). IsReady q c.args.number count ks) (sym c.deref.ensures)
+    subst (λ (q : Plan). IsReady q c.args.number count ks) (sym c.deref-2.ensures)
     (ready (arc_value c.self.inside.plan) c.args.number count ks c.self.invariant (subst (λ (m : Matching). Below c.args.number (runs_of m)) (sym c.self.view_is) c.requires.below))
 
 pub invariant_of-self : goal.invariant_of-self
@@ -34,8 +31,8 @@ invariant_of-self c =
     let count = c.self.inside.count in
     let after : Matching = record { plan = q; open_runs = map started settled; started = count_after count c.in-Ok.started } in
     subst (λ (n : ℕ). IsKept q n settled) (sym c.count_after-self-inside.ensures)
-    (kept_after q c.deref.result.now x count old c.in-Ok.started (map kept c.handle_told.new.runs.items) settled (map seen c.handle_told.new.list.items) c.args.self.now after c.deref.ensures c.self.view_is c.self.invariant
-    c.in-Ok.ensures.handled c.settle.ensures.runs refl (subst (λ (p : Plan). All (Good p) settled) (c.deref-in-Ok.ensures ∙ sym c.deref.ensures) c.settle.ensures.good) c.settle.ensures.idle)
+    (kept_after q c.deref-2.result.now x count old c.in-Ok.started (map kept c.handle_told.new.runs.items) settled (map seen c.handle_told.new.list.items) c.args.self.now after c.deref-2.ensures c.self.view_is c.self.invariant
+    c.in-Ok.ensures.handled c.settle.ensures.runs refl (subst (λ (p : Plan). All (Good p) settled) (c.deref-in-Ok.ensures ∙ sym c.deref-2.ensures) c.settle.ensures.good) c.settle.ensures.idle)
 
 pub returns-in-Ok : goal.returns-in-Ok
 returns-in-Ok c =
@@ -49,7 +46,7 @@ returns-in-Ok c =
     let ts = map seen c.handle_told.new.list.items in
     let m = c.args.self.now in
     let later : after ≡ (record { plan = q; open_runs = map started settled; started = count_after count c.in-Ok.started }) = λ i. record { plan = q; open_runs = map started settled; started = c.count_after-self-inside.ensures i } in
-    let o = offered q c.deref.result.now x count old c.in-Ok.started new settled ts m after c.deref.ensures c.self.view_is c.self.invariant c.in-Ok.ensures.handled c.settle.ensures.runs later c.requires.below in
+    let o = offered q c.deref-2.result.now x count old c.in-Ok.started new settled ts m after c.deref-2.ensures c.self.view_is c.self.invariant c.in-Ok.ensures.handled c.settle.ensures.runs later c.requires.below in
     record { stands = o.stands; told = o.tells; below = o.stays_below; plan = search rules; err = search rules; cleared = search rules }
 
 pub invariant_of-self-in-Err : goal.invariant_of-self-in-Err
@@ -57,7 +54,7 @@ invariant_of-self-in-Err c =
     let q = arc_value c.self.inside.plan in
     let old = map kept c.self.inside.runs.items in
     let same : map kept c.undo.new.runs.items ≡ old =
-    back q c.deref.result.now old (map kept c.handle_told.new.runs.items) (map kept c.undo.new.runs.items) (length c.self.inside.runs.items) c.len-open.result c.self.invariant.idle (c.len-open.ensures ∙ c.self.inside.runs.ok.0) c.in-Err.ensures.undoes
+    back q c.deref-2.result.now old (map kept c.handle_told.new.runs.items) (map kept c.undo.new.runs.items) (length c.self.inside.runs.items) c.len-open.result c.self.invariant.idle (c.len-open.ensures ∙ c.self.inside.runs.ok.0) c.in-Err.ensures.undoes
     c.undo.ensures in
     subst (IsKept q c.self.inside.count) (sym same) c.self.invariant
 
@@ -66,6 +63,6 @@ returns-in-Err-clause-err c =
     let q = arc_value c.self.inside.plan in
     let old = map kept c.self.inside.runs.items in
     let same : map kept c.undo.new.runs.items ≡ old =
-    back q c.deref.result.now old (map kept c.handle_told.new.runs.items) (map kept c.undo.new.runs.items) (length c.self.inside.runs.items) c.len-open.result c.self.invariant.idle (c.len-open.ensures ∙ c.self.inside.runs.ok.0) c.in-Err.ensures.undoes
+    back q c.deref-2.result.now old (map kept c.handle_told.new.runs.items) (map kept c.undo.new.runs.items) (length c.self.inside.runs.items) c.len-open.result c.self.invariant.idle (c.len-open.ensures ∙ c.self.inside.runs.ok.0) c.in-Err.ensures.undoes
     c.undo.ensures in
     (λ i. record { plan = q; open_runs = map started (same i); started = c.self.inside.count }) ∙ c.self.view_is
