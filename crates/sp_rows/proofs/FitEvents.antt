@@ -1,5 +1,5 @@
 -- The event that a row gives fits the plan, and its time is not before the last one.
-use Rattle.std.proofs.Common.{◌≡◌, ℕ, zero, suc, ℤ, pos, ◌+◌, ◌≤◌, ◌≤ℤ◌, ◌^◌, Bool, true, false, ◌&&◌, ◌==◌, List, [], ◌∷◌, ◌++◌, length, Option, Some, None, map, fold, refl, sym, ◌∙◌, ap, subst, append_assoc, arith}
+use Rattle.std.proofs.Common.{◌≡◌, ℕ, suc, ℤ, pos, ◌+◌, ◌≤◌, ◌≤ℤ◌, Bool, true, false, ◌==◌, List, [], ◌∷◌, ◌++◌, length, Option, Some, None, map, fold, refl, sym, ◌∙◌, ap, subst, append_assoc, arith}
 use Rattle.std.specs.Prelude.{nat_le, int_lt, int_le, unsigned_abs, slice_get, is_none, find, if◌then◌else◌}
 use Rattle.std.specs.List.{list_all, zip, enumerate_from, filter_map}
 use Rattle.std.specs.Str.{is_utf8}
@@ -7,19 +7,18 @@ use Rattle.std.proofs.lemmas.Bool.Decides.{nat_tests}
 use Rattle.std.proofs.lemmas.Int.{ints}
 use Rattle.sp_plan.specs.Compiled.{IsTimeOf}
 use Rattle.sp_plan.specs.Events.{fits, fits_kind, fits_column}
-use Rattle.sp_plan.specs.declared.event.Event.{Event}
 use Rattle.sp_plan.specs.declared.event.Value.{Value}
 use Rattle.sp_plan.specs.declared.event.Value.TheVariants.{Number, Symbol}
 use Rattle.sp_plan.specs.declared.plan.Column.{Column}
 use Rattle.sp_plan.specs.declared.plan.Kind.{Kind}
 use Rattle.sp_plan.specs.declared.plan.Kind.TheVariants.{Int, Dec, Text}
 use Rattle.sp_plan.specs.declared.plan.Plan.{Plan}
-use Rattle.sp_plan.specs.Texts.{symbol_of, with_text}
+use Rattle.sp_plan.specs.Texts.{symbol_of}
 use Rattle.sp_rows.specs.declared.fault.RowKind.{RowKind}
-use Rattle.sp_rows.specs.declared.fault.RowKind.TheVariants.{BackInTime, BadNumber, MissingCell, NotUtf8}
+use Rattle.sp_rows.specs.declared.fault.RowKind.TheVariants.{BackInTime, BadNumber, NotUtf8}
 use Rattle.sp_rows.specs.Cells.{RowCells, blank, one, several, row_cells}
 use Rattle.sp_rows.specs.Numbers.{number_of}
-use Rattle.sp_rows.specs.Rows.{RowsRead, RowResult, nothing, event, refused, Cell, number, text, fault, ColumnAt, or_bad, not_negative, cell_of, cell_or_missing, cell_in, fault_at, fault_in, with_cell, values_of, is_place, columns_at, first_fault, number_in, time_in, time_of, time_place, refused_at, timely, event_or_fault, event_row, place_of, header_or_fault, header_row, row_of_cells, by_cells, row_result}
+use Rattle.sp_rows.specs.Rows.{RowsRead, RowResult, nothing, event, refused, Cell, number, text, fault, ColumnAt, or_bad, not_negative, cell_of, cell_or_missing, cell_in, fault_at, fault_in, with_cell, values_of, is_place, columns_at, first_fault, number_in, time_in, time_of, time_place, refused_at, timely, event_or_fault, place_of, header_or_fault, row_of_cells, by_cells, row_result}
 use Rattle.sp_rows.proofs.SmallNumbers.{AreSmall, number_small}
 
 -- the header's places are as many as the plan's columns, once it came

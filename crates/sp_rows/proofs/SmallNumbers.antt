@@ -1,24 +1,10 @@
 -- No number that a cell gives is past 10^15.
-use Rattle.std.proofs.Common.{◌≡◌, ℕ, zero, suc, ℤ, pos, neg_ℤ, ◌+◌, ◌≤◌, Bool, true, false, ◌&&◌, List, [], ◌∷◌, ◌++◌, drop, Option, Some, None, map, fold, refl, arith, rules}
-use Rattle.std.specs.Prelude.{nat_le, int_lt, unsigned_abs, slice_get, is_none, find, ◌==◌, if◌then◌else◌}
-use Rattle.std.specs.List.{All, list_all, slice_split}
+use Rattle.std.proofs.Common.{◌≡◌, ℕ, zero, suc, ℤ, pos, neg_ℤ, ◌≤◌, Bool, true, false, ◌&&◌, List, [], ◌∷◌, ◌++◌, drop, Option, Some, None, refl, arith}
+use Rattle.std.specs.Prelude.{nat_le, unsigned_abs, ◌==◌, if◌then◌else◌}
+use Rattle.std.specs.List.{list_all, slice_split}
 use Rattle.std.specs.Option.{option_map}
-use Rattle.std.specs.Str.{is_utf8}
 use Rattle.std.proofs.lemmas.Bool.Decides.{nat_tests}
-use Rattle.std.proofs.lemmas.List.Elements.{All-push}
-use Rattle.sp_plan.specs.Bounds.{SmallValue, IsSmall}
-use Rattle.sp_plan.specs.declared.event.Value.{Value}
-use Rattle.sp_plan.specs.declared.event.Value.TheVariants.{Number, Symbol}
-use Rattle.sp_plan.specs.declared.plan.Column.{Column}
-use Rattle.sp_plan.specs.declared.plan.Kind.{Kind}
-use Rattle.sp_plan.specs.declared.plan.Kind.TheVariants.{Int, Dec, Text}
-use Rattle.sp_plan.specs.declared.plan.Plan.{Plan}
-use Rattle.sp_plan.specs.Texts.{symbol_of}
-use Rattle.sp_rows.specs.declared.fault.RowKind.{RowKind}
-use Rattle.sp_rows.specs.declared.fault.RowKind.TheVariants.{BackInTime, BadNumber, NotUtf8}
-use Rattle.sp_rows.specs.Cells.{RowCells, blank, one, several, row_cells}
 use Rattle.sp_rows.specs.Numbers.{decimals_to, digits_value, are_digits, within_bound, units_of, unsigned, signed, number_of, trimmed}
-use Rattle.sp_rows.specs.Rows.{RowsRead, RowResult, nothing, event, refused, Cell, number, text, fault, ColumnAt, or_bad, not_negative, cell_of, cell_or_missing, cell_in, with_cell, values_of, columns_at, first_fault, time_of, time_place, refused_at, timely, event_or_fault, place_of, header_or_fault, row_of_cells, by_cells, row_result}
 
 -- the units, where there are some, are within the bound
 abbrev AreWithin : Option ℕ → Type 0

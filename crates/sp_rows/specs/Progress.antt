@@ -38,6 +38,11 @@ abbrev pub ErrorIs : RowResult → RowError → Type 0
 ErrorIs given (Fault found) = given ≡ refused found
 ErrorIs given Memory = Unit {0}
 
+-- a row gives this event, or nothing, and this is the reading after it
+abbrev pub Gave : RowResult → RowsRead → Option Event → Type 0
+Gave given after None = given ≡ nothing after
+Gave given after (Some e) = given ≡ event e after
+
 -- the answer to a row is what the row gives, and the reading after it is the one that it gives; after an error the reading is the one before
 abbrev pub Answers : RowResult → RowsRead → RowsRead → Result (Option Event) RowError → Type 0
 Answers given before after (Ok None) = given ≡ nothing after

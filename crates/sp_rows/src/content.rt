@@ -22,6 +22,9 @@ pub(crate) enum Content<'a> {
 fn is_text(cell: &[u8]) -> bool
     ensures { result ≡ is_utf8 cell.now }
 {
+    if cell.is_ascii() {
+        return true;
+    }
     str::from_utf8(cell).is_ok()
 }
 

@@ -1,5 +1,5 @@
 // Numbers as cells write them.
-ghost use Rattle.std.specs.Prelude.{◌≡◌, ◌<◌, ◌≤◌, ◌^◌, ◌≢◌, ◌∷◌, true, false, ◌++◌, ◌==◌, ◌-◌, IfSome, IfNone, length, take, drop, pos, neg_ℤ, [], slice_index_or};
+ghost use Rattle.std.specs.Prelude.{◌≡◌, ℕ, List, ◌<◌, ◌≤◌, ◌^◌, ◌≢◌, ◌∷◌, true, false, ◌++◌, ◌==◌, ◌-◌, IfSome, IfNone, length, take, drop, pos, neg_ℤ, [], slice_index_or};
 ghost use Rattle.std.specs.List.{list_all, suffix_len, All};
 ghost use Rattle.std.specs.Option.{option_map, ForSome};
 ghost use Rattle.sp_rows.specs.Numbers;
@@ -45,20 +45,6 @@ pub(crate) fn trimmed(cell: &[u8]) -> &[u8]
     without_back(without_front(cell))
 }
 
-/// What stands before the first such byte, and what stands behind it.
-pub(crate) fn cut_at(bytes: &[u8], mark: u8) -> Option<(&[u8], &[u8])>
-    ensures some { IfSome result (λ p. bytes.now ≡ p.0.now ++ mark ∷ p.1.now) }
-    ensures first { IfSome result (λ p. All (λ b. b ≢ mark) p.0.now) }
-    ensures none { IfNone result (All (λ b. b ≢ mark) bytes.now) }
-{
-    for (i, b) in bytes.iter().enumerate() {
-        if *b == mark {
-            return Some((&bytes[..i], &bytes[i + 1..]));
-        }
-    }
-    None
-}
-
 // Whether there are only digits, one or more.
 fn are_digits(digits: &[u8]) -> bool
     ensures { result ≡ Numbers.are_digits digits.now }
@@ -91,20 +77,23 @@ fn with_digit(value: u64, digit: u8) -> u64
     (value * 10 + u64::from(digit.saturating_sub(b'0'))).min(BOUND + 1)
 }
 
-// The number that digits write, or the first past the bound; none where there is no digit, or another byte.
-fn whole_number(digits: &[u8]) -> Option<u64>
-    ensures value { IfSome result (λ value. value ≡ with_more 0 digits.now) }
-    ensures some { IfSome result (λ value. Numbers.are_digits digits.now ≡ true) }
-    ensures none { IfNone result (Numbers.are_digits digits.now ≡ false) }
+// The digits at the front: the number that they write, or the first past the bound, and how many they are.
+fn leading(digits: &[u8]) -> (u64, usize)
+    ensures value { result.0 ≡ with_more 0 (take result.1 digits.now) }
+    ensures small { result.0 ≤ 1000000000000001 }
+    ensures within { result.1 ≤ length digits.now }
+    ensures digits { list_all Numbers.is_digit (take result.1 digits.now) ≡ true }
+    ensures ends { result.1 < length digits.now → Numbers.is_digit (slice_index_or digits.now result.1 0) ≡ false }
 {
     let mut value = 0u64;
-    for digit in digits {
+    for count in 0..digits.len() {
+        let digit = digits[count];
         if !digit.is_ascii_digit() {
-            return None;
+            return (value, count);
         }
-        value = with_digit(value, *digit);
+        value = with_digit(value, digit);
     }
-    if digits.is_empty() { None } else { Some(value) }
+    (value, digits.len())
 }
 
 // The decimal at this place, a zero where none is written.
@@ -145,18 +134,17 @@ fn within_bound(value: u64) -> Option<u64>
     if value <= BOUND { Some(value) } else { None }
 }
 
-// The units of a number with decimals.
-fn decimal_units(scale: u8, whole: &[u8], decimals: &[u8]) -> Option<u64>
-    ensures units { result ≡ Numbers.units_of scale (whole.now ∷ decimals.now ∷ []) }
+// The units of a number with decimals, whose digits before the point write this number.
+fn decimal_units(scale: u8, whole: u64, decimals: &[u8]) -> Option<u64>
+    requires { whole ≤ 1000000000000001 }
+    ensures units { (digits : List ℕ) → Numbers.are_digits digits ≡ true → whole ≡ with_more 0 digits
+        → result ≡ Numbers.units_of scale (digits ∷ decimals.now ∷ []) }
     ensures below { ForSome result (λ n. n ≤ 1000000000000000) }
 {
     if !are_digits(decimals) || !are_zeros(past_scale(scale, decimals)) {
         return None;
     }
-    match whole_number(whole) {
-        None => None,
-        Some(value) => within_bound(with_decimals(value, scale, decimals)),
-    }
+    within_bound(with_decimals(whole, scale, decimals))
 }
 
 // The units without a sign before them.
@@ -164,13 +152,17 @@ fn unsigned(scale: u8, digits: &[u8]) -> Option<u64>
     ensures units { result ≡ Numbers.unsigned scale digits.now }
     ensures below { ForSome result (λ n. n ≤ 1000000000000000) }
 {
-    if let Some(value) = whole_number(digits) {
+    let (value, count) = leading(digits);
+    if count == 0 {
+        return None;
+    }
+    if count == digits.len() {
         return within_bound(with_decimals(value, scale, &[]));
     }
-    match cut_at(digits, b'.') {
-        None => None,
-        Some((whole, decimals)) => decimal_units(scale, whole, decimals),
+    if digits[count] != b'.' {
+        return None;
     }
+    decimal_units(scale, value, digits.split_at(count + 1).1)
 }
 
 // A number of units as the value of a cell.

@@ -2,14 +2,14 @@
 ghost use Rattle.std.specs.Prelude.{◌≡◌, ◌+◌, ◌<◌, ◌^◌, Some, None, IfOk, IfErr, IfSome, OnOk, OnErr, option_map, length, take};
 ghost use Rattle.sp_rows.specs.Rows as spec;
 ghost use Rattle.sp_rows.specs.Shapes.{column_of, fields_in};
-ghost use Rattle.sp_rows.specs.Progress.{reading, ErrorIs};
+ghost use Rattle.sp_rows.specs.Progress.{reading, ErrorIs, Gave};
 
 use crate::columns::{Placed, time_column};
 use crate::fault::{RowError, RowFault, RowKind};
 use crate::split::Fields;
 use crate::texts::Texts;
 use crate::values::{Given, read_values, time_in};
-use sp_plan::{Event, Memory, Plan};
+use sp_plan::{Event, Memory, Plan, Values};
 use std::alloc::Global;
 
 /// How many rows were read, the last time, and the texts by their numbers.
@@ -87,9 +87,9 @@ impl Progress {
         cells: &Fields<'_>,
         plan: &Plan,
         places: &[usize],
-    ) -> Result<Event, RowError>
+    ) -> Result<Option<Event>, RowError>
         requires { self.old.read + 1 < 2 ^ 32 }
-        ensures event { IfOk result (λ e. spec.event_row plan.now (reading (Some places.now) self.old) (fields_in cells.now) places.now ≡ spec.event e (reading (Some places.now) self.new)) }
+        ensures event { IfOk result (λ given. Gave (spec.event_row plan.now (reading (Some places.now) self.old) (fields_in cells.now) places.now) (reading (Some places.now) self.new) given) }
         ensures read { OnOk result (self.new.read ≡ self.old.read + 1) }
         ensures error { IfErr result (λ e. ErrorIs (spec.event_row plan.now (reading (Some places.now) self.old) (fields_in cells.now) places.now) e) }
         ensures err { OnErr result (self.new ≡ self.old) }
@@ -109,26 +109,29 @@ impl Progress {
         cells: &Fields<'_>,
         plan: &Plan,
         places: &[usize],
-    ) -> Result<Event, RowError>
+    ) -> Result<Option<Event>, RowError>
         requires { self.old.read + 1 < 2 ^ 32 }
-        ensures event { IfOk result (λ e. spec.event_row plan.now (reading (Some places.now) self.old) (fields_in cells.now) places.now ≡ spec.event e (reading (Some places.now) self.new)) }
+        ensures event { IfOk result (λ given. Gave (spec.event_row plan.now (reading (Some places.now) self.old) (fields_in cells.now) places.now) (reading (Some places.now) self.new) given) }
         ensures read { OnOk result (self.new.read ≡ self.old.read + 1) }
         ensures error { IfErr result (λ e. ErrorIs (spec.event_row plan.now (reading (Some places.now) self.old) (fields_in cells.now) places.now) e) }
         ensures same { OnErr result (self.new.read ≡ self.old.read) }
         ensures last { OnErr result (self.new.last ≡ self.old.last) }
         ensures kept { take (length self.old.texts) self.new.texts ≡ self.old.texts }
     {
-        match read_values(alloc, cells, plan, places, &mut self.texts) {
+        let Ok(mut values) = Values::with_capacity(alloc, places.len()) else {
+            return Err(RowError::Memory);
+        };
+        match read_values(alloc, cells, plan, places, &mut self.texts, &mut values) {
             Err(_) => Err(RowError::Memory),
             Ok(Given::Fault(kind, place)) => Err(self.refusal_at(kind, place)),
-            Ok(Given::Values(values)) => {
+            Ok(Given::Whole) => {
                 let time = time_in(values.as_slice(), plan.schema.time);
                 if time < self.last {
                     return Err(self.back_in_time(time, &time_column(plan, places)));
                 }
                 self.read += 1;
                 self.last = time;
-                Ok(Event { time, values })
+                Ok(Some(Event { time, values }))
             }
         }
     }

@@ -71,10 +71,7 @@ impl Reading {
         ensures answers { Answers (spec.row_of_cells (plan_in self.old) (read_in self.old) (fields_in cells.now) (read_in self.old).places) (read_in self.old) (read_in self.new) result }
     {
         if let Some(places) = &self.places {
-            return match self.progress.event(alloc, cells, &self.plan, places) {
-                Ok(event) => Ok(Some(event)),
-                Err(error) => Err(error),
-            };
+            return self.progress.event(alloc, cells, &self.plan, places);
         }
         self.header(alloc, cells)
     }

@@ -1,5 +1,5 @@
 // The values of a row, or its first fault.
-ghost use Rattle.std.specs.Prelude.{◌≡◌, length, take, IfOk, OnOk};
+ghost use Rattle.std.specs.Prelude.{◌≡◌, [], length, take, IfOk, OnOk};
 ghost use Rattle.sp_rows.specs.Rows as spec;
 ghost use Rattle.sp_rows.specs.Shapes.{cell_shape, fields_in};
 ghost use Rattle.sp_rows.specs.Given.{GivenIs, TimeIs, fault_of, time_among};
@@ -15,7 +15,8 @@ use std::alloc::Global;
 /// What the cells of a row give.
 #[derive(Drop)]
 pub(crate) enum Given {
-    Values(Values),
+    /// All its values.
+    Whole,
     /// The first fault, column by column in the order of the plan, with the place of its cell from 0.
     Fault(RowKind, usize),
 }
@@ -42,32 +43,33 @@ fn push_content(
     Ok(None)
 }
 
-/// The values of a row, or its first fault. At a fault, and where memory is wanted, new texts may be
-/// known behind those before.
+/// Puts in the values of a row, or tells its first fault. At a fault, and where memory is wanted, new
+/// texts may be known behind those before, and any values may be there.
 pub(crate) fn read_values(
     alloc: Global,
     cells: &Fields<'_>,
     plan: &Plan,
     places: &[usize],
     texts: &mut Texts,
+    values: &mut Values,
 ) -> Result<Given, Memory>
-    ensures given { IfOk result (λ given. GivenIs (spec.values_of texts.old (fields_in cells.now) (spec.columns_at plan.now places.now)) (spec.first_fault (fields_in cells.now) (spec.columns_at plan.now places.now)) texts.new given) }
-    ensures time { IfOk result (λ given. TimeIs plan.now.schema.time (spec.time_of (fields_in cells.now) (spec.columns_at plan.now places.now)) given) }
+    requires { values.old ≡ [] }
+    ensures given { IfOk result (λ given. GivenIs (spec.values_of texts.old (fields_in cells.now) (spec.columns_at plan.now places.now)) (spec.first_fault (fields_in cells.now) (spec.columns_at plan.now places.now)) values.new texts.new given) }
+    ensures time { IfOk result (λ given. TimeIs plan.now.schema.time (spec.time_of (fields_in cells.now) (spec.columns_at plan.now places.now)) values.new given) }
     ensures kept { take (length texts.old) texts.new ≡ texts.old }
 {
-    let mut values = Values::with_capacity(alloc, places.len())?;
     for number in 0..places.len() {
         match column_at(plan, places, number) {
-            None => return Ok(Given::Values(values)),
+            None => return Ok(Given::Whole),
             Some(column) => {
                 let content = content_in(cells, &column);
-                if let Some(kind) = push_content(alloc, &mut values, texts, content)? {
+                if let Some(kind) = push_content(alloc, values, texts, content)? {
                     return Ok(Given::Fault(kind, column.place));
                 }
             }
         }
     }
-    Ok(Given::Values(values))
+    Ok(Given::Whole)
 }
 
 /// The time among the values of a row; 0 where there is none.

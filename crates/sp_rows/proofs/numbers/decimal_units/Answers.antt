@@ -5,12 +5,10 @@ use Rattle.sp_rows.specs.Capped.{with_more}
 use Rattle.sp_rows.proofs.Digits.{in_two}
 use Rattle.sp_rows.proofs.numbers.decimal_units.Goals as goal
 
-pub returns-in-Some-clause-units : goal.returns-in-Some-clause-units
-returns-in-Some-clause-units c =
+pub returns-clause-units : goal.returns-clause-units
+returns-clause-units c digits are is =
     let scale = c.args.scale in
-    let whole = c.args.whole.now in
     let decimals = c.args.decimals.now in
-    let first : are_digits whole ≡ true = c.in-Some.ensures.some in
     let second : are_digits decimals ≡ true = search rules in
     let third : list_all (λ b. b == 48) (drop scale decimals) ≡ true = search rules in
-    rw (first, second, third) (c.within_bound.ensures.value ∙ ap within_bound (c.with_decimals.ensures ∙ ap (λ (n : ℕ). with_more n (decimals_to scale decimals)) c.in-Some.ensures.value) ∙ in_two whole (decimals_to scale decimals))
+    rw (are, second, third) (c.within_bound.ensures.value ∙ ap within_bound (c.with_decimals.ensures ∙ ap (λ (n : ℕ). with_more n (decimals_to scale decimals)) is) ∙ in_two digits (decimals_to scale decimals))

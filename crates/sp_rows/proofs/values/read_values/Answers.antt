@@ -62,8 +62,5 @@ returns-clause-time c =
     time_read c.args.plan.now c.args.places.now cells c.args.texts.now c.loop-number.texts c.loop-number.values (c.loop-number.invariant.values ∙ ap (values_of c.args.texts.now cells) all)
     (ap (filter_map (fault_at cells)) (sym all) ∙ c.loop-number.invariant.whole)
 
-pub returns-in_err-values-clause-kept : goal.returns-in_err-values-clause-kept
-returns-in_err-values-clause-kept c = grind (arith, common_steps)
-
 pub loop-number-init : goal.loop-number-init
 loop-number-init c = grind (arith, common_steps)
