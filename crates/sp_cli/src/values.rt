@@ -19,6 +19,22 @@ pub(crate) struct Limits {
 // The most digits of a number.
 const DIGITS: usize = 10;
 
+// The limits of the numbers that options say.
+const INSTANCES: Limits = Limits {
+    least: 0,
+    greatest: 16,
+};
+
+const LIVE: Limits = Limits {
+    least: 1,
+    greatest: 4096,
+};
+
+const BATCH: Limits = Limits {
+    least: 1,
+    greatest: 1024,
+};
+
 /// The number within the limits that the text writes: one to ten digits.
 pub(crate) fn number_of(text: &str, limits: Limits) -> Result<u32, UsageFault>
     ensures ok { IfOk result (λ n. number limits.least limits.greatest text.now ≡ Some n) }
@@ -60,22 +76,6 @@ fn number_at(
         None => Ok(left_out),
     }
 }
-
-/// The greatest number of live versions.
-pub(crate) const LIVE: Limits = Limits {
-    least: 1,
-    greatest: 4096,
-};
-
-const INSTANCES: Limits = Limits {
-    least: 0,
-    greatest: 16,
-};
-
-const BATCH: Limits = Limits {
-    least: 1,
-    greatest: 1024,
-};
 
 /// How many versions may be live.
 pub(crate) fn live_in(matches: &ArgMatches<'_>) -> Result<u32, UsageFault>
