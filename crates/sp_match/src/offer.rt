@@ -1,15 +1,15 @@
 // An event that is offered to the runs of a window.
-ghost use Rattle.std.specs.Prelude.{◌≡◌, [], Some, IfOk, OnOk};
+ghost use Rattle.std.specs.Prelude.{◌≡◌, [], Some, find, IfOk, OnOk};
 ghost use Rattle.sp_plan.specs.Bounds.{IsSmall};
 ghost use Rattle.sp_plan.specs.Compiled.{IsCompiled};
-ghost use Rattle.sp_plan.specs.Runs.{takes};
+ghost use Rattle.sp_plan.specs.Runs.{name_holds, names_of, takes};
+ghost use Rattle.sp_match.specs.inside.Good.{IsNamed};
 ghost use Rattle.sp_match.specs.inside.Offer.{IsOffer, IsShared, lets_leave};
 
 use crate::Memory;
 use crate::known::Known;
-use crate::run::Run;
-use crate::taking::takes;
-use sp_plan::{Event, Plan, Select, SharedEvent};
+use crate::taking::span;
+use sp_plan::{Bound, Element, Event, Plan, Select, SharedEvent, holds};
 use std::alloc::Global;
 
 /// An event that the open runs are offered, and that may start one.
@@ -28,14 +28,47 @@ pub(crate) struct Offer<'a> {
     pub(crate) may: &'a [bool; 32],
 }
 
-/// The name under which an event begins a run, if it begins one.
+// Whether the event fulfils the predicate of the name where nothing is bound.
+fn fits_first(plan: &Plan, event: &Event, none: &Bound, name: u8) -> bool
+    requires compiled { IsCompiled plan.now }
+    requires small { IsSmall event.now }
+    requires none { none.now ≡ [] }
+    ensures { result ≡ name_holds plan.now [] event.now name }
+{
+    match plan.names.as_slice().get(name as usize) {
+        Some(name) => holds(&name.pred, event, none),
+        None => false,
+    }
+}
+
+// The first name of the element under which the event begins a run.
+fn first_of(plan: &Plan, event: &Event, none: &Bound, element: Element) -> Option<u8>
+    requires compiled { IsCompiled plan.now }
+    requires small { IsSmall event.now }
+    requires none { none.now ≡ [] }
+    requires named { IsNamed element }
+    ensures { result ≡ find (name_holds plan.now [] event.now) (names_of element) }
+{
+    let (first, past) = span(element);
+    for name in first..past {
+        if fits_first(plan, event, none, name) {
+            return Some(name);
+        }
+    }
+    None
+}
+
+/// The name under which an event begins a run, if it begins one: a name of the first element.
 pub(crate) fn first_name(alloc: Global, plan: &Plan, event: &Event) -> Option<u8>
     requires compiled { IsCompiled plan.now }
     requires small { IsSmall event.now }
     ensures { result ≡ takes plan.now [] event.now }
 {
-    let none = Run::new(alloc, 0);
-    takes(plan, &none, event, &[true; 32])
+    let elements = plan.elements.as_slice();
+    if elements.is_empty() {
+        return None;
+    }
+    first_of(plan, event, &Bound::new(alloc), elements[0])
 }
 
 /// The name under which the event begins a run, if it begins one. It isn't looked for where it is known

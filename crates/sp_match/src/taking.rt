@@ -57,8 +57,8 @@ fn takes_as(plan: &Plan, run: &Run, event: &Event, may: &[bool; 32], name: u8) -
     !is_out(may, name) && fits_name(plan, run, event, name)
 }
 
-// The names of an element are those from the first number on and below the second.
-fn span(element: Element) -> (u8, u8)
+/// The names of an element are those from the first number on and below the second.
+pub(crate) fn span(element: Element) -> (u8, u8)
     requires { IsNamed element }
     ensures names { names_of element ≡ range_with_len result.0 (result.1 - result.0) }
     ensures few { (result.0 ≡ result.1) ⊎ (result.1 ≤ 32) }

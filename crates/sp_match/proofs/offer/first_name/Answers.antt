@@ -1,11 +1,22 @@
-use Rattle.std.proofs.Common.{sym, subst}
-use Rattle.sp_match.specs.inside.Good.{Good}
-use Rattle.sp_match.proofs.GrownRunIsGood.{good_empty}
-use Rattle.sp_match.proofs.MasksAreSure.{mask_open}
+use Rattle.std.proofs.Common.{◌<◌, length, sym, subst, ◌∙◌, rules}
+use Rattle.std.specs.List.{All}
+use Rattle.std.proofs.lemmas.List.Elements.{All-get_or}
+use Rattle.sp_plan.specs.declared.plan.Element.TheVariants.{One}
+use Rattle.sp_plan.specs.Compiled.{IsSetOfMany}
+use Rattle.sp_match.specs.inside.Good.{IsNamed}
+use Rattle.sp_match.proofs.BeginningIsTaken.{begins_with}
+use Rattle.sp_match.proofs.ElementsAreNamed.{elements_named}
 use Rattle.sp_match.proofs.offer.first_name.Goals as goal
 
-pub takes-requires-clause-good : goal.takes-requires-clause-good
-takes-requires-clause-good c = subst (Good c.args.plan.now) (sym c.new-none.ensures) (good_empty c.args.plan.now 0)
+pub first_of-requires-clause-named : goal.first_of-requires-clause-named
+first_of-requires-clause-named c =
+    let elements = c.as_slice-elements.result.now in
+    let some : 0 < length elements = search rules in
+    All-get_or IsNamed elements 0 (One 0) some (subst (All IsNamed) (sym c.as_slice-elements.ensures) (elements_named c.args.plan.now c.requires.compiled))
 
-pub takes-requires-clause-may : goal.takes-requires-clause-may
-takes-requires-clause-may c = mask_open c.args.plan.now c.args.event.now
+pub returns : goal.returns
+returns c =
+    let q = c.args.plan.now in
+    let elements = c.as_slice-elements.result.now in
+    let some : 0 < length elements = search rules in
+    c.first_of-2.ensures ∙ begins_with q c.args.event.now elements (One 0) (sym c.as_slice-elements.ensures) some (subst (All IsSetOfMany) (sym c.as_slice-elements.ensures) c.requires.compiled.sets)

@@ -1,0 +1,44 @@
+-- The name under which an event begins a run is one of the first element.
+use Rattle.std.proofs.Common.{◌≡◌, ℕ, zero, suc, ◌<◌, false, not, List, [], ◌∷◌, ◌++◌, length, get_or, Some, None, refl, sym, ap, ◌∙◌, append-nil, arith}
+use Rattle.std.specs.Prelude.{if◌then◌else◌}
+use Rattle.std.specs.List.{All, find, filter, list_all, range_with_len}
+use Rattle.std.proofs.lemmas.List.Elements.{All-head}
+use Rattle.sp_plan.specs.declared.event.Event.{Event}
+use Rattle.sp_plan.specs.declared.plan.Element.{Element}
+use Rattle.sp_plan.specs.declared.plan.Element.TheVariants.{One, Plus, Set}
+use Rattle.sp_plan.specs.declared.plan.Plan.{Plan}
+use Rattle.sp_plan.specs.Compiled.{IsSetOfMany}
+use Rattle.sp_plan.specs.Runs.{is_bound, is_filled, name_holds, names_of, takes, unbound}
+
+none_unfilled : (n first : ℕ) → 0 < n → list_all (is_bound []) (range_with_len first n) ≡ false
+none_unfilled zero first some = absurd (omega (arith, some))
+none_unfilled (suc n) first some = refl
+
+-- no element is filled where nothing is bound
+unfilled : (element : Element) → IsSetOfMany element → is_filled [] element ≡ false
+unfilled (One name) many = refl
+unfilled (Plus name) many = refl
+unfilled (Set first count) many = none_unfilled count first (omega (arith, many))
+
+all_lacked : (names : List ℕ) → filter (λ name. not (is_bound [] name)) names ≡ names
+all_lacked [] = refl
+all_lacked (name ∷ names) = ap (λ (l : List ℕ). name ∷ l) (all_lacked names)
+
+-- the names that are tried
+pub first_names : (element : Element) (elements : List Element) → IsSetOfMany element → unbound [] (find (λ element. not (is_filled [] element)) (element ∷ elements)) ++ [] ≡ names_of element
+first_names element elements many =
+    append-nil (unbound [] (find (λ element. not (is_filled [] element)) (element ∷ elements)))
+    ∙ (λ i. unbound [] (if not (unfilled element many i) then Some element else find (λ element. not (is_filled [] element)) elements)) ∙ all_lacked (names_of element)
+
+-- so for the plan's elements
+pub begins_with : (q : Plan) (e : Event) (elements : List Element) (d : Element) → q.elements ≡ elements → 0 < length elements → All IsSetOfMany elements → find (name_holds q [] e) (names_of (get_or elements 0 d)) ≡ takes q [] e
+begins_with q e [] d is some sets = absurd (omega (arith, some))
+begins_with q e (element ∷ elements) d is some sets =
+    sym (ap (find (name_holds q [] e)) (ap (λ (l : List Element). unbound [] (find (λ element. not (is_filled [] element)) l) ++ []) is ∙ first_names element elements (All-head IsSetOfMany element elements sets)))
+
+pub begins_none : (q : Plan) (e : Event) → length q.elements ≡ 0 → None ≡ takes q [] e
+begins_none q e none = one q.elements refl none
+  where
+    one : (elements : List Element) → q.elements ≡ elements → length elements ≡ 0 → None ≡ takes q [] e
+    one [] is none = sym (ap (λ (l : List Element). find (name_holds q [] e) (unbound [] (find (λ element. not (is_filled [] element)) l) ++ [])) is)
+    one (element ∷ elements) is none = absurd (omega (arith, none))
