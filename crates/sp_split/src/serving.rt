@@ -72,8 +72,8 @@ fn turn_once<L: Naming, O: Outlet, R: Wait>(
         → (O.state outlet.new).faults ≡ (O.state outlet.old).faults }
     ensures goes { OnOk result (Goes desk.old.splitter.instances desk.old.splitter.core
         desk.new.splitter.core) }
-    ensures read { ReadByCalls desk.old.splitter.core desk.new.splitter.core desk.old.by desk.new.by
-        }
+    ensures read { ReadByCalls desk.old.splitter.core desk.new.splitter.core
+        desk.old.by desk.new.by }
     ensures can { OnOk result (CanTurn desk.new.splitter.instances desk.new.splitter.batch
         desk.new.splitter.kept.items desk.new.splitter.core.machine.next_ticket desk.new.by) }
     ensures open { desk.new.by.closed ≡ false }
