@@ -1,0 +1,6 @@
+mod Cutting
+mod Fields
+mod Numbers
+mod Reading
+mod Rows
+mod Worked
