@@ -22,14 +22,18 @@ pub enum Known {
     Any,
 }
 
-// Whether some name's predicate may hold of the event.
+// Whether some name's predicate may hold of the event. The last names are asked first: mostly they speak of
+// events that are bound, so that no more has to be looked at.
 fn may_be_taken(alloc: Global, plan: &Plan, event: &Event) -> bool
     requires compiled { IsCompiled plan.now }
     requires small { IsSmall event.now }
     ensures { result ≡ list_any (may_take event.now) plan.now.names }
 {
-    for name in plan.names.as_slice() {
-        if may_hold(alloc, &name.pred, event) {
+    let names = plan.names.as_slice();
+    let mut left = names.len();
+    while left > 0 {
+        left -= 1;
+        if may_hold(alloc, &names[left].pred, event) {
             return true;
         }
     }
@@ -46,12 +50,12 @@ pub fn known_of(alloc: Global, plan: &Plan, event: &Event) -> Known
 {
     fitting_events_are_small();
     what_may_not_hold_does_not();
-    if !may_be_taken(alloc, plan, event) {
-        Known::Never
-    } else if first_name(alloc, plan, event).is_none() {
+    if first_name(alloc, plan, event).is_some() {
+        Known::Any
+    } else if may_be_taken(alloc, plan, event) {
         Known::Onward
     } else {
-        Known::Any
+        Known::Never
     }
 }
 

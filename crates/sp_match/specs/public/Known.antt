@@ -1,5 +1,5 @@
 -- What is known of an event before any run is offered it.
-use Rattle.std.specs.Prelude.{◌≡◌, Bool, [], None, is_none, if◌then◌else◌}
+use Rattle.std.specs.Prelude.{◌≡◌, Bool, [], None, is_some, if◌then◌else◌}
 use Rattle.std.specs.List.{list_any}
 use Rattle.sp_plan.specs.declared.event.Event.{Event}
 use Rattle.sp_plan.specs.declared.plan.Name.{Name}
@@ -19,6 +19,6 @@ IsKnown q e Any = Unit {0}
 abbrev pub may_take : Event → Name → Bool
 may_take e name = may_hold name.pred e
 
--- as much as is known of the event: that no predicate may hold of it, or else that a run that has bound nothing doesn't take it
+-- as much as is known of the event: that a run which has bound nothing takes it, so that no more can be said; or else whether some predicate may hold of it
 abbrev pub known_by : Plan → Event → Known
-known_by q e = if list_any (may_take e) q.names then (if is_none (takes q [] e) then Onward else Any) else Never
+known_by q e = if is_some (takes q [] e) then Any else if list_any (may_take e) q.names then Onward else Never
