@@ -68,7 +68,7 @@ fn count_after(count: u32, began: bool) -> u32
 impl Matcher {
     ghost use Rattle.sp_plan.specs.Compiled.{IsCompiled};
     ghost use Rattle.sp_plan.specs.Windows.{Numbered};
-    ghost use Rattle.sp_match.specs.public.Known.{IsKnown};
+    ghost use Rattle.sp_match.specs.public.Known.{IsKnown, is_ignored};
     ghost use Rattle.sp_match.specs.public.Matching.{IsAfter, SameMatching, SameRuns, TellsClosing, TellsEvent, TellsWanted, left_at, runs_of, shown};
 
     /// No run is open, and none has started. Takes no memory.
@@ -152,9 +152,10 @@ impl Matcher {
         }
     }
 
-    /// Whether an event of which this is known changes nothing: no run takes it, none leaves, and it
-    /// starts none.
+    /// Whether an event of which this is known changes nothing, as far as that tells: no run takes it, none
+    /// leaves, and it starts none.
     pub fn ignores(&self, known: Known) -> bool
+        ensures value { result ≡ is_ignored known self.now.open_runs }
         ensures stands { IsTrue result → (x : Numbered) → IsKnown self.now.plan x.1 known
             → IsAfter x self.now self.now }
         ensures told { IsTrue result → (x : Numbered) → IsKnown self.now.plan x.1 known
