@@ -100,6 +100,17 @@ fn factor(expr: &Expr, event: &Event, bound: &Bound) -> Option<i64>
     leaf(expr, event, bound)
 }
 
+// The same of the right part, which is a number in most products: it is read in place.
+#[inline(always)]
+fn right_factor(expr: &Expr, event: &Event, bound: &Bound) -> Option<i64>
+    ensures { IfSome result (λ n. n ≡ Values.value expr.now event.now bound.now) }
+{
+    match expr {
+        Expr::Literal(n) => Some(*n),
+        _ => factor(expr, event, bound),
+    }
+}
+
 // The product of two numbers, which 128 bits hold whatever they are.
 #[inline(always)]
 fn times(one: i64, other: i64) -> i128
@@ -115,7 +126,7 @@ fn product(expr: &Expr, by: i64, event: &Event, bound: &Bound) -> Option<i128>
 {
     match expr {
         Expr::Mul(left, right) => {
-            let right = factor(right, event, bound)?;
+            let right = right_factor(right, event, bound)?;
             let by = right.checked_mul(by)?;
             Some(times(factor(left, event, bound)?, by))
         }
