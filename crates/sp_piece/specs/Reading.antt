@@ -1,5 +1,6 @@
 -- Where the reading of lent events leads, and what is told of it.
 use Rattle.std.specs.Prelude.{ℕ, zero, suc, ◌+◌, Bool, List, [], ◌∷◌, ◌++◌, Option, Some, None, map, slice_get, if◌then◌else◌}
+use Rattle.std.specs.List.{flat_map}
 use Rattle.sp_plan.specs.declared.event.Event.{Event}
 use Rattle.sp_plan.specs.declared.plan.Plan.{Plan}
 use Rattle.sp_plan.specs.Windows.{Numbered}
@@ -64,6 +65,10 @@ accounts_on l s (suc n) = accounts_on l s n ++ accounts_at l (read_on l s n) n
 abbrev pub accounts_to : Loan → State → ℕ → Bool → List Account
 accounts_to l s n closed =
     if closed then accounts_on l s n ++ closing_account l.plan (read_on l s n) ∷ [] else accounts_on l s n
+
+-- what several accounts tell, one after another
+abbrev pub joined : List Account → Account
+joined accounts = record { told = flat_map (λ a. a.told) accounts; wanted = flat_map (λ a. a.wanted) accounts }
 
 -- moves as an account
 abbrev pub seen_moves : Moves → Account

@@ -2,12 +2,13 @@ ghost use Rattle.sp_piece.specs.Lending.{IsLendable};
 
 use sp_base::Numbers;
 use sp_hub::Named;
-use sp_match::Matcher;
+use sp_match::{Known, Matcher};
 use sp_plan::{Event, Listed};
 
 /// What is lent to be read, with all that the reading needs. Its events fit the plan of `before`, which
-/// is compiled as each matcher's is; the first one's number is above each number that an open run of
-/// `before` holds and above the count of its runs; and no event's number passes 1,048,576.
+/// is compiled as each matcher's is, and what is said to be known of each of them is so; the first one's
+/// number is above each number that an open run of `before` holds and above the count of its runs; and
+/// no event's number passes 1,048,576.
 #[derive(Drop)]
 pub struct Job {
     /// The ticket's number, from 1.
@@ -20,11 +21,13 @@ pub struct Job {
     pub before: Matcher,
     /// The lent events, numbered from `first` on.
     pub events: Listed<Event>,
+    /// What is known of each of them.
+    pub known: Listed<Known>,
     /// The numbers of those that are to be skipped.
     pub snapshot: Numbers,
     /// Whether the window's closing comes behind them.
     pub closes: bool,
-    pub ghost lendable: { IsLendable before events first },
+    pub ghost lendable: { IsLendable before events known first },
 }
 
 impl Named for Job {

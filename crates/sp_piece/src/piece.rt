@@ -136,8 +136,8 @@ impl Piece {
         self.read
     }
 
-    /// What it did: one entry for each event that was read and not passed over, in their order, and one
-    /// for the closing.
+    /// What it did, in the order of the events that were read and not passed over, and of the closing behind
+    /// them. One entry may tell of several events: of those that changed nothing there is none of their own.
     pub fn moves(&self) -> &[Moves]
         ensures { Tells self.now result.now }
     {
