@@ -1,4 +1,4 @@
-ghost use Rattle.std.specs.Prelude.{◌≡◌, ℕ, ◌+◌, ◌^◌, ◌<◌, true, ◌↔◌, [], length, map, IsTrue, IfOk, OnOk, OnErr, slice_index_or};
+ghost use Rattle.std.specs.Prelude.{◌≡◌, ℕ, ◌+◌, ◌^◌, ◌<◌, true, ◌↔◌, [], ◌++◌, length, map, IsTrue, IfOk, OnOk, OnErr, slice_index_or};
 ghost use Rattle.std.specs.Arc.{arc_value};
 ghost use Rattle.sp_plan.specs.Compiled.{IsCompiled};
 ghost use Rattle.sp_plan.specs.Events.{fits};
@@ -15,7 +15,7 @@ use crate::moves::{Move, Moves};
 use crate::offer::Offer;
 use crate::run::Run;
 use crate::settling::{settle, undo};
-use crate::wanting::left;
+use crate::wanting::{left, want_as_before};
 use sp_plan::{Event, Plan, fitting_events_are_small, plans_are_themselves};
 use std::alloc::Global;
 use std::marker::Model;
@@ -69,7 +69,7 @@ impl Matcher {
     ghost use Rattle.sp_plan.specs.Compiled.{IsCompiled};
     ghost use Rattle.sp_plan.specs.Windows.{Numbered};
     ghost use Rattle.sp_match.specs.public.Known.{IsKnown, is_ignored};
-    ghost use Rattle.sp_match.specs.public.Matching.{IsAfter, SameMatching, SameRuns, TellsClosing, TellsEvent, TellsWanted, left_at, runs_of, shown};
+    ghost use Rattle.sp_match.specs.public.Matching.{IsAfter, SameMatching, SameRuns, TellsClosing, TellsEvent, TellsWanted, left_at, runs_of, shown, wanted_as_before};
 
     /// No run is open, and none has started. Takes no memory.
     pub fn new(alloc: Global, plan: Arc<Plan>) -> Result<Matcher, Memory>
@@ -103,6 +103,56 @@ impl Matcher {
         self.count = 0;
     }
 
+    // All that the next visible event does, of which this is known. The moves are cleared first, and tell of
+    // it then, and of what the runs want.
+    fn offer_known_into(
+        &mut self,
+        alloc: Global,
+        number: u32,
+        event: &Event,
+        known: Known,
+        moves: &mut Moves,
+    ) -> Result<(), Memory>
+        requires fits { fits self.old.plan event.now ≡ true }
+        requires below { Below number (runs_of self.old) }
+        requires known { IsKnown self.old.plan event.now known }
+        ensures stands { OnOk result (IsAfter (number, event.now) self.old self.new) }
+        ensures told { OnOk result
+            (TellsEvent (number, event.now) self.old (all_seen moves.new.list.items)) }
+        ensures wanted { OnOk result
+            (TellsWanted (number, event.now) self.old moves.new.wanted.items) }
+        ensures below { OnOk result (Below (number + 1) (runs_of self.new)) }
+        ensures plan { self.new.plan ≡ self.old.plan }
+        ensures err { OnErr result (self.new ≡ self.old) }
+        ensures cleared { OnErr result
+            ((moves.new.list.items ≡ []) × (moves.new.wanted.items ≡ [])) }
+    {
+        fitting_events_are_small();
+        let open = self.runs.len();
+        let may = names_ahead(alloc, &self.plan, event, open);
+        let offer = Offer {
+            alloc,
+            plan: &self.plan,
+            number,
+            event,
+            known,
+            may: &may,
+        };
+        match handle_all(&offer, &mut self.runs, &mut self.lefts, self.count, moves) {
+            Ok(started) => {
+                let is_quiet = moves.list.is_empty();
+                settle(&self.plan, &mut self.runs, is_quiet);
+                self.count = count_after(self.count, started);
+                Ok(())
+            }
+            Err(memory) => {
+                undo(&mut self.runs, open);
+                moves.clear();
+                Err(memory)
+            }
+        }
+    }
+
     /// Handles the next visible event: the open runs are offered it, the oldest first, and then it may
     /// start one. The moves are cleared first, and tell of it then; their room is used again. After want
     /// of memory the matcher is as before, and there are no moves.
@@ -126,30 +176,7 @@ impl Matcher {
         ensures cleared { OnErr result
             ((moves.new.list.items ≡ []) × (moves.new.wanted.items ≡ [])) }
     {
-        fitting_events_are_small();
-        let open = self.runs.len();
-        let may = names_ahead(alloc, &self.plan, event, open);
-        let offer = Offer {
-            alloc,
-            plan: &self.plan,
-            number,
-            event,
-            known: Known::Any,
-            may: &may,
-        };
-        match handle_all(&offer, &mut self.runs, &mut self.lefts, self.count, moves) {
-            Ok(started) => {
-                let is_quiet = moves.list.is_empty();
-                settle(&self.plan, &mut self.runs, is_quiet);
-                self.count = count_after(self.count, started);
-                Ok(())
-            }
-            Err(memory) => {
-                undo(&mut self.runs, open);
-                moves.clear();
-                Err(memory)
-            }
-        }
+        self.offer_known_into(alloc, number, event, Known::Any, moves)
     }
 
     /// Whether an event of which this is known changes nothing, as far as that tells: no run takes it, none
@@ -160,12 +187,24 @@ impl Matcher {
             → IsAfter x self.now self.now }
         ensures told { IsTrue result → (x : Numbered) → IsKnown self.now.plan x.1 known
             → TellsEvent x self.now [] }
+        ensures wanted { IsTrue result → (x : Numbered) → IsKnown self.now.plan x.1 known
+            → TellsWanted x self.now (wanted_as_before self.now) }
     {
         match known {
             Known::Never => true,
             Known::Onward => self.runs.is_empty(),
             Known::Any => false,
         }
+    }
+
+    /// Adds behind the list what the open runs want where an event changes nothing: as many events after it
+    /// as before it. After want of memory the list is as before.
+    pub fn add_wanted(&self, wanted: &mut Vec<(u32, u32)>) -> Result<(), Memory>
+        ensures added { OnOk result
+            (wanted.new.items ≡ wanted.old.items ++ wanted_as_before self.now) }
+        ensures err { OnErr result (wanted.new.items ≡ wanted.old.items) }
+    {
+        want_as_before(&self.plan, &self.runs, wanted)
     }
 
     /// Handles the next visible event, of which this is known, as `offer_into` does, and tells its moves,
@@ -228,8 +267,32 @@ impl Matcher {
         ensures plan { self.new.plan ≡ self.old.plan }
         ensures err { OnErr result (self.new ≡ self.old) }
     {
+        self.offer_known_of(alloc, number, event, Known::Any)
+    }
+
+    /// Handles the next visible event, of which this is known, as `offer` does, and gives new moves. These
+    /// take a list only where something is told, and one of what the runs want only where some are open.
+    pub fn offer_known_of(
+        &mut self,
+        alloc: Global,
+        number: u32,
+        event: &Event,
+        known: Known,
+    ) -> Result<Moves, Memory>
+        requires fits { fits self.old.plan event.now ≡ true }
+        requires below { Below number (runs_of self.old) }
+        requires known { IsKnown self.old.plan event.now known }
+        ensures stands { OnOk result (IsAfter (number, event.now) self.old self.new) }
+        ensures told { IfOk result
+            (λ moves. TellsEvent (number, event.now) self.old (all_seen moves.list.items)) }
+        ensures wanted { IfOk result
+            (λ moves. TellsWanted (number, event.now) self.old moves.wanted.items) }
+        ensures below { OnOk result (Below (number + 1) (runs_of self.new)) }
+        ensures plan { self.new.plan ≡ self.old.plan }
+        ensures err { OnErr result (self.new ≡ self.old) }
+    {
         let mut moves = Moves::new(alloc);
-        self.offer_into(alloc, number, event, &mut moves)?;
+        self.offer_known_into(alloc, number, event, known, &mut moves)?;
         Ok(moves)
     }
 

@@ -1,11 +1,11 @@
 // How many events runs want at least.
-ghost use Rattle.std.specs.Prelude.{◌≡◌, ◌≤◌, [], ◌++◌, length, map, take, OnOk};
+ghost use Rattle.std.specs.Prelude.{◌≡◌, ◌≤◌, [], ◌++◌, length, map, take, OnOk, OnErr};
 ghost use Rattle.std.specs.List.{All};
 ghost use Rattle.sp_plan.specs.Compiled.{IsCompiled};
 ghost use Rattle.sp_plan.specs.Moves as definitions;
 ghost use Rattle.sp_match.specs.inside.Kept.{kept, all_kept, pairs};
 ghost use Rattle.sp_match.specs.inside.Good.{Good};
-ghost use Rattle.sp_match.specs.inside.Wanted.{all_left, wanted_by, wanted_all};
+ghost use Rattle.sp_match.specs.inside.Wanted.{all_as_before, all_left, wanted_by, wanted_all};
 
 use crate::Memory;
 use crate::run::Run;
@@ -72,6 +72,27 @@ pub(crate) fn want_after(
     wanted.reserve(lefts.len())?;
     for (at, before) in lefts.iter().enumerate() {
         want_one(plan, *before, &runs[at], wanted)?;
+    }
+    Ok(())
+}
+
+/// Adds what each run wants, before and after an event that changes nothing. After want of memory the list
+/// is as before.
+pub(crate) fn want_as_before(
+    plan: &Plan,
+    runs: &[Run],
+    wanted: &mut Vec<(u32, u32)>,
+) -> Result<(), Memory>
+    requires compiled { IsCompiled plan.now }
+    requires good { All (Good plan.now) (all_kept runs.now) }
+    ensures added { OnOk result
+        (wanted.new.items ≡ wanted.old.items ++ all_as_before plan.now (all_kept runs.now)) }
+    ensures err { OnErr result (wanted.new.items ≡ wanted.old.items) }
+{
+    wanted.reserve(runs.len())?;
+    for run in runs {
+        let left = left(plan, run);
+        wanted.push_reserved((left, left));
     }
     Ok(())
 }

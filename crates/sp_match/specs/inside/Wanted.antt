@@ -17,3 +17,7 @@ wanted_by q both = if is_leaving both.1.fate then [] else (both.0, left q (pairs
 -- so of all runs
 abbrev pub wanted_all : Plan → List ℕ → List Kept → List (ℕ × ℕ)
 wanted_all q lefts ks = flat_map (wanted_by q) (zip lefts ks)
+
+-- so of all runs where nothing changes
+abbrev pub all_as_before : Plan → List Kept → List (ℕ × ℕ)
+all_as_before q ks = map (λ k. (left q (pairs k), left q (pairs k))) ks

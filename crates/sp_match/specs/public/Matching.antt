@@ -29,6 +29,10 @@ TellsEvent x m ts = (s : State) → Stands m s → ts ≡ told m.plan s (moves m
 abbrev pub TellsWanted : Numbered → Matching → List (ℕ × ℕ) → Type 0
 TellsWanted x m ws = (s : State) → Stands m s → ws ≡ still_wanted m.plan s (moves m.plan s x)
 
+-- for each open run how many events it wants at least, twice: before an event that changes nothing, and after it
+abbrev pub wanted_as_before : Matching → List (ℕ × ℕ)
+wanted_as_before m = map (λ run. (left m.plan run.1, left m.plan run.1)) m.open_runs
+
 -- The moves told are those of the closing, whatever runs the matcher stands for.
 abbrev pub TellsClosing : Matching → List Told → Type 0
 TellsClosing m ts = (s : State) → Stands m s → ts ≡ told m.plan s (closing s)

@@ -13,7 +13,7 @@ use Rattle.sp_match.specs.inside.Handling.{count_after}
 use Rattle.sp_match.specs.public.Seen.{seen}
 use Rattle.sp_match.proofs.MatcherAfterEvent.{ready}
 use Rattle.sp_match.proofs.EventIsOffered.{back, kept_after, offered, wanted_after}
-use Rattle.sp_match.proofs.matcher.Matcher.offer_into.Goals as goal
+use Rattle.sp_match.proofs.matcher.Matcher.offer_known_into.Goals as goal
 
 pub handle_all-requires-clause-ready : goal.handle_all-requires-clause-ready
 handle_all-requires-clause-ready c =
