@@ -220,6 +220,7 @@ pub same_plans_read_alike : SamePredicatesHoldAlike → (p q : Plan) → SamePla
 same_plans_read_alike hold p q same = record {
   used = used_alike hold p q same;
   bound = bindings_alike hold p q same;
+  taken = takes_alike hold p q same;
   handled = handle_alike hold p q same;
   read = read_to_alike hold p q same;
   told = accounts_to_alike hold p q same;

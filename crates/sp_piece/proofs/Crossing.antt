@@ -19,6 +19,7 @@ use Rattle.sp_plan.specs.contracts.plan.Pred as pred
 use Rattle.sp_plan.specs.contracts.plan.Plan as plan
 use Rattle.sp_match.proofs.run.Run.TheSendSync as run
 use Rattle.sp_match.specs.contracts.matcher.Matcher as matcher
+use Rattle.sp_match.proofs.known.Known.TheSendSync as known
 use Rattle.sp_match.proofs.moves.Moves.TheSendSync as moves
 use Rattle.sp_piece.specs.contracts.job.Job as job
 use Rattle.sp_piece.specs.contracts.piece.Piece as piece
@@ -46,10 +47,10 @@ matcher_sent : IsSend matcher.the_row
 matcher_sent = search (plan_sent, plan_common, run.the_send, sendable, crosses) depth 30
 
 job_kept : IsSend job.the_field.row
-job_kept = search (matcher_sent, listed.the_send, event.the_send, numbers.the_send, sendable, crosses) depth 30
+job_kept = search (matcher_sent, listed.the_send, event.the_send, known.the_field_send, numbers.the_send, sendable, crosses) depth 30
 
 pub job_sent : IsSend job.the_row
-job_sent = search (matcher_sent, listed.the_send, event.the_send, numbers.the_send, sendable, crosses) depth 30
+job_sent = search (matcher_sent, listed.the_send, event.the_send, known.the_field_send, numbers.the_send, sendable, crosses) depth 30
 
 inside_sent : IsSend inside.the_row
 inside_sent =

@@ -1,20 +1,25 @@
 -- What a piece keeps when it reads one event more.
-use Rattle.std.proofs.Common.{◌≡◌, ℕ, suc, ◌+◌, ◌<◌, Bool, true, false, List, [], ◌∷◌, ◌++◌, length, map, Option, Some, refl, sym, ◌∙◌, ap, subst, arith}
+use Rattle.std.proofs.Common.{◌≡◌, ℕ, zero, suc, ◌+◌, ◌<◌, Bool, true, false, List, [], ◌∷◌, ◌++◌, get_or, length, map, Option, Some, refl, sym, ◌∙◌, ap, subst, arith}
 use Rattle.std.specs.Prelude.{slice_get, if◌then◌else◌, not, nat_lt, ◌&&◌}
 use Rattle.std.proofs.lemmas.Bool.{ltb-true}
-use Rattle.std.specs.List.{All}
+use Rattle.std.specs.List.{All, AllZip}
 use Rattle.std.proofs.lemmas.List.{append-nil, map-append}
+use Rattle.std.proofs.lemmas.List.Concat.{flat_map-append}
 use Rattle.std.proofs.lemmas.List.Elements.{All-weaker}
 use Rattle.sp_plan.specs.declared.event.Event.{Event}
+use Rattle.sp_plan.specs.declared.plan.Plan.{Plan}
+use Rattle.sp_plan.specs.Windows.{Numbered}
 use Rattle.sp_plan.specs.Runs.{Pair, Started, State, handle, after_closing}
 use Rattle.sp_plan.specs.Reading.{after_event}
+use Rattle.sp_match.specs.declared.known.Known.{Known}
+use Rattle.sp_match.specs.public.Known.{IsKnown}
 use Rattle.sp_match.specs.public.Laws.{Below}
-use Rattle.sp_match.specs.public.Matching.{Matching, Stands, runs_of}
+use Rattle.sp_match.specs.public.Matching.{IsAfter, Matching, Stands, TellsEvent, TellsWanted, runs_of, wanted_as_before}
 use Rattle.sp_match.specs.declared.moves.Moves.{Moves}
 use Rattle.sp_piece.specs.declared.job.Job.{Job}
-use Rattle.sp_piece.specs.Reading.{Loan, Account, account, skips, read_on, accounts_on, event_accounts, seen_moves}
+use Rattle.sp_piece.specs.Reading.{Loan, Account, account, joined, skips, read_on, accounts_on, event_accounts, seen_moves}
 use Rattle.sp_piece.specs.Pieced.{Pieced, loan, has_event}
-use Rattle.sp_piece.specs.Keeping.{current, HandledOn, IsKept}
+use Rattle.sp_piece.specs.Keeping.{current, HandledOn, IsKept, TellsOn}
 
 -- an event passed over changes no runs, and tells nothing
 on_skipped : (l : Loan) (s : State) (n : ℕ) → skips l n ≡ true → read_on l s (n + 1) ≡ read_on l s n
@@ -47,6 +52,18 @@ told_handled l s n e seen there =
     ∙ ap (λ (b : Bool). accounts_on l s n ++ (if b then [] else event_accounts l.plan (read_on l s n) (l.first + n) (slice_get l.events n))) seen
     ∙ ap (λ (o : Option Event). accounts_on l s n ++ event_accounts l.plan (read_on l s n) (l.first + n) o) there
 
+-- what is told by accounts behind others comes behind what those tell
+joined_both : (xs ys : List Account) → joined (xs ++ ys) ≡ (record { told = (joined xs).told ++ (joined ys).told; wanted = (joined xs).wanted ++ (joined ys).wanted })
+joined_both xs ys = λ i. record { told = flat_map-append (λ (a : Account). a.told) xs ys i; wanted = flat_map-append (λ (a : Account). a.wanted) xs ys i }
+
+pub joined_behind : (xs ys zs : List Account) → joined xs ≡ joined ys → joined (xs ++ zs) ≡ joined (ys ++ zs)
+joined_behind xs ys zs same =
+    joined_both xs zs ∙ ap {B = Account} (λ (a : Account). record { told = a.told ++ (joined zs).told; wanted = a.wanted ++ (joined zs).wanted }) same ∙ sym (joined_both ys zs)
+
+-- an account that tells nothing
+pub joined_nothing : (xs : List Account) → joined (xs ++ (record { told = []; wanted = [] }) ∷ []) ≡ joined xs
+joined_nothing xs = joined_both xs _ ∙ λ i. record { told = append-nil (joined xs).told i; wanted = append-nil (joined xs).wanted i }
+
 abbrev is_below : ℕ → Pair → Type 0
 is_below n pair = pair.number < n
 
@@ -73,7 +90,7 @@ kept_skipped job read false short now list kept within skip = record {
     plan = kept.led.plan;
     stands = λ s stands. subst (Stands (current now job.before)) (sym (on_skipped (loan job) s read skip)) (kept.led.stands s stands);
   };
-  tells = λ s stands. kept.tells s stands ∙ sym (told_skipped (loan job) s read skip);
+  tells = λ s stands. kept.tells s stands ∙ ap joined (sym (told_skipped (loan job) s read skip));
   below =
       let same : job.first + read + 1 ≡ job.first + (read + 1) = omega arith in
       subst (λ n. Below n (runs_of (current now job.before))) same (below_next _ _ kept.below);
@@ -99,21 +116,31 @@ kept_handled job read false short now later list more e kept within seen there h
       };
       tells = λ s stands.
           handled.told (read_on l s read) (kept.led.stands s stands)
-          ∙ ap (λ (old : List Account). old ++ account (current now job.before).plan (read_on l s read) (job.first + read, e) ∷ []) (kept.tells s stands)
-          ∙ ap (λ q. accounts_on l s read ++ account q (read_on l s read) (job.first + read, e) ∷ []) plan
-          ∙ sym (told_handled l s read e seen there);
+          ∙ joined_behind (map seen_moves list) (accounts_on l s read) (account (current now job.before).plan (read_on l s read) (job.first + read, e) ∷ []) (kept.tells s stands)
+          ∙ ap (λ q. joined (accounts_on l s read ++ account q (read_on l s read) (job.first + read, e) ∷ [])) plan
+          ∙ ap joined (sym (told_handled l s read e seen there));
       below =
           let same : job.first + read + 1 ≡ job.first + (read + 1) = omega arith in
           subst (λ n. Below n (runs_of (current later job.before))) same handled.below;
       last = λ h. absurd (cc h);
     }
 
+-- it changes nothing: what the open runs want is told
+pub passed_by : (x : Numbered) (m : Matching) (list more : List Moves) → IsAfter x m m → TellsEvent x m [] → TellsWanted x m (wanted_as_before m)
+    → TellsOn (record { told = []; wanted = wanted_as_before m }) list more → Below x.0 (runs_of m) → HandledOn x m m list more
+passed_by x m list more after told wanted on below = record {
+  plan = refl;
+  stands = after;
+  told = λ s stands. on ∙ ap (λ (a : Account). joined (map seen_moves list ++ a ∷ [])) (λ i. record { told = told s stands i; wanted = wanted s stands i });
+  below = below_next x.0 (runs_of m) below;
+}
+
 -- moves behind others are told behind them
 pub told_behind : (list more new : List Moves) (m : Moves) (a : Account) → more ≡ new ++ m ∷ [] → new ≡ list → (seen_moves m).told ≡ a.told → (seen_moves m).wanted ≡ a.wanted
-    → map seen_moves more ≡ map seen_moves list ++ a ∷ []
+    → TellsOn a list more
 told_behind list more new m a added kept told wanted =
     let same : seen_moves m ≡ a = λ i. record { told = told i; wanted = wanted i } in
-    ap (map seen_moves) (added ∙ ap (λ l. l ++ m ∷ []) kept) ∙ map-append seen_moves list (m ∷ []) ∙ ap (λ b. map seen_moves list ++ b ∷ []) same
+    ap (λ (l : List Moves). joined (map seen_moves l)) (added ∙ ap (λ l. l ++ m ∷ []) kept) ∙ ap joined (map-append seen_moves list (m ∷ [])) ∙ ap (λ b. joined (map seen_moves list ++ b ∷ [])) same
 
 -- where nothing was read the matcher is the job's
 pub unread : (p : Pieced) (now : Option Matching) (list : List Moves) → IsKept p now list → p.read ≡ 0 → p.closed ≡ false → current now p.job.before ≡ p.job.before
@@ -124,6 +151,20 @@ unread p now list kept none not_closed =
     let led : Stands m (runs_of before) =
     subst (Stands m) ((λ i. if not_closed i then after_closing (read_on (loan p.job) (runs_of before) p.read) else read_on (loan p.job) (runs_of before) (none i))) (kept.led.stands (runs_of before) first) in
     λ i. record { plan = kept.led.plan i; open_runs = led.open_is i; started = led.started_is i }
+
+-- what is known of the lent event at a place
+pub known_at : (q : Plan) (events : List Event) (known : List Known) (i : ℕ) (e : Event) (k : Known) → AllZip (IsKnown q) events known → i < length events → e ≡ get_or events i e → k ≡ get_or known i k → IsKnown q e k
+known_at q [] known i e k all within e_is k_is = absurd (omega (arith, within))
+known_at q (x ∷ xs) [] i e k all within e_is k_is = absurd all
+known_at q (x ∷ xs) (y ∷ ys) zero e k all within e_is k_is = subst (IsKnown q e) (sym k_is) (subst (λ (z : Event). IsKnown q z y) (sym e_is) all.0)
+known_at q (x ∷ xs) (y ∷ ys) (suc i) e k all within e_is k_is = known_at q xs ys i e k all.1 (omega (arith, within)) e_is k_is
+
+-- something is known of each lent event
+pub as_many : (q : Plan) (events : List Event) (known : List Known) → AllZip (IsKnown q) events known → length known ≡ length events
+as_many q [] [] all = refl
+as_many q [] (y ∷ ys) all = absurd all
+as_many q (x ∷ xs) [] all = absurd all
+as_many q (x ∷ xs) (y ∷ ys) all = ap suc (as_many q xs ys all.1)
 
 and_right : (a b : Bool) → (a && b) ≡ true → b ≡ true
 and_right true b both = both

@@ -2,3 +2,4 @@ pub mod Kept
 pub mod Alike
 pub mod Telling
 pub mod Crossing
+pub mod Wants

@@ -5,7 +5,7 @@ use Rattle.sp_plan.specs.Runs.{State, handle}
 use Rattle.sp_match.specs.public.Laws.{Below}
 use Rattle.sp_match.specs.public.Matching.{Matching, Stands, runs_of}
 use Rattle.sp_match.specs.declared.moves.Moves.{Moves}
-use Rattle.sp_piece.specs.Reading.{account, closing_account, joined, seen_moves}
+use Rattle.sp_piece.specs.Reading.{Account, account, closing_account, joined, seen_moves}
 use Rattle.sp_piece.specs.Pieced.{Pieced, LedTo, Tells}
 
 -- the matcher that has read: the one of the job until there is another
@@ -21,11 +21,19 @@ pub record IsKept (p : Pieced) (now : Option Matching) (list : List Moves) : Typ
   pub below : Below (p.job.first + p.read) (runs_of (current now p.job.before))
   pub last : p.closed ≡ true → (p.read ≡ length p.job.events) × (p.job.closes ≡ true)
 
+-- Both lists of moves tell the same, one after another.
+abbrev pub TellsSame : List Moves → List Moves → Type 0
+TellsSame list more = joined (map seen_moves list) ≡ joined (map seen_moves more)
+
+-- The second list of moves tells what the first one tells, and this behind it.
+abbrev pub TellsOn : Account → List Moves → List Moves → Type 0
+TellsOn a list more = joined (map seen_moves more) ≡ joined (map seen_moves list ++ a ∷ [])
+
 -- What the handling of an event made of a matcher and a list of moves: what is told of it came behind the others.
 pub record HandledOn (x : Numbered) (m n : Matching) (list more : List Moves) : Type 0 where
   pub plan : n.plan ≡ m.plan
   pub stands : (s : State) → Stands m s → Stands n (handle m.plan s x)
-  pub told : (s : State) → Stands m s → joined (map seen_moves more) ≡ joined (map seen_moves list ++ account m.plan s x ∷ [])
+  pub told : (s : State) → Stands m s → TellsOn (account m.plan s x) list more
   pub below : Below (x.0 + 1) (runs_of n)
 
 -- What the closing made of them.
@@ -33,4 +41,4 @@ pub record ClosedOff (m n : Matching) (list more : List Moves) : Type 0 where
   pub plan : n.plan ≡ m.plan
   pub none : n.open_runs ≡ []
   pub count : n.started ≡ m.started
-  pub told : (s : State) → Stands m s → joined (map seen_moves more) ≡ joined (map seen_moves list ++ closing_account m.plan s ∷ [])
+  pub told : (s : State) → Stands m s → TellsOn (closing_account m.plan s) list more

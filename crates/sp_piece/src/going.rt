@@ -1,14 +1,34 @@
 // How a matcher and the list of its moves go on.
-ghost use Rattle.std.specs.Prelude.{◌≡◌, true, Some, OnOk, OnErr};
+ghost use Rattle.std.specs.Prelude.{◌≡◌, [], true, Some, OnOk, OnErr, map};
 ghost use Rattle.sp_plan.specs.Events.{fits};
+ghost use Rattle.sp_match.specs.public.Known.{IsKnown};
 ghost use Rattle.sp_match.specs.public.Laws.{Below};
-ghost use Rattle.sp_match.specs.public.Matching.{runs_of};
-ghost use Rattle.sp_piece.specs.Keeping.{ClosedOff, HandledOn, current};
+ghost use Rattle.sp_match.specs.public.Matching.{runs_of, wanted_as_before};
+ghost use Rattle.sp_piece.specs.Keeping.{ClosedOff, HandledOn, TellsOn, TellsSame, current};
 
 use crate::Memory;
-use sp_match::{Matcher, Moves};
+use sp_match::{Known, Matcher, Moves};
 use sp_plan::Event;
 use std::alloc::Global;
+
+/// A lent event that is to be read, with its number.
+#[derive(Clone, Copy, Drop)]
+pub(crate) struct Next<'a> {
+    pub(crate) number: u32,
+    pub(crate) event: &'a Event,
+    /// What is known of it.
+    pub(crate) known: Known,
+}
+
+/// The matcher that goes on: the one before until there is another.
+pub(crate) fn led<'a>(matcher: &'a Option<Matcher>, before: &'a Matcher) -> &'a Matcher
+    ensures { result.now ≡ current matcher.now before.now }
+{
+    match matcher {
+        Some(matcher) => matcher,
+        None => before,
+    }
+}
 
 // Sees to it that there is a matcher that goes on: where there is none, a copy of the one before.
 fn begin(alloc: Global, matcher: &mut Option<Matcher>, before: &Matcher) -> Result<(), Memory>
@@ -21,42 +41,89 @@ fn begin(alloc: Global, matcher: &mut Option<Matcher>, before: &Matcher) -> Resu
     Ok(())
 }
 
-// The matcher handles the event of this number, and what is told of it comes behind the other moves.
-// After want of memory it stands for what it did.
+// What the open runs want where an event changes nothing comes behind what the last entry tells. After want
+// of memory no more is told than before.
+fn add_wanted(alloc: Global, led: &Matcher, moves: &mut Vec<Moves>) -> Result<(), Memory>
+    ensures ok { OnOk result
+        (TellsOn (record { told = []; wanted = wanted_as_before led.now }) moves.old.items moves.new.items) }
+    ensures err { OnErr result (TellsSame moves.old.items moves.new.items) }
+{
+    if led.open_runs().is_empty() {
+        return Ok(());
+    }
+    if moves.is_empty() {
+        moves.push(Moves::new(alloc))?;
+    }
+    let last = moves.len() - 1;
+    led.add_wanted(&mut moves[last].wanted)
+}
+
+// The matcher handles the event, and what is told of it comes behind the other moves. After want of memory
+// it stands for what it did.
+fn offer_event(
+    alloc: Global,
+    matcher: &mut Option<Matcher>,
+    moves: &mut Vec<Moves>,
+    before: &Matcher,
+    next: &Next,
+) -> Result<(), Memory>
+    requires fits { fits (current matcher.old before.now).plan next.now.event.now ≡ true }
+    requires known { IsKnown (current matcher.old before.now).plan next.now.event.now next.now.known }
+    requires below { Below next.now.number (runs_of (current matcher.old before.now)) }
+    ensures ok { OnOk result (HandledOn (next.now.number, next.now.event.now)
+        (current matcher.old before.now) (current matcher.new before.now) moves.old.items moves.new.items) }
+    ensures err { OnErr result (current matcher.new before.now ≡ current matcher.old before.now) }
+    ensures err_moves { OnErr result (TellsSame moves.old.items moves.new.items) }
+{
+    moves.reserve(1)?;
+    begin(alloc, matcher, before)?;
+    let Some(led) = matcher else { unreachable!() };
+    let told = led.offer_known_of(alloc, next.number, next.event, next.known)?;
+    moves.push_reserved(told);
+    Ok(())
+}
+
+/// The next event is handled, and what is told of it comes behind what was told before. One that changes
+/// nothing needs no matcher of its own, and no entry. After want of memory the matcher stands for what it
+/// did, and no more is told than before.
 pub(crate) fn handle_event(
     alloc: Global,
     matcher: &mut Option<Matcher>,
     moves: &mut Vec<Moves>,
     before: &Matcher,
-    number: u32,
-    event: &Event,
+    next: &Next,
 ) -> Result<(), Memory>
-    requires fits { fits (current matcher.old before.now).plan event.now ≡ true }
-    requires below { Below number (runs_of (current matcher.old before.now)) }
-    ensures ok { OnOk result (HandledOn (number, event.now) (current matcher.old before.now) (current matcher.new before.now) moves.old.items moves.new.items) }
+    requires fits { fits (current matcher.old before.now).plan next.now.event.now ≡ true }
+    requires known { IsKnown (current matcher.old before.now).plan next.now.event.now next.now.known }
+    requires below { Below next.now.number (runs_of (current matcher.old before.now)) }
+    ensures ok { OnOk result (HandledOn (next.now.number, next.now.event.now)
+        (current matcher.old before.now) (current matcher.new before.now) moves.old.items moves.new.items) }
     ensures err { OnErr result (current matcher.new before.now ≡ current matcher.old before.now) }
-    ensures err_moves { OnErr result (moves.new.items ≡ moves.old.items) }
+    ensures err_moves { OnErr result (TellsSame moves.old.items moves.new.items) }
 {
-    moves.reserve(1)?;
-    begin(alloc, matcher, before)?;
-    let Some(led) = matcher else { unreachable!() };
-    let told = led.offer(alloc, number, event)?;
-    moves.push_reserved(told);
-    Ok(())
+    let so_far = led(matcher, before);
+    if so_far.ignores(next.known) {
+        return add_wanted(alloc, so_far, moves);
+    }
+    offer_event(alloc, matcher, moves, before, next)
 }
 
-// The matcher reads the closing, and what is told of it comes behind the other moves. After want of
-// memory it stands for what it did.
+/// The matcher reads the closing, and what is told of it comes behind the other moves. Where no run is open
+/// nothing is. After want of memory the matcher stands for what it did, and no more is told than before.
 pub(crate) fn handle_closing(
     alloc: Global,
     matcher: &mut Option<Matcher>,
     moves: &mut Vec<Moves>,
     before: &Matcher,
 ) -> Result<(), Memory>
-    ensures ok { OnOk result (ClosedOff (current matcher.old before.now) (current matcher.new before.now) moves.old.items moves.new.items) }
+    ensures ok { OnOk result (ClosedOff (current matcher.old before.now)
+        (current matcher.new before.now) moves.old.items moves.new.items) }
     ensures err { OnErr result (current matcher.new before.now ≡ current matcher.old before.now) }
-    ensures err_moves { OnErr result (moves.new.items ≡ moves.old.items) }
+    ensures err_moves { OnErr result (TellsSame moves.old.items moves.new.items) }
 {
+    if led(matcher, before).open_runs().is_empty() {
+        return Ok(());
+    }
     moves.reserve(1)?;
     begin(alloc, matcher, before)?;
     let Some(led) = matcher else { unreachable!() };

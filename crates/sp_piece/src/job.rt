@@ -1,4 +1,5 @@
-ghost use Rattle.sp_piece.specs.Lending.{IsLendable};
+ghost use Rattle.std.proofs.Props.{props};
+ghost use Rattle.sp_piece.specs.Lending.{IsLendable, all_known-prop};
 
 use sp_base::Numbers;
 use sp_hub::Named;
@@ -27,7 +28,7 @@ pub struct Job {
     pub snapshot: Numbers,
     /// Whether the window's closing comes behind them.
     pub closes: bool,
-    pub ghost lendable: { IsLendable before events known first },
+    pub ghost lendable: { IsLendable before events known first } by { Prim.hlevel (props, all_known-prop) },
 }
 
 impl Named for Job {

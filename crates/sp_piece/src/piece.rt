@@ -3,7 +3,7 @@ ghost use Rattle.sp_match.specs.public.Laws.{Below};
 ghost use Rattle.sp_match.specs.public.Matching.{runs_of};
 ghost use Rattle.sp_piece.specs.Pieced.{LedTo, Tells, after_step, answer, begun, has_closing, has_event, refused};
 
-use crate::going::{handle_closing, handle_event};
+use crate::going::{Next, handle_closing, handle_event, led};
 use crate::{Job, Memory, Stepped};
 use sp_hub::Named;
 use sp_match::{Matcher, Moves};
@@ -31,8 +31,9 @@ impl Model for Piece {
     ghost use Rattle.sp_plan.specs.contracts.plan.Expr as expr;
     ghost use Rattle.sp_plan.specs.contracts.plan.Pred as pred;
     ghost use Rattle.std.specs.Coded.{codes};
+    ghost use Rattle.sp_piece.specs.Lending.{coded_all_known};
 
-    ghost coded = { Prim.hlevel (codes, expr.the_row.coded, pred.the_row.coded) };
+    ghost coded = { Prim.hlevel (codes, expr.the_row.coded, pred.the_row.coded, coded_all_known) };
 
     ghost use Rattle.sp_piece.specs.Keeping.{IsKept};
 
@@ -92,14 +93,18 @@ impl Piece {
             });
         }
         let job = &self.job;
-        let event = &job.events.as_slice()[self.read as usize];
+        let place = self.read as usize;
+        let next = Next {
+            number,
+            event: &job.events.as_slice()[place],
+            known: job.known.as_slice()[place],
+        };
         handle_event(
             alloc,
             &mut self.matcher,
             &mut self.moves,
             &job.before,
-            number,
-            event,
+            &next,
         )?;
         self.read += 1;
         Ok(Stepped::Read {
@@ -148,10 +153,7 @@ impl Piece {
     pub fn after(&self) -> &Matcher
         ensures led { LedTo self.now result.now }
     {
-        match &self.matcher {
-            Some(matcher) => matcher,
-            None => &self.job.before,
-        }
+        led(&self.matcher, &self.job.before)
     }
 
     /// Marks that memory was refused. It can be read on.

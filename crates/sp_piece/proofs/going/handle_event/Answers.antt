@@ -1,19 +1,23 @@
-use Rattle.std.proofs.Common.{◌∙◌, ap, subst, sym}
-use Rattle.sp_match.specs.public.Matching.{Matching}
+use Rattle.std.proofs.Common.{◌≡◌, sym, subst}
+use Rattle.std.proofs.lemmas.Result.{on_ok_weaker}
+use Rattle.sp_plan.specs.Windows.{Numbered}
+use Rattle.sp_match.specs.public.Known.{IsKnown}
+use Rattle.sp_match.specs.public.Laws.{Below}
+use Rattle.sp_match.specs.public.Matching.{Matching, runs_of}
 use Rattle.sp_piece.specs.Keeping.{HandledOn, current}
-use Rattle.sp_piece.proofs.Kept.{told_behind}
+use Rattle.sp_piece.proofs.Kept.{passed_by}
 use Rattle.sp_piece.proofs.going.handle_event.Goals as goal
 
-pub returns-clause-ok : goal.returns-clause-ok
-returns-clause-ok c =
-    let handled = c.in_ok-told.ensures in
-    let led = ap (λ o. current o c.args.before.now) (sym c.in-Some.is ∙ c.in_ok-begin.ensures.there) in
-    subst (λ (m : Matching). HandledOn (c.args.number, c.args.event.now) m c.offer.new.self c.args.moves.now.items c.push_reserved.new.self.items) led
-    (record {
-      plan = handled.plan;
-      stands = handled.stands;
-      told = λ s stands.
-          told_behind c.args.moves.now.items c.push_reserved.new.self.items c.reserve.new.self.items c.in_ok-told.told _
-          c.push_reserved.ensures.items c.in_ok-reserve.ensures.items (handled.told s stands) (handled.wanted s stands);
-      below = handled.below;
-    })
+pub returns-then-ignores-clause-ok : goal.returns-then-ignores-clause-ok
+returns-then-ignores-clause-ok c =
+    let x : Numbered = (c.args.next.now.number, c.args.next.now.event.now) in
+    let so_far = c.led-so_far.result.now in
+    let list = c.args.moves.now.items in
+    let more = c.add_wanted.new.moves.items in
+    let same : so_far ≡ current c.args.matcher.now c.args.before.now = c.led-so_far.ensures in
+    let known : IsKnown so_far.plan x.1 c.args.next.now.known = subst (λ (m : Matching). IsKnown m.plan x.1 c.args.next.now.known) (sym same) c.requires.known in
+    let below : Below x.0 (runs_of so_far) = subst (λ (m : Matching). Below x.0 (runs_of m)) (sym same) c.requires.below in
+    on_ok_weaker c.add_wanted.result
+    (λ on. subst (λ (m : Matching). HandledOn x m m list more) same
+    (passed_by x so_far list more (c.ignores.ensures.stands c.if-ignores.true x known) (c.ignores.ensures.told c.if-ignores.true x known) (c.ignores.ensures.wanted c.if-ignores.true x known) on below))
+    c.add_wanted.ensures.ok
