@@ -1,14 +1,13 @@
 -- What is answered, by what the next row is.
-use Rattle.std.proofs.Common.{◌≡◌, ℕ, ◌+◌, ◌==◌, Bool, true, false, not, List, [], ◌∷◌, ◌++◌, length, take, drop, Err, refl, sym, ◌∙◌, ap, subst, arith}
+use Rattle.std.proofs.Common.{◌≡◌, ℕ, ◌+◌, ◌==◌, Bool, true, false, not, List, [], ◌∷◌, ◌++◌, length, take, drop, refl, sym, ◌∙◌, ap, arith}
 use Rattle.std.specs.Prelude.{if◌then◌else◌, Some}
 use Rattle.std.proofs.lemmas.List.{take-append-drop, take-append-le, drop-append-le, drop_all}
-use Rattle.sp_cut.specs.declared.fault.CutFault.{CutFault}
-use Rattle.sp_cut.specs.declared.fault.CutFault.TheVariants.{LongRow, OpenQuote, Memory}
 use Rattle.sp_cut.specs.CutRows.{CutRow, row, long_row, is_even, is_long, without_cr, rest_rows, ended_part, plain_rows, without_mark}
 use Rattle.sp_cut.specs.Left.{Left, rows_left}
-use Rattle.sp_cut.specs.Answer.{GivesRow, Begins, IsFault, with_more}
-use Rattle.sp_cut.specs.Part.{part_of, left_behind, AnswersFor}
+use Rattle.sp_cut.specs.Answer.{GivesRow, Begins, with_more}
+use Rattle.sp_cut.specs.Part.{part_of, left_behind}
 use Rattle.sp_cut.specs.Scan.{scan, EndsAt}
+use Rattle.sp_cut.specs.Span.{LiesNext}
 use Rattle.sp_cut.proofs.Going.{ends_within, ends_still}
 use Rattle.sp_cut.proofs.Given.{first_left, rest_left, rest_even, left_behind_is}
 
@@ -49,17 +48,21 @@ row_given old mid new size bytes ends same is after =
     (λ goes_on more ended. row_coming old size bytes more ended ends cut)
     (after ∙ ap (λ (left : Left). left_behind left (size + 1)) same)
 
--- a fault is that of the row that a line feed ends
-pub fault_given : (old mid : Left) (size : ℕ) (bytes : List ℕ) (fault : CutFault) → EndsAt false old.bytes size → mid ≡ old → AnswersFor (ended_part (part_of mid size)) (mid.given + 1) bytes (Err fault) → IsFault old fault
-fault_given old mid size bytes fault ends same answers = by fault (subst (λ (left : Left). AnswersFor (ended_part (part_of left size)) (left.given + 1) bytes (Err fault)) same answers)
-  where
-    begins : (cut : CutRow) → ended_part (part_of old size) ≡ cut → Begins old cut
-    begins cut is = (rows_left (left_behind old (size + 1)), first_left old size ends ∙ ap (λ (first : CutRow). first ∷ rows_left (left_behind old (size + 1))) is)
+-- the row that a line feed ends lies there
+pub lies_ended : (old mid : Left) (size : ℕ) → EndsAt false old.bytes size → mid ≡ old → is_long (part_of mid size) ≡ false → LiesNext old (record { size = size; feeds = 1 })
+lies_ended old mid size ends same short =
+    let part : is_long (part_of old size) ≡ false = ap (λ (left : Left). is_long (part_of left size)) (sym same) ∙ short in
+    record {
+      within = ends_within old.bytes size false ends;
+      gives = row_given old old (left_behind old (size + 1)) size (without_cr (part_of old size)) ends refl (rw part refl) refl;
+    }
 
-    by : (fault : CutFault) → AnswersFor (ended_part (part_of old size)) (old.given + 1) bytes (Err fault) → IsFault old fault
-    by (LongRow n) answers = (begins long_row answers.0, answers.1)
-    by (OpenQuote n) answers = (begins _ answers.0, answers.1)
-    by Memory answers = tt
+-- the row that a line feed ends is too long
+pub long_ended : (old mid : Left) (size : ℕ) → EndsAt false old.bytes size → mid ≡ old → is_long (part_of mid size) ≡ true → Begins old long_row
+long_ended old mid size ends same long =
+    let part : is_long (part_of old size) ≡ true = ap (λ (left : Left). is_long (part_of left size)) (sym same) ∙ long in
+    let cut : ended_part (part_of old size) ≡ long_row = rw part refl in
+    (rows_left (left_behind old (size + 1)), first_left old size ends ∙ ap (λ (first : CutRow). first ∷ rows_left (left_behind old (size + 1))) cut)
 
 -- the rows left where no line feed ends one
 pub rest_answer : (old : Left) (size : ℕ) (quoted ended : Bool) (part : List ℕ) (cuts : List CutRow) → scan false old.bytes ≡ Some quoted → size ≡ length old.bytes → part ≡ part_of old size → ended ≡ old.ended → rest_rows ended part ≡ cuts → rows_left old ≡ cuts
@@ -76,14 +79,6 @@ no_rows : (ended : Bool) → plain_rows [] ended ≡ []
 no_rows true = refl
 no_rows false = refl
 
--- the row of a part that is one has the part's bytes
-row_bytes : (part bytes : List ℕ) → ended_part part ≡ row bytes → without_cr part ≡ bytes
-row_bytes part bytes is = by (is_long part) is
-  where
-    by : (long : Bool) → (if long then long_row else row (without_cr part)) ≡ row bytes → without_cr part ≡ bytes
-    by true is = absurd (cc)
-    by false is = cc
-
 -- a rest is a row only where the input ended
 rest_waits : (part bytes : List ℕ) → rest_rows false part ≡ row bytes ∷ [] → ⊥
 rest_waits part bytes is = by (is_long part) is
@@ -92,12 +87,15 @@ rest_waits part bytes is = by (is_long part) is
     by true is = cc
     by false is = cc
 
--- the rest is given as a row
-pub rest_given : (old new : Left) (size : ℕ) (part bytes : List ℕ) (ended : Bool) → ended ≡ old.ended → rest_rows ended part ≡ row (without_cr part) ∷ [] → size ≡ length old.bytes → part ≡ part_of old size → rows_left old ≡ row (without_cr part) ∷ [] → ended_part (part_of old size) ≡ row bytes → new ≡ left_behind old (size + 0) → GivesRow old bytes new
-rest_given old new size part bytes ended same_end rest all part_is rows is after =
-    let same : without_cr part ≡ bytes = row_bytes part bytes (ap ended_part part_is ∙ is) in
+-- the rest lies there as a row
+pub lies_rest : (old : Left) (size : ℕ) (part : List ℕ) (ended : Bool) → ended ≡ old.ended → rest_rows ended part ≡ row (without_cr part) ∷ [] → size ≡ length old.bytes → part ≡ part_of old size → rows_left old ≡ row (without_cr part) ∷ [] → LiesNext old (record { size = size; feeds = 0 })
+lies_rest old size part ended same_end rest all part_is rows =
+    let own : without_cr part ≡ without_cr (part_of old size) = ap without_cr part_is in
     let none : rows_left (left_behind old (size + 0)) ≡ [] =
     left_behind_is old (size + 0) ∙ ap (λ (more : List ℕ). plain_rows more old.ended) (drop_all (size + 0) old.bytes (omega arith)) ∙ no_rows old.ended in
-    gives_row old new bytes (size + 0) (rows ∙ (λ i. row (same i) ∷ sym none i))
-    (λ goes_on more ends. absurd (rest_waits part (without_cr part) (ap (λ (e : Bool). rest_rows e part) (sym (same_end ∙ goes_on)) ∙ rest)))
-    after
+    record {
+      within = omega arith;
+      gives = gives_row old (left_behind old (size + 0)) (without_cr (part_of old size)) (size + 0) (rows ∙ (λ i. row (own i) ∷ sym none i))
+          (λ goes_on more ends. absurd (rest_waits part (without_cr part) (ap (λ (e : Bool). rest_rows e part) (sym (same_end ∙ goes_on)) ∙ rest)))
+          refl;
+    }

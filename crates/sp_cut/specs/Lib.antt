@@ -6,3 +6,4 @@ pub mod Growth
 pub mod Left
 pub mod Part
 pub mod Scan
+pub mod Span

@@ -1,7 +1,5 @@
 -- A part of the bytes, and the row that it is.
-use Rattle.std.specs.Prelude.{ℕ, ◌≡◌, ◌==◌, ◌+◌, List, [], ◌∷◌, take, drop, Result, Ok, Err, if◌then◌else◌}
-use Rattle.sp_cut.specs.declared.fault.CutFault.{CutFault}
-use Rattle.sp_cut.specs.declared.fault.CutFault.TheVariants.{LongRow, OpenQuote, Memory}
+use Rattle.std.specs.Prelude.{ℕ, ◌==◌, ◌+◌, List, [], ◌∷◌, take, drop, if◌then◌else◌}
 use Rattle.sp_cut.specs.declared.part.Rest.{Rest}
 use Rattle.sp_cut.specs.declared.part.Rest.TheVariants.{Long, Nothing, Row, OpenQuote as InQuotes}
 use Rattle.sp_cut.specs.CutRows.{CutRow, row, long_row, open_quote, without_cr, without_mark}
@@ -14,13 +12,6 @@ part_of left size = if left.given == 0 then without_mark (take size left.bytes) 
 -- what is left behind one row more, which took so many bytes
 abbrev pub left_behind : Left → ℕ → Left
 left_behind left taken = record { bytes = drop taken left.bytes; given = left.given + 1; ended = left.ended }
-
--- these bytes are the row of this number, or the answer says why there is none, but where memory runs out
-abbrev pub AnswersFor : CutRow → ℕ → List ℕ → Result (Unit {0}) CutFault → Type 0
-AnswersFor cut number bytes (Ok done) = cut ≡ row bytes
-AnswersFor cut number bytes (Err (LongRow n)) = (cut ≡ long_row) × (n ≡ number)
-AnswersFor cut number bytes (Err (OpenQuote n)) = (cut ≡ open_quote) × (n ≡ number)
-AnswersFor cut number bytes (Err Memory) = Unit {0}
 
 -- the rows of a rest, by what it is
 abbrev pub rows_of_rest : List ℕ → Rest → List CutRow

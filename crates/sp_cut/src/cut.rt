@@ -1,12 +1,13 @@
 ghost use Rattle.std.specs.Prelude.{◌≡◌, ◌≤◌, ◌<◌, ◌+◌, ◌++◌, [], length, take, drop, true, false, IfOk, IfErr, OnOk, OnErr, vec_len};
-ghost use Rattle.sp_cut.specs.Answer.{Gives, IsFault, given_in};
-ghost use Rattle.sp_cut.specs.CutRows.{ended_part, is_even};
+ghost use Rattle.sp_cut.specs.Answer.{Gives, GivesRow, IsFault, given_in};
 ghost use Rattle.sp_cut.specs.Ends.{IsFound};
-ghost use Rattle.sp_cut.specs.Part.{part_of, left_behind, AnswersFor};
+ghost use Rattle.sp_cut.specs.Part.{part_of, left_behind};
+ghost use Rattle.sp_cut.specs.Span.{Finds, LiesNext, bytes_at};
 
 use crate::ends::{Found, first_end};
 use crate::fault::{CutFault, Memory};
-use crate::part::{Rest, rest_of, row_into, without_mark};
+use crate::part::{Rest, is_long, put_bytes, rest_of, without_cr, without_mark};
+use crate::span::Span;
 use std::alloc::Global;
 use std::marker::Model;
 
@@ -102,51 +103,84 @@ impl Cutter {
         ensures fault { IfErr result (λ fault. IsFault self.old fault) }
         ensures unchanged { OnErr result (self.new ≡ self.old) }
     {
-        match self.find_end() {
-            Found::End(size) => {
-                self.give(row, size, 1)?;
+        match self.find_row() {
+            Err(fault) => Err(fault),
+            Ok(None) => Ok(false),
+            Ok(Some(span)) => {
+                if put_bytes(row, self.row_at(span)).is_err() {
+                    return Err(CutFault::Memory);
+                }
+                self.pass(span);
                 Ok(true)
             }
-            Found::Rest(quoted) => self.next_of_rest(row, quoted),
+        }
+    }
+
+    /// The same for a row that is not copied: where it lies among the bytes left is told, and it stays
+    /// there until it is passed. Takes no memory.
+    pub fn find_row(&mut self) -> Result<Option<Span>, CutFault>
+        requires { self.old.given < 2097153 }
+        ensures found { IfOk result (λ found. Finds self.old found) }
+        ensures fault { IfErr result (λ fault. IsFault self.old fault) }
+        ensures unchanged { self.new ≡ self.old }
+    {
+        match self.find_end() {
+            Found::End(size) => {
+                if is_long(self.part(size)) {
+                    return Err(CutFault::LongRow {
+                        row: self.given + 1,
+                    });
+                }
+                Ok(Some(Span { size, feeds: 1 }))
+            }
+            Found::Rest(quoted) => self.find_rest(quoted),
         }
     }
 
     // The next row where no line feed ends one.
-    fn next_of_rest(&mut self, row: &mut Vec<u8>, quoted: bool) -> Result<bool, CutFault>
-        requires number { self.old.given < 2097153 }
-        requires rest { IsFound false self.old.bytes (Found.Rest quoted) }
-        ensures given { IfOk result (λ found. Gives self.old (given_in found row.new) self.new) }
-        ensures fault { IfErr result (λ fault. IsFault self.old fault) }
-        ensures unchanged { OnErr result (self.new ≡ self.old) }
+    fn find_rest(&self, quoted: bool) -> Result<Option<Span>, CutFault>
+        requires number { self.now.given < 2097153 }
+        requires rest { IsFound false self.now.bytes (Found.Rest quoted) }
+        ensures found { IfOk result (λ found. Finds self.now found) }
+        ensures fault { IfErr result (λ fault. IsFault self.now fault) }
     {
         let size = self.len();
         let number = self.given + 1;
         match rest_of(self.part(size), self.ended, quoted) {
             Rest::Long => Err(CutFault::LongRow { row: number }),
-            Rest::Nothing => Ok(false),
+            Rest::Nothing => Ok(None),
             Rest::OpenQuote => Err(CutFault::OpenQuote { row: number }),
-            Rest::Row => {
-                self.give(row, size, 0)?;
-                Ok(true)
-            }
+            Rest::Row => Ok(Some(Span { size, feeds: 0 })),
         }
     }
 
-    // Gives the first bytes as a row; with them go as many line feeds as end it.
-    fn give(&mut self, row: &mut Vec<u8>, size: usize, feeds: usize) -> Result<(), CutFault>
+    /// The bytes of the row that lies there.
+    pub fn row_at(&self, span: Span) -> &[u8]
+        requires { LiesNext self.now span }
+        ensures { result.now ≡ bytes_at self.now span }
+    {
+        without_cr(self.part(span.size))
+    }
+
+    /// The row that lies there is given.
+    pub fn pass(&mut self, span: Span)
+        requires number { self.old.given < 2097153 }
+        requires next { LiesNext self.old span }
+        ensures { GivesRow self.old (bytes_at self.old span) self.new }
+    {
+        self.advance(span.size, span.feeds);
+    }
+
+    // The first bytes are those of a row given; with them go as many line feeds as end it.
+    fn advance(&mut self, size: usize, feeds: usize)
         requires number { self.old.given < 2097153 }
         requires within { size + feeds ≤ length self.old.bytes }
-        ensures row { AnswersFor (ended_part (part_of self.old size)) (self.old.given + 1) row.new.items result }
-        ensures given { OnOk result (self.new ≡ left_behind self.old (size + feeds)) }
-        ensures unchanged { OnErr result (self.new ≡ self.old) }
+        ensures { self.new ≡ left_behind self.old (size + feeds) }
     {
-        let number = self.given + 1;
-        row_into(row, self.part(size), number)?;
-        self.start += size + feeds;
+        self.start = self.start + size + feeds;
         self.scanned = 0;
         self.quoted = false;
-        self.given = number;
-        Ok(())
+        self.given += 1;
     }
 
     // Where the next row ends; the bytes gone through are noted.

@@ -7,7 +7,9 @@ mod ends;
 mod fault;
 mod laws;
 mod part;
+mod span;
 
 pub use cut::Cutter;
 pub use fault::{CutFault, Memory};
 pub use laws::{rows_add_up, rows_stay};
+pub use span::Span;

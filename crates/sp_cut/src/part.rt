@@ -1,9 +1,9 @@
-ghost use Rattle.std.specs.Prelude.{◌≡◌, ℕ, ◌+◌, not};
-ghost use Rattle.sp_cut.specs.CutRows.{is_long, is_even, ended_part, rest_rows};
+ghost use Rattle.std.specs.Prelude.{◌≡◌, ℕ, ◌+◌, not, OnOk};
+ghost use Rattle.sp_cut.specs.CutRows.{is_even, rest_rows};
 ghost use Rattle.sp_cut.specs.CutRows as cut;
-ghost use Rattle.sp_cut.specs.Part.{AnswersFor, rows_of_rest};
+ghost use Rattle.sp_cut.specs.Part.{rows_of_rest};
 
-use crate::fault::CutFault;
+use crate::fault::Memory;
 
 // The most bytes that a row may have.
 const ROW: usize = 65_536;
@@ -37,29 +37,23 @@ pub(crate) fn rest_of(rest: &[u8], ended: bool, quoted: bool) -> Rest
     if quoted { Rest::OpenQuote } else { Rest::Row }
 }
 
-/// The row that a part is, where it has the number, in place of the bytes that were there.
-pub(crate) fn row_into(row: &mut Vec<u8>, part: &[u8], number: u32) -> Result<(), CutFault>
-    ensures { AnswersFor (ended_part part.now) number row.new.items result }
+/// The bytes of a part, in place of those that were there.
+pub(crate) fn put_bytes(row: &mut Vec<u8>, part: &[u8]) -> Result<(), Memory>
+    ensures { OnOk result (row.new.items ≡ part.now) }
 {
-    if is_long(part) {
-        return Err(CutFault::LongRow { row: number });
-    }
     row.clear();
-    match row.extend_from_slice(without_cr(part)) {
-        Ok(()) => Ok(()),
-        Err(_) => Err(CutFault::Memory),
-    }
+    row.extend_from_slice(part)
 }
 
-// Whether a part is too long for a row.
-fn is_long(part: &[u8]) -> bool
+/// Whether a part is too long for a row.
+pub(crate) fn is_long(part: &[u8]) -> bool
     ensures { result ≡ cut.is_long part.now }
 {
     without_cr(part).len() > ROW
 }
 
-// The part without the carriage return at its end.
-fn without_cr(part: &[u8]) -> &[u8]
+/// The part without the carriage return at its end.
+pub(crate) fn without_cr(part: &[u8]) -> &[u8]
     ensures { result.now ≡ cut.without_cr part.now }
 {
     match part.last() {
