@@ -1,5 +1,6 @@
 mod Worked
 pub mod Digits
+pub mod FewDigits
 pub mod Cuts
 pub mod Parts
 pub mod Answered

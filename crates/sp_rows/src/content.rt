@@ -6,7 +6,7 @@ ghost use Rattle.sp_rows.specs.Shapes.{column_of, cell_shape, fields_in};
 
 use crate::columns::Placed;
 use crate::fault::RowKind;
-use crate::numbers::number_of;
+use crate::numbers::{number_of, whole_number_of};
 use crate::split::{Fields, cell_at};
 use sp_plan::Kind;
 
@@ -53,8 +53,8 @@ fn content_of(is_time: bool, kind: Kind, cell: &[u8]) -> Content<'_>
     ensures { cell_shape result ≡ spec.cell_of is_time kind cell.now }
 {
     match (kind, is_time) {
-        (Kind::Int, true) => not_negative(number_of(0, cell)),
-        (Kind::Int, false) => or_bad(number_of(0, cell)),
+        (Kind::Int, true) => not_negative(whole_number_of(cell)),
+        (Kind::Int, false) => or_bad(whole_number_of(cell)),
         (Kind::Dec(scale), _) => or_bad(number_of(scale, cell)),
         (Kind::Text, _) => {
             if is_text(cell) {

@@ -8,6 +8,9 @@ ghost use Rattle.sp_rows.specs.Capped.{with_digit, capped, with_more};
 // The largest number of units, 10^15.
 const BOUND: u64 = 1_000_000_000_000_000;
 
+// So many digits write no number past the bound.
+const FEW: usize = 15;
+
 // Whether a byte is a blank or a tab.
 fn is_blank(b: u8) -> bool
     ensures { result ≡ Numbers.is_blank b }
@@ -86,12 +89,11 @@ fn leading(digits: &[u8]) -> (u64, usize)
     ensures ends { result.1 < length digits.now → Numbers.is_digit (slice_index_or digits.now result.1 0) ≡ false }
 {
     let mut value = 0u64;
-    for count in 0..digits.len() {
-        let digit = digits[count];
+    for (count, digit) in digits.iter().enumerate() {
         if !digit.is_ascii_digit() {
             return (value, count);
         }
-        value = with_digit(value, digit);
+        value = with_digit(value, *digit);
     }
     (value, digits.len())
 }
@@ -196,6 +198,35 @@ fn signed(scale: u8, cell: &[u8]) -> Option<i64>
         Some(b'+') => as_value(unsigned(scale, &cell[1..])),
         Some(b'-') => as_negative(unsigned(scale, &cell[1..])),
         Some(_) => as_value(unsigned(scale, cell)),
+    }
+}
+
+// The number that a cell of a few digits and nothing else writes.
+fn few_digits(cell: &[u8]) -> Option<u64>
+    ensures digits { IfSome result (λ n. Numbers.are_digits cell.now ≡ true) }
+    ensures value { IfSome result (λ n. n ≡ Numbers.digits_value cell.now) }
+    ensures below { IfSome result (λ n. n ≤ 1000000000000000) }
+{
+    if cell.is_empty() || cell.len() > FEW {
+        return None;
+    }
+    let mut value = 0u64;
+    for digit in cell {
+        if !digit.is_ascii_digit() {
+            return None;
+        }
+        value = value * 10 + u64::from(*digit - b'0');
+    }
+    Some(value)
+}
+
+/// The whole number that a cell writes, None where it writes none.
+pub(crate) fn whole_number_of(cell: &[u8]) -> Option<i64>
+    ensures { result ≡ Numbers.number_of 0 cell.now }
+{
+    match few_digits(cell) {
+        Some(number) => as_value(Some(number)),
+        None => number_of(0, cell),
     }
 }
 

@@ -52,8 +52,8 @@ pub(crate) fn find_cells(row: &[u8], nexts: &mut Vec<usize>) -> Result<bool, Mem
     if row.is_empty() {
         return Ok(false);
     }
-    for place in 0..row.len() {
-        if !take_byte(row[place], place, nexts)? {
+    for (place, byte) in row.iter().enumerate() {
+        if !take_byte(*byte, place, nexts)? {
             return Ok(false);
         }
     }
