@@ -51,7 +51,7 @@ kept_sent : IsSend kept.the_field.row
 kept_sent = struct_send (shape kept.the_type) (rows_sent, (search (sendable, crosses) depth 30, (search (sendable, crosses) depth 30, (search (sendable, crosses) depth 30, tt))))
 
 reader_sent : IsSend reader.the_field.row
-reader_sent = struct_send (shape reader.the_type) (search (sendable, crosses) depth 30, (kept_sent, (search (sendable, crosses) depth 30, tt)))
+reader_sent = struct_send (shape reader.the_type) (search (sendable, crosses) depth 30, (kept_sent, tt))
 
 events_sent : IsSend events.the_field.row
 events_sent = struct_send (shape events.the_type) (reader_sent, (search (sendable, crosses) depth 30, (search (sendable, crosses) depth 30, tt)))

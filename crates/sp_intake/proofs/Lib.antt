@@ -4,6 +4,7 @@ pub mod Gave
 pub mod Growing
 pub mod Leading
 pub mod Orderly
+pub mod Putting
 pub mod Suiting
 pub mod Since
 pub mod Crossing

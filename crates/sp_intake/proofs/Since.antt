@@ -388,10 +388,10 @@ reads_from q own source reader same plan going open_ none leads events last give
     record { taken = all.taken; has = all.has; good = subst (λ (p : Plan). AreGood p events) (plan ∙ same) (gives_good first last events gives) }
 
 -- a step that failed for want of memory
-pub broken_step : (r : Result Step AllocError) (a : Standing) (source : SourceState) (reader : Reader) → IsErr r → Gives a [] (record { source = source; state = Broken; reader = reader })
-    → Gives a (given_in r) (record { source = source; state = state_after r; reader = reader })
-broken_step (Ok step) a source reader failed gives = absurd (cc failed)
-broken_step (Err e) a source reader failed gives = gives
+pub broken_step : (r : Result Step AllocError) (given : Option Event) (a : Standing) (source : SourceState) (reader : Reader) → IsErr r → Gives a [] (record { source = source; state = Broken; reader = reader })
+    → Gives a (given_in r given) (record { source = source; state = state_after r; reader = reader })
+broken_step (Ok step) given a source reader failed gives = absurd (cc failed)
+broken_step (Err e) given a source reader failed gives = gives
 
 -- what an input gives that goes on
 pub gives_going : (state : State) → state ≡ Going → (source : SourceState) (reader : Reader) (events : List Event) (new : Standing) → Gives (record { source = source; state = Going; reader = reader }) events new

@@ -84,8 +84,9 @@ module _ (old new : Kept) (suits : SuitsPlan old) (bytes : List ℕ) (e : Event)
   event_passed = let given = event_next in none_next (plan_in old) (last_in old) (last_in new) given.onward
 
   -- the event is given or not
-  pub given_next : (after : Kept) (given : Option Event) → IfSome given (λ x. x ≡ e) → after.rows ≡ new.rows → ComeNext (plan_in old) (last_in old) (event_in given) (last_in after)
-  given_next after None same rows = subst (λ (r : Rows). ComeNext (plan_in old) (last_in old) [] (read_of r).last) (sym rows) event_passed
-  given_next after (Some x) same rows =
+  pub given_next : (after : Kept) (put given : Option Event) → put ≡ Some e → IfSome given (λ x. put ≡ Some x) → after.rows ≡ new.rows → ComeNext (plan_in old) (last_in old) (event_in given) (last_in after)
+  given_next after put None there same rows = subst (λ (r : Rows). ComeNext (plan_in old) (last_in old) [] (read_of r).last) (sym rows) event_passed
+  given_next after put (Some x) there same rows =
+      let is_it : x ≡ e = cc in
       subst (λ (r : Rows). ComeNext (plan_in old) (last_in old) (x ∷ []) (read_of r).last) (sym rows)
-      (subst (λ (y : Event). ComeNext (plan_in old) (last_in old) (y ∷ []) (last_in new)) (sym same) event_next)
+      (subst (λ (y : Event). ComeNext (plan_in old) (last_in old) (y ∷ []) (last_in new)) (sym is_it) event_next)

@@ -1,13 +1,11 @@
 -- What a reader comes to with bytes that may come.
-use Rattle.std.specs.Prelude.{◌≡◌, ℕ, ◌+◌, Bool, false, List, [], ◌∷◌, ◌++◌, length, None}
+use Rattle.std.specs.Prelude.{◌≡◌, ℕ, ◌+◌, Bool, false, List, [], ◌++◌, length, None}
 use Rattle.std.specs.List.{fold}
 use Rattle.sp_cut.specs.Left.{Left, rows_left}
 use Rattle.sp_cut.specs.Answer.{with_more}
 use Rattle.sp_plan.specs.declared.event.Event.{Event}
 use Rattle.sp_plan.specs.declared.plan.Plan.{Plan}
 use Rattle.sp_intake.specs.declared.reader.Reader.{Reader}
-use Rattle.sp_intake.specs.declared.reader.Taken.{Taken}
-use Rattle.sp_intake.specs.declared.reader.Taken.TheVariants as row
 use Rattle.sp_intake.specs.Kept.{plan_in, reading_of, IsCounted, SuitsPlan}
 use Rattle.sp_intake.specs.Reading.{Reading, take_row}
 
@@ -41,9 +39,3 @@ pub record LeadsAs (given : List Event) (old new : Reader) : Type 0 where
 -- all rows that are there were taken, or the reading has stopped
 abbrev pub IsSettled : Reader → Type 0
 IsSettled reader = reader.kept.stopped ≡ None → rows_left reader.cutter ≡ []
-
--- the event that a row gave
-abbrev pub taken_in : Taken → List Event
-taken_in (row.Event e) = e ∷ []
-taken_in row.Nothing = []
-taken_in row.NoRow = []

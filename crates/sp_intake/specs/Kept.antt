@@ -38,10 +38,10 @@ abbrev pub event_in : Option Event → List Event
 event_in None = []
 event_in (Some e) = e ∷ []
 
--- the event that an answer gives, if it gives one
-abbrev pub answered : Result (Option Event) AllocError → List Event
-answered (Ok given) = event_in given
-answered (Err e) = []
+-- the event that was put in, where the answer is no error
+abbrev pub answered : Result (Unit {0}) AllocError → Option Event → List Event
+answered (Ok done) given = event_in given
+answered (Err e) given = []
 
 -- a row was taken, and gave these events
 abbrev pub TakesRow : CutRow → List Event → Kept → Kept → Type 0

@@ -1,5 +1,5 @@
 -- How an input stands, and what it has read since its source stood at its start.
-use Rattle.std.specs.Prelude.{not, ◌≡◌, ◌≤◌, ◌<◌, ℕ, ◌+◌, Bool, true, false, List, [], ◌∷◌, ◌++◌, length, Option, Some, None, IfSome, take, Result, Ok, Err, IfOk, OnOk, OnErr}
+use Rattle.std.specs.Prelude.{not, ◌≡◌, ◌≤◌, ◌<◌, ℕ, ◌+◌, Bool, true, false, List, [], ◌++◌, length, Option, Some, None, IfSome, take, Result, Ok, Err, IfOk, OnOk, OnErr}
 use Rattle.std.specs.declared.alloc.AllocError.{AllocError}
 use Rattle.sp_io.specs.Outside.{SourceState, Gave, Rose}
 use Rattle.sp_io.specs.declared.outside.Failed.{Failed}
@@ -16,7 +16,7 @@ use Rattle.sp_intake.specs.declared.reader.Reader.{Reader}
 use Rattle.sp_intake.specs.Coming.{comes_to, ends_as, IsSettled}
 use Rattle.sp_intake.specs.Following.{ComeNext}
 use Rattle.sp_intake.specs.Intake.{TakesNoFurther}
-use Rattle.sp_intake.specs.Kept.{plan_in, last_in}
+use Rattle.sp_intake.specs.Kept.{plan_in, last_in, event_in}
 use Rattle.sp_intake.specs.Reading.{read, stop_of, is_end}
 
 -- an input, its source seen by its state
@@ -92,17 +92,17 @@ ReadsFrom q before first = (events : List Event) (last : Standing) → Gives fir
 
 -- how an input stands behind a step
 abbrev pub state_after : Result Step AllocError → State
-state_after (Ok (step.Event e)) = Going
+state_after (Ok step.Event) = Going
 state_after (Ok (step.Stop stop)) = Stopped stop
 state_after (Ok step.Ask) = Going
 state_after (Err e) = Broken
 
--- the event that a step gives, if it gives one
-abbrev pub given_in : Result Step AllocError → List Event
-given_in (Ok (step.Event e)) = e ∷ []
-given_in (Ok (step.Stop stop)) = []
-given_in (Ok step.Ask) = []
-given_in (Err e) = []
+-- the event that a step gives, which was put in, if it gives one
+abbrev pub given_in : Result Step AllocError → Option Event → List Event
+given_in (Ok step.Event) given = event_in given
+given_in (Ok (step.Stop stop)) given = []
+given_in (Ok step.Ask) given = []
+given_in (Err e) given = []
 
 -- no row is left, and the input may go on
 pub record IsHungry (reader : Reader) : Type 0 where

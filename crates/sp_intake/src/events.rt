@@ -81,8 +81,9 @@ impl EventReader {
             State::Stopped(stop) => return Some(answer(stop, &mut self.stops)),
             State::Broken => return Some(Next::Memory),
         }
-        match take_step(alloc, &mut self.reader) {
-            Ok(Step::Event(event)) => Some(Next::Event(event)),
+        let mut event = None;
+        match take_step(alloc, &mut self.reader, &mut event) {
+            Ok(Step::Event) => Some(Next::Event(event.unwrap())),
             Ok(Step::Stop(stop)) => {
                 self.state = State::Stopped(stop);
                 Some(answer(stop, &mut self.stops))

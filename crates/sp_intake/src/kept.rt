@@ -1,4 +1,4 @@
-ghost use Rattle.std.specs.Prelude.{◌≡◌, ◌≤◌, ◌<◌, ◌+◌, ◌++◌, List, [], true, None, IfOk, IfSome, OnOk, length, is_some};
+ghost use Rattle.std.specs.Prelude.{◌≡◌, ◌≤◌, ◌<◌, ◌+◌, ◌++◌, List, [], true, Some, None, IfOk, IfSome, OnOk, length, is_some};
 ghost use Rattle.std.specs.Arc.{arc_value};
 ghost use Rattle.sp_cut.specs.CutRows;
 ghost use Rattle.sp_cut.specs.CutRows.{long_row, open_quote};
@@ -55,58 +55,66 @@ impl Kept {
         self.stopped.is_some()
     }
 
-    /// One row more, and the event that it gives, if it gives one.
-    pub(crate) fn take(&mut self, alloc: Global, row: &[u8]) -> Result<Option<Event>, Memory>
+    /// One row more; the event that it gives, if it gives one, is put in.
+    pub(crate) fn take(
+        &mut self,
+        alloc: Global,
+        row: &[u8],
+        event: &mut Option<Event>,
+    ) -> Result<(), Memory>
         requires going { self.old.stopped ≡ None }
         requires counted { IsCounted self.old }
         requires suits { SuitsPlan self.old }
-        ensures reading { IfOk result (λ given. TakesRow (CutRows.row row.now) (event_in given) self.old self.new) }
-        ensures next { ComeNext (plan_in self.old) (last_in self.old) (answered result) (last_in self.new) }
+        ensures reading { OnOk result (TakesRow (CutRows.row row.now) (event_in event.new) self.old self.new) }
+        ensures next { ComeNext (plan_in self.old) (last_in self.old) (answered result event.new) (last_in self.new) }
         ensures counted { IsCounted self.new }
         ensures suits { SuitsPlan self.new }
         ensures plan { plan_in self.new ≡ plan_in self.old }
-        ensures given { self.new.given ≡ self.old.given + length (answered result) }
+        ensures given { self.new.given ≡ self.old.given + length (answered result event.new) }
         ensures count { OnOk result (self.new.stopped ≡ None → self.new.count ≡ self.old.count + 1) }
     {
         if self.count == ROWS {
             self.stopped = Some(Failure::Limit { limit: ROWS });
-            return Ok(None);
+            *event = None;
+            return Ok(());
         }
-        match self.rows.row(alloc, row) {
-            Ok(None) => {
+        match self.rows.row_into(alloc, row, event) {
+            Ok(()) => {
                 self.count += 1;
-                Ok(None)
-            }
-            Ok(Some(event)) => {
-                self.count += 1;
-                Ok(self.give(event))
+                if let Some(_) = event {
+                    self.give(event);
+                }
+                Ok(())
             }
             Err(RowError::Fault(fault)) => {
                 self.stopped = Some(failure_at(&fault));
-                Ok(None)
+                *event = None;
+                Ok(())
             }
             Err(RowError::Memory) => Err(AllocError),
         }
     }
 
-    // The event of the row that was just read, where it is within the limit.
-    fn give(&mut self, event: Event) -> Option<Event>
+    // Counts the event of the row that was just read; one past the limit is taken out.
+    fn give(&mut self, event: &mut Option<Event>)
         requires going { self.old.stopped ≡ None }
         requires few { self.old.given ≤ 1048576 }
-        ensures reading { (before : List events.Event) → length before ≡ self.old.given
-            → reading_of (before ++ event_in result) self.new ≡ with_event (reading_of before self.old) event (reading_of before self.old).so_far }
+        ensures reading { (before : List events.Event) (e : events.Event) → event.old ≡ Some e → length before ≡ self.old.given
+            → reading_of (before ++ event_in event.new) self.new ≡ with_event (reading_of before self.old) e (reading_of before self.old).so_far }
         ensures rows { self.new.rows ≡ self.old.rows }
         ensures count { self.new.count ≡ self.old.count }
-        ensures given { self.new.given ≡ self.old.given + length (event_in result) }
+        ensures given { self.new.given ≡ self.old.given + length (event_in event.new) }
         ensures few { self.new.given ≤ 1048576 }
-        ensures same { IfSome result (λ e. e ≡ event) }
+        ensures same { IfSome event.new (λ e. event.old ≡ Some e) }
     {
         if self.given == EVENTS {
             self.stopped = Some(Failure::Limit { limit: EVENTS });
-            return None;
+            *event = None;
+            return;
         }
-        self.given += 1;
-        Some(event)
+        if event.is_some() {
+            self.given += 1;
+        }
     }
 
     /// There is no row in place of the next one, for the reason with this code.

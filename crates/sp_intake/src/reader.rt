@@ -12,28 +12,16 @@ use sp_plan::{Event, Memory, Plan};
 use std::alloc::{AllocError, Global};
 use std::sync::Arc;
 
-/// What the next row gave.
-#[derive(Drop)]
-pub(crate) enum Taken {
-    Event(Event),
-    /// There was a row, which gave no event.
-    Nothing,
-    /// There is no row, or none that counts.
-    NoRow,
-}
-
 /// The rows so far, and the bytes behind them.
 #[derive(Drop)]
 pub(crate) struct Reader {
     cutter: Cutter,
     kept: Kept,
-    // Room for the bytes of a row.
-    row: Vec<u8>,
 }
 
 impl Reader {
     ghost use Rattle.sp_intake.specs.Kept.{plan_in, last_in, reading_of, answered, event_in};
-    ghost use Rattle.sp_intake.specs.Coming.{comes_to, ends_as, taken_in, IsReady, IsSettled, LeadsAs};
+    ghost use Rattle.sp_intake.specs.Coming.{comes_to, ends_as, IsReady, IsSettled, LeadsAs};
 
     /// Nothing was read yet.
     pub(crate) fn new(alloc: Global, plan: Arc<Plan>) -> Result<Reader, Memory>
@@ -47,7 +35,6 @@ impl Reader {
         Ok(Reader {
             cutter: Cutter::new(alloc),
             kept: Kept::new(alloc, plan)?,
-            row: Vec::new(alloc),
         })
     }
 
@@ -82,57 +69,68 @@ impl Reader {
         self.cutter.end();
     }
 
-    /// The event of the next row that gives one, or None where no row is left that counts.
-    pub(crate) fn next_event(&mut self, alloc: Global) -> Result<Option<Event>, Memory>
+    /// Puts in the event of the next row that gives one, or none where no row is left that counts.
+    pub(crate) fn next_event(
+        &mut self,
+        alloc: Global,
+        event: &mut Option<Event>,
+    ) -> Result<(), Memory>
         requires ready { IsReady self.old }
-        ensures leads { IfOk result (λ given. LeadsAs (event_in given) self.old self.new) }
+        ensures leads { OnOk result (LeadsAs (event_in event.new) self.old self.new) }
         ensures ready { OnOk result (IsReady self.new) }
-        ensures settled { IfOk result (λ given. given ≡ None → IsSettled self.new) }
+        ensures settled { OnOk result (event.new ≡ None → IsSettled self.new) }
         ensures plan { plan_in self.new.kept ≡ plan_in self.old.kept }
-        ensures next { ComeNext (plan_in self.old.kept) (last_in self.old.kept) (answered result) (last_in self.new.kept) }
-        ensures given { self.new.kept.given ≡ self.old.kept.given + length (answered result) }
+        ensures next { ComeNext (plan_in self.old.kept) (last_in self.old.kept) (answered result event.new) (last_in self.new.kept) }
+        ensures given { self.new.kept.given ≡ self.old.kept.given + length (answered result event.new) }
         ensures few { self.new.kept.given ≤ 1048576 }
     {
         for _ in 0..u64::MAX {
-            match self.take_next(alloc)? {
-                Taken::Event(event) => return Ok(Some(event)),
-                Taken::Nothing => {}
-                Taken::NoRow => return Ok(None),
+            let taken = self.take_next(alloc, event)?;
+            if !taken || event.is_some() {
+                return Ok(());
             }
         }
         Err(AllocError)
     }
 
-    // Takes the next row.
-    fn take_next(&mut self, alloc: Global) -> Result<Taken, Memory>
+    // Takes the next row, if there is one that counts, and puts in the event that it gives, if it gives one.
+    fn take_next(&mut self, alloc: Global, event: &mut Option<Event>) -> Result<bool, Memory>
         requires ready { IsReady self.old }
-        ensures leads { IfOk result (λ taken. LeadsAs (taken_in taken) self.old self.new) }
+        ensures leads { IfOk result (λ taken. LeadsAs (event_in event.new) self.old self.new) }
         ensures ready { OnOk result (IsReady self.new) }
-        ensures settled { IfOk result (λ taken. taken ≡ Taken.NoRow → IsSettled self.new) }
+        ensures settled { IfOk result (λ taken. taken ≡ false → IsSettled self.new) }
+        ensures nothing { IfOk result (λ taken. taken ≡ false → event.new ≡ None) }
         ensures plan { plan_in self.new.kept ≡ plan_in self.old.kept }
-        ensures next { IfOk result (λ taken. ComeNext (plan_in self.old.kept) (last_in self.old.kept) (taken_in taken) (last_in self.new.kept)) }
+        ensures next { IfOk result (λ taken. ComeNext (plan_in self.old.kept) (last_in self.old.kept) (event_in event.new) (last_in self.new.kept)) }
         ensures none { OnErr result (ComeNext (plan_in self.old.kept) (last_in self.old.kept) [] (last_in self.new.kept)) }
         ensures given { OnErr result (self.new.kept.given ≡ self.old.kept.given) }
         ensures few { self.new.kept.given ≤ 1048576 }
     {
         if self.kept.has_stopped() {
-            return Ok(Taken::NoRow);
+            *event = None;
+            return Ok(false);
         }
         // a law: what is no row now is none whatever comes behind
         rows_stay();
-        match self.cutter.next_into(&mut self.row) {
-            Ok(false) => Ok(Taken::NoRow),
-            Ok(true) => match self.kept.take(alloc, self.row.as_slice())? {
-                Some(event) => Ok(Taken::Event(event)),
-                None => Ok(Taken::Nothing),
-            },
+        match self.cutter.find_row() {
+            Ok(None) => {
+                *event = None;
+                Ok(false)
+            }
+            Ok(Some(span)) => {
+                self.kept.take(alloc, self.cutter.row_at(span), event)?;
+                self.cutter.pass(span);
+                Ok(true)
+            }
             Err(CutFault::LongRow { row: _ }) => {
                 self.kept.refuse(8);
-                Ok(Taken::NoRow)
+                *event = None;
+                Ok(false)
             }
             Err(CutFault::OpenQuote { row: _ }) => {
                 self.kept.refuse(9);
-                Ok(Taken::NoRow)
+                *event = None;
+                Ok(false)
             }
             Err(CutFault::Memory) => Err(AllocError),
         }

@@ -1,4 +1,4 @@
-ghost use Rattle.std.specs.Prelude.{◌≡◌, ◌≢◌, ◌≤◌, [], true, Ok, OnOk};
+ghost use Rattle.std.specs.Prelude.{◌≡◌, ◌≢◌, ◌≤◌, [], true, Ok, IsSome, OnOk};
 ghost use Rattle.sp_io.specs.Outside.{SourceState, Rose};
 ghost use Rattle.sp_ports.specs.Giving.{given_by};
 ghost use Rattle.sp_intake.specs.declared.events.State.TheVariants.{Going};
@@ -15,23 +15,30 @@ use std::alloc::Global;
 /// What a reader comes to next.
 #[derive(Drop)]
 pub(crate) enum Step {
-    Event(Event),
+    /// An event, which was put in.
+    Event,
     Stop(Stop),
     /// No row is left, and the input may go on.
     Ask,
 }
 
 /// Takes rows, up to one that gives an event, to the stop, or to the end of what is there.
-pub(crate) fn take_step(alloc: Global, reader: &mut Reader) -> Result<Step, Memory>
+pub(crate) fn take_step(
+    alloc: Global,
+    reader: &mut Reader,
+    event: &mut Option<Event>,
+) -> Result<Step, Memory>
     requires ready { IsReady reader.old }
-    ensures gives { (source : SourceState) → Gives (record { source = source; state = Going; reader = reader.old }) (given_in result)
+    ensures gives { (source : SourceState) → Gives (record { source = source; state = Going; reader = reader.old }) (given_in result event.new)
         (record { source = source; state = state_after result; reader = reader.new }) }
+    ensures some { result ≡ Ok Step.Event → IsSome event.new }
     ensures ready { OnOk result (IsReady reader.new) }
     ensures few { reader.new.kept.given ≤ 1048576 }
     ensures asks { result ≡ Ok Step.Ask → IsHungry reader.new }
 {
-    if let Some(event) = reader.next_event(alloc)? {
-        return Ok(Step::Event(event));
+    reader.next_event(alloc, event)?;
+    if event.is_some() {
+        return Ok(Step::Event);
     }
     let ended = reader.has_ended();
     if ended || reader.has_stopped() {

@@ -49,6 +49,11 @@ Answers given before after (Ok None) = given ≡ nothing after
 Answers given before after (Ok (Some e)) = given ≡ event e after
 Answers given before after (Err error) = ErrorIs given error × (after ≡ before)
 
+-- the answer to a row whose event, if it gives one, was put into this place
+abbrev pub given_as : Result (Unit {0}) RowError → Option Event → Result (Option Event) RowError
+given_as (Ok done) given = Ok given
+given_as (Err error) given = Err error
+
 -- the fault of input without a header
 abbrev pub no_header : RowFault
 no_header = record { kind = NoHeader; row = 0; column = 0 }

@@ -80,26 +80,27 @@ impl Progress {
         }
     }
 
-    /// The event of the next row, which stands behind a header with these places.
+    /// Puts in the event of the next row, which stands behind a header with these places.
     pub(crate) fn event(
         &mut self,
         alloc: Global,
         cells: &Fields<'_>,
         plan: &Plan,
         places: &[usize],
-    ) -> Result<Option<Event>, RowError>
+        event: &mut Option<Event>,
+    ) -> Result<(), RowError>
         requires { self.old.read + 1 < 2 ^ 32 }
-        ensures event { IfOk result (λ given. Gave (spec.event_row plan.now (reading (Some places.now) self.old) (fields_in cells.now) places.now) (reading (Some places.now) self.new) given) }
+        ensures event { OnOk result (Gave (spec.event_row plan.now (reading (Some places.now) self.old) (fields_in cells.now) places.now) (reading (Some places.now) self.new) event.new) }
         ensures read { OnOk result (self.new.read ≡ self.old.read + 1) }
         ensures error { IfErr result (λ e. ErrorIs (spec.event_row plan.now (reading (Some places.now) self.old) (fields_in cells.now) places.now) e) }
         ensures err { OnErr result (self.new ≡ self.old) }
     {
         let known = self.texts.len();
-        let event = self.read_event(alloc, cells, plan, places);
-        if event.is_err() {
+        let read = self.read_event(alloc, cells, plan, places, event);
+        if read.is_err() {
             self.texts.truncate(known);
         }
-        event
+        read
     }
 
     // The same, but that after an error new texts may be known behind those before.
@@ -109,9 +110,10 @@ impl Progress {
         cells: &Fields<'_>,
         plan: &Plan,
         places: &[usize],
-    ) -> Result<Option<Event>, RowError>
+        event: &mut Option<Event>,
+    ) -> Result<(), RowError>
         requires { self.old.read + 1 < 2 ^ 32 }
-        ensures event { IfOk result (λ given. Gave (spec.event_row plan.now (reading (Some places.now) self.old) (fields_in cells.now) places.now) (reading (Some places.now) self.new) given) }
+        ensures event { OnOk result (Gave (spec.event_row plan.now (reading (Some places.now) self.old) (fields_in cells.now) places.now) (reading (Some places.now) self.new) event.new) }
         ensures read { OnOk result (self.new.read ≡ self.old.read + 1) }
         ensures error { IfErr result (λ e. ErrorIs (spec.event_row plan.now (reading (Some places.now) self.old) (fields_in cells.now) places.now) e) }
         ensures same { OnErr result (self.new.read ≡ self.old.read) }
@@ -131,7 +133,8 @@ impl Progress {
                 }
                 self.read += 1;
                 self.last = time;
-                Ok(Some(Event { time, values }))
+                *event = Some(Event { time, values });
+                Ok(())
             }
         }
     }

@@ -1,4 +1,4 @@
-ghost use Rattle.std.specs.Prelude.{◌≡◌, ◌<◌, ◌+◌, ◌^◌, if◌then◌else◌, is_ok, is_some, IfOk};
+ghost use Rattle.std.specs.Prelude.{◌≡◌, ◌<◌, ◌+◌, ◌^◌, None, if◌then◌else◌, is_ok, is_some, IfOk};
 ghost use Rattle.std.specs.Arc.{arc_value};
 ghost use Rattle.sp_rows.specs.Rows as spec;
 ghost use Rattle.sp_rows.specs.Shapes.{fields_in};
@@ -20,7 +20,7 @@ pub(crate) struct Reading {
 }
 
 impl Reading {
-    ghost use Rattle.sp_rows.specs.Progress.{plan_in, read_in, Answers, ErrorIs};
+    ghost use Rattle.sp_rows.specs.Progress.{plan_in, read_in, Answers, ErrorIs, given_as};
 
     /// No row was read. The texts of the plan have the first numbers.
     pub(crate) fn new(alloc: Global, plan: Arc<Plan>) -> Result<Reading, Memory>
@@ -59,29 +59,31 @@ impl Reading {
         RowError::Fault(self.progress.refusal(kind, 0))
     }
 
-    /// The event of a row with these cells, or nothing where it is the header.
+    /// Puts in the event of a row with these cells, or nothing where it is the header.
     pub(crate) fn row_of(
         &mut self,
         alloc: Global,
         cells: &Fields<'_>,
-    ) -> Result<Option<Event>, RowError>
+        event: &mut Option<Event>,
+    ) -> Result<(), RowError>
         requires { (read_in self.old).read < 2097153 }
         ensures plan { plan_in self.new ≡ plan_in self.old }
         ensures read { (read_in self.new).read ≡ (read_in self.old).read + (if is_ok result then 1 else 0) }
-        ensures answers { Answers (spec.row_of_cells (plan_in self.old) (read_in self.old) (fields_in cells.now) (read_in self.old).places) (read_in self.old) (read_in self.new) result }
+        ensures answers { Answers (spec.row_of_cells (plan_in self.old) (read_in self.old) (fields_in cells.now) (read_in self.old).places) (read_in self.old) (read_in self.new) (given_as result event.new) }
     {
         if let Some(places) = &self.places {
-            return self.progress.event(alloc, cells, &self.plan, places);
+            return self.progress.event(alloc, cells, &self.plan, places, event);
         }
+        *event = None;
         self.header(alloc, cells)
     }
 
     // Takes a row with these cells as the header.
-    fn header(&mut self, alloc: Global, cells: &Fields<'_>) -> Result<Option<Event>, RowError>
+    fn header(&mut self, alloc: Global, cells: &Fields<'_>) -> Result<(), RowError>
         requires { (read_in self.old).read < 2097153 }
         ensures plan { plan_in self.new ≡ plan_in self.old }
         ensures read { (read_in self.new).read ≡ (read_in self.old).read + (if is_ok result then 1 else 0) }
-        ensures answers { Answers (spec.header_row (plan_in self.old) (read_in self.old) (fields_in cells.now)) (read_in self.old) (read_in self.new) result }
+        ensures answers { Answers (spec.header_row (plan_in self.old) (read_in self.old) (fields_in cells.now)) (read_in self.old) (read_in self.new) (given_as result None) }
     {
         match read_header(alloc, cells, self.plan.schema.columns.as_slice()) {
             Err(_) => Err(RowError::Memory),
@@ -91,7 +93,7 @@ impl Reading {
             Ok(Header::Places(places)) => {
                 self.places = Some(places);
                 self.progress.read += 1;
-                Ok(None)
+                Ok(())
             }
         }
     }

@@ -22,7 +22,7 @@ pub struct Rows {
 }
 
 impl Rows {
-    ghost use Rattle.sp_rows.specs.Progress.{plan_of, read_of, Answers, no_header};
+    ghost use Rattle.sp_rows.specs.Progress.{plan_of, read_of, Answers, no_header, given_as};
 
     /// No row was read. The texts of the plan have the first numbers.
     pub fn new(alloc: Global, plan: Arc<Plan>) -> Result<Rows, Memory>
@@ -45,13 +45,33 @@ impl Rows {
         ensures read { (read_of self.new).read ≡ (read_of self.old).read + (if is_ok result then 1 else 0) }
         ensures answers { Answers (spec.row_result (plan_of self.old) (read_of self.old) row.now) (read_of self.old) (read_of self.new) result }
     {
+        let mut event = None;
+        match self.row_into(alloc, row, &mut event) {
+            Ok(()) => Ok(event),
+            Err(error) => Err(error),
+        }
+    }
+
+    /// The same for an event that is handed in: the next row's is put in its place, or none where the row
+    /// is blank or the header. After an error any event may be there, and all else is as before.
+    pub fn row_into(
+        &mut self,
+        alloc: Global,
+        row: &[u8],
+        event: &mut Option<Event>,
+    ) -> Result<(), RowError>
+        requires { (read_of self.old).read < 2097153 }
+        ensures plan { plan_of self.new ≡ plan_of self.old }
+        ensures read { (read_of self.new).read ≡ (read_of self.old).read + (if is_ok result then 1 else 0) }
+        ensures answers { Answers (spec.row_result (plan_of self.old) (read_of self.old) row.now) (read_of self.old) (read_of self.new) (given_as result event.new) }
+    {
         match cut_row(row, &mut self.nexts) {
             Err(_) => Err(RowError::Memory),
             Ok(Some(rest)) => {
                 let cells = Fields::Cut(rest, self.nexts.as_slice());
-                self.reading.row_of(alloc, &cells)
+                self.reading.row_of(alloc, &cells, event)
             }
-            Ok(None) => self.quoted_row(alloc, row),
+            Ok(None) => self.quoted_row(alloc, row, event),
         }
     }
 
@@ -71,23 +91,29 @@ impl Rows {
         })
     }
 
-    // The event of the next row, which is read byte by byte.
-    fn quoted_row(&mut self, alloc: Global, row: &[u8]) -> Result<Option<Event>, RowError>
+    // The same for a row that is read byte by byte.
+    fn quoted_row(
+        &mut self,
+        alloc: Global,
+        row: &[u8],
+        event: &mut Option<Event>,
+    ) -> Result<(), RowError>
         requires { (read_of self.old).read < 2097153 }
         ensures plan { plan_of self.new ≡ plan_of self.old }
         ensures read { (read_of self.new).read ≡ (read_of self.old).read + (if is_ok result then 1 else 0) }
-        ensures answers { Answers (spec.row_result (plan_of self.old) (read_of self.old) row.now) (read_of self.old) (read_of self.new) result }
+        ensures answers { Answers (spec.row_result (plan_of self.old) (read_of self.old) row.now) (read_of self.old) (read_of self.new) (given_as result event.new) }
     {
         match read_row(alloc, row, &mut self.record) {
             Err(_) => Err(RowError::Memory),
             Ok(Cells::Blank) => {
                 self.reading.pass();
-                Ok(None)
+                *event = None;
+                Ok(())
             }
             Ok(Cells::Several) => Err(self.reading.refuse(RowKind::TwoRows)),
             Ok(Cells::One) => self
                 .reading
-                .row_of(alloc, &Fields::Read(&self.record.cells)),
+                .row_of(alloc, &Fields::Read(&self.record.cells), event),
         }
     }
 }

@@ -1,38 +1,39 @@
-use Rattle.std.proofs.Common.{◌≡◌, ◌⊎◌, inl, inr, [], ◌∷◌, true, sym, ◌∙◌, ap, arith}
-use Rattle.std.specs.Prelude.{is_some}
+use Rattle.std.proofs.Common.{◌≡◌, ◌⊎◌, inl, inr, [], true, sym, ◌∙◌, ap, subst, arith}
+use Rattle.std.specs.Prelude.{Option, None, is_some}
+use Rattle.sp_plan.specs.declared.event.Event.{Event}
 use Rattle.sp_intake.specs.declared.events.State.TheVariants.{Going, Stopped}
 use Rattle.sp_intake.specs.Coming.{LeadsAs, IsSettled}
 use Rattle.sp_intake.specs.Following.{ComeNext}
-use Rattle.sp_intake.specs.Kept.{plan_in, last_in, reading_of}
+use Rattle.sp_intake.specs.Kept.{plan_in, last_in, reading_of, event_in}
 use Rattle.sp_intake.specs.Reading.{stop_of}
 use Rattle.sp_intake.specs.Standing.{Standing}
+use Rattle.sp_intake.proofs.Putting.{none_there}
 use Rattle.sp_intake.proofs.Since.{broken_step, gives_events, gives_broken, gives_still, gives_stop}
 use Rattle.sp_intake.proofs.step.take_step.Goals as goal
 use Rattle.sp_intake.proofs.step.take_step.Goals.{then-ended-via-then-ended, then-ended-via-else-ended+then-has_stopped}
 
-pub returns-in_err-event-clause-gives : goal.returns-in_err-event-clause-gives
-returns-in_err-event-clause-gives c source =
+pub returns-in_err-next_event-clause-gives : goal.returns-in_err-next_event-clause-gives
+returns-in_err-next_event-clause-gives c source =
     let a : Standing = record { source = source; state = Going; reader = c.args.reader.now } in
-    let told = c.in_err-event.ensures in
-    broken_step c.from_residual.result a source c.next_event.new.self c.from_residual.ensures.0
+    let told = c.in_err-next_event.ensures in
+    broken_step c.from_residual.result c.next_event.new.event a source c.next_event.new.self c.from_residual.ensures.0
     (gives_broken source c.args.reader.now c.next_event.new.self told.plan (omega (arith, told.given)) told.next)
 
-pub returns-in-Some-clause-gives : goal.returns-in-Some-clause-gives
-returns-in-Some-clause-gives c source =
-    let old = c.args.reader.now in
-    let told = c.in_ok-event.ensures in
-    let leads : LeadsAs (c.in-Some.event ∷ []) old c.next_event.new.self = rw c.in-Some.is at told.leads in
-    let next : ComeNext (plan_in old.kept) (last_in old.kept) (c.in-Some.event ∷ []) (last_in c.next_event.new.self.kept) = rw c.in-Some.is at told.next in
-    gives_events source old c.next_event.new.self (c.in-Some.event ∷ []) leads next (omega arith)
+pub returns-then-is_some-clause-gives : goal.returns-then-is_some-clause-gives
+returns-then-is_some-clause-gives c source =
+    let told = c.in_ok-next_event.ensures in
+    gives_events source c.args.reader.now c.next_event.new.self (event_in c.next_event.new.event) told.leads told.next (omega arith)
 
 pub returns-then-ended-clause-gives : goal.returns-then-ended-clause-gives
 returns-then-ended-clause-gives c source =
     let old = c.args.reader.now in
     let mid = c.next_event.new.self in
-    let told = c.in_ok-event.ensures in
-    let leads : LeadsAs [] old mid = rw c.in_default.is at told.leads in
-    let next : ComeNext (plan_in old.kept) (last_in old.kept) [] (last_in mid.kept) = rw c.in_default.is at told.next in
-    let settled : IsSettled mid = told.settled c.in_default.is in
+    let told = c.in_ok-next_event.ensures in
+    let none : c.next_event.new.event ≡ None = none_there c.next_event.new.event (sym c.is_some.ensures ∙ c.if-is_some.false) in
+    let leads : LeadsAs [] old mid = subst (λ (given : Option Event). LeadsAs (event_in given) old mid) none told.leads in
+    let next : ComeNext (plan_in old.kept) (last_in old.kept) [] (last_in mid.kept) =
+    subst (λ (given : Option Event). ComeNext (plan_in old.kept) (last_in old.kept) (event_in given) (last_in mid.kept)) none told.next in
+    let settled : IsSettled mid = told.settled none in
     let ended = c.has_ended-ended.ensures in
     let closed : (mid.cutter.ended ≡ true) ⊎ (is_some mid.kept.stopped ≡ true) = elim c.then-ended.branch [
       | then-ended-via-then-ended w ↦ inl (sym ended ∙ w.if-ended.true)
@@ -46,7 +47,9 @@ pub returns-clause-gives : goal.returns-clause-gives
 returns-clause-gives c source =
     let old = c.args.reader.now in
     let mid = c.next_event.new.self in
-    let told = c.in_ok-event.ensures in
-    let leads : LeadsAs [] old mid = rw c.in_default.is at told.leads in
-    let next : ComeNext (plan_in old.kept) (last_in old.kept) [] (last_in mid.kept) = rw c.in_default.is at told.next in
+    let told = c.in_ok-next_event.ensures in
+    let none : c.next_event.new.event ≡ None = none_there c.next_event.new.event (sym c.is_some.ensures ∙ c.if-is_some.false) in
+    let leads : LeadsAs [] old mid = subst (λ (given : Option Event). LeadsAs (event_in given) old mid) none told.leads in
+    let next : ComeNext (plan_in old.kept) (last_in old.kept) [] (last_in mid.kept) =
+    subst (λ (given : Option Event). ComeNext (plan_in old.kept) (last_in old.kept) (event_in given) (last_in mid.kept)) none told.next in
     gives_events source old mid [] leads next (omega arith)

@@ -1,7 +1,9 @@
 use Rattle.std.proofs.Common.{◌≡◌, ◌<◌, ℕ, Bool, true, false, not, [], ◌∷◌, List, refl, sym, subst, ap, ◌∙◌, arith}
+use Rattle.std.specs.Prelude.{Option}
 use Rattle.sp_plan.specs.declared.event.Event.{Event}
 use Rattle.sp_intake.specs.declared.events.State.TheVariants.{Going, Stopped, Broken}
 use Rattle.sp_intake.specs.Reading.{is_end}
+use Rattle.sp_intake.specs.Kept.{event_in}
 use Rattle.sp_intake.specs.Standing.{Standing, Gives, is_halted}
 use Rattle.sp_intake.proofs.Since.{gives_going, gives_on}
 use Rattle.sp_intake.proofs.events.EventReader.poll.Goals as goal
@@ -25,9 +27,10 @@ pub returns-in-Ok-Event-clause-gives : goal.returns-in-Ok-Event-clause-gives
 returns-in-Ok-Event-clause-gives c source =
     let old = c.args.self.now.reader in
     let new = c.take_step.new.reader in
-    let told : Gives (record { source = source; state = Going; reader = old }) (c.in-Ok-Event.event ∷ []) (record { source = source; state = Going; reader = new }) =
+    let put : Gives (record { source = source; state = Going; reader = old }) (event_in c.take_step.new.event) (record { source = source; state = Going; reader = new }) =
     rw c.in-Ok-Event.field-0-is at c.in-Ok-Event.ensures.gives source in
-    gives_on c.args.self.now.state c.in-Going.is source source old new (c.in-Ok-Event.event ∷ []) told
+    let told = subst (λ (given : Option Event). Gives (record { source = source; state = Going; reader = old }) (event_in given) (record { source = source; state = Going; reader = new })) c.unwrap.ensures put in
+    gives_on c.args.self.now.state c.in-Going.is source source old new (c.unwrap.result ∷ []) told
 
 pub returns-in-Ok-Stop-clause-gives : goal.returns-in-Ok-Stop-clause-gives
 returns-in-Ok-Stop-clause-gives c source =
