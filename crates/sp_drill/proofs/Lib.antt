@@ -1,6 +1,11 @@
 mod Cutting
 mod Fields
 mod Numbers
+mod OnePlan
+mod Parsed
+mod Phrases
+mod Pieces
+mod Planned
 mod Reading
 mod Rows
 mod Worked

@@ -3,7 +3,8 @@ ghost use Rattle.std.specs.Prelude.{◌≡◌};
 ghost use Rattle.sp_drill.specs.Query.{drill_query};
 
 /// The query that a drill runs over generated rows, on one line: an event of the symbol AA, then one event
-/// or more of a lower price, and one of a higher price, in windows of 40 events every 10.
+/// or more of a lower price, and one of a higher price, in windows of 40 events every 10. It has a plan, and
+/// every plan of it reads these rows: the law `drill_query_has_plan`.
 #[tactic(auto, unfolding(crate::specs::Query::drill_query))]
 pub fn query() -> &'static str
     ensures { result.now ≡ drill_query }
