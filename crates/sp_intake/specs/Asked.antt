@@ -1,10 +1,7 @@
 -- How a reader of events stands, and what it answers.
-use Rattle.std.specs.Prelude.{◌≡◌, false, List, [], Option, Some, None}
+use Rattle.std.specs.Prelude.{◌≡◌, false}
 use Rattle.sp_io.specs.Outside.{SourceState}
-use Rattle.sp_plan.specs.declared.event.Event.{Event}
 use Rattle.sp_plan.specs.declared.plan.Plan.{Plan}
-use Rattle.sp_ports.specs.declared.intake.Next.{Next}
-use Rattle.sp_ports.specs.Giving.{given_by}
 use Rattle.sp_intake.specs.declared.events.EventReader.{EventReader}
 use Rattle.sp_intake.specs.declared.events.State.TheVariants.{Going}
 use Rattle.sp_intake.specs.Standing.{Standing, ReadsFrom, IsHungry}
@@ -16,11 +13,6 @@ standing source events = record { source = source; state = events.state; reader 
 -- nothing was read yet: whatever source comes, what is given is read of it
 abbrev pub IsFresh : Plan → EventReader → Type 0
 IsFresh q events = (source : SourceState) → source.ended ≡ false → ReadsFrom q source (standing source events)
-
--- the event that an answer gives, where there is an answer
-abbrev pub answered_with : Option Next → List Event
-answered_with None = []
-answered_with (Some next) = given_by next
 
 -- it goes on, and asks for bytes
 pub record IsAsking (events : EventReader) : Type 0 where

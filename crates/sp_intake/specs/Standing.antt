@@ -10,6 +10,8 @@ use Rattle.sp_intake.specs.declared.events.State.{State}
 use Rattle.sp_intake.specs.declared.events.State.TheVariants.{Going, Stopped, Broken}
 use Rattle.sp_intake.specs.declared.step.Step.{Step}
 use Rattle.sp_intake.specs.declared.step.Step.TheVariants as step
+use Rattle.sp_intake.specs.declared.step.Polled.{Polled}
+use Rattle.sp_intake.specs.declared.step.Polled.TheVariants as polled
 use Rattle.sp_intake.specs.declared.input.Stop.{Stop}
 use Rattle.sp_intake.specs.declared.input.Stop.TheVariants.{Open}
 use Rattle.sp_intake.specs.declared.reader.Reader.{Reader}
@@ -103,6 +105,14 @@ given_in (Ok step.Event) given = event_in given
 given_in (Ok (step.Stop stop)) given = []
 given_in (Ok step.Ask) given = []
 given_in (Err e) given = []
+
+-- the event that an answer gives, which was put in, if it gives one
+abbrev pub polled_in : Polled → Option Event → List Event
+polled_in polled.Event given = event_in given
+polled_in polled.End given = []
+polled_in polled.Stop given = []
+polled_in polled.Memory given = []
+polled_in polled.Ask given = []
 
 -- no row is left, and the input may go on
 pub record IsHungry (reader : Reader) : Type 0 where

@@ -1,18 +1,16 @@
-ghost use Rattle.std.specs.Prelude.{◌≡◌, ◌≢◌, ◌≤◌, ◌<◌, ◌+◌, ◌++◌, ℕ, List, [], true, false, Ok, Some, None, length, IfOk, OnOk};
+ghost use Rattle.std.specs.Prelude.{◌≡◌, ◌≢◌, ◌≤◌, ◌<◌, ◌+◌, ◌++◌, ℕ, List, [], true, false, Ok, Some, None, IsSome, length, IfOk, OnOk};
 ghost use Rattle.std.specs.Arc.{arc_value};
 ghost use Rattle.sp_io.specs.Outside.{SourceState, Rose};
 ghost use Rattle.sp_plan.specs.Compiled.{IsCompiled};
-ghost use Rattle.sp_ports.specs.Giving.{given_by};
 ghost use Rattle.sp_intake.specs.declared.events.State.TheVariants.{Going};
 ghost use Rattle.sp_intake.specs.Coming.{IsReady};
 ghost use Rattle.sp_intake.specs.Standing.{is_halted};
 
 use crate::input::Stop;
 use crate::reader::Reader;
-use crate::step::{Step, answer, take_step};
+use crate::step::{Polled, Step, answer, take_step};
 use sp_io::Failed;
-use sp_plan::{Memory, Plan};
-use sp_ports::Next;
+use sp_plan::{Event, Memory, Plan};
 use std::alloc::Global;
 use std::sync::Arc;
 
@@ -38,8 +36,8 @@ pub struct EventReader {
 }
 
 impl EventReader {
-    ghost use Rattle.sp_intake.specs.Standing.{Gives, WasRead, stop_in};
-    ghost use Rattle.sp_intake.specs.Asked.{standing, answered_with, IsFresh, IsAsking};
+    ghost use Rattle.sp_intake.specs.Standing.{Gives, WasRead, stop_in, polled_in};
+    ghost use Rattle.sp_intake.specs.Asked.{standing, IsFresh, IsAsking};
     ghost use Rattle.sp_intake.specs.Kept.{plan_in};
 
     /// Nothing was read yet.
@@ -66,32 +64,32 @@ impl EventReader {
         }
     }
 
-    /// The next event, or why there is none; None where bytes are wanted first.
-    pub(crate) fn poll(&mut self, alloc: Global) -> Option<Next>
-        ensures gives { (source : SourceState) → Gives (standing source self.old) (answered_with result) (standing source self.new) }
-        ensures asks { result ≡ None → IsAsking self.new }
-        ensures end { result ≡ Some Next.End → stop_in self.new.state ≡ Some Stop.End }
-        ensures rose { result ≡ Some Next.Stop → Rose self.old.stops self.new.stops }
+    /// Puts in the next event, or tells why there is none.
+    pub(crate) fn poll(&mut self, alloc: Global, event: &mut Option<Event>) -> Polled
+        ensures gives { (source : SourceState) → Gives (standing source self.old) (polled_in result event.new) (standing source self.new) }
+        ensures some { result ≡ Polled.Event → IsSome event.new }
+        ensures asks { result ≡ Polled.Ask → IsAsking self.new }
+        ensures end { result ≡ Polled.End → stop_in self.new.state ≡ Some Stop.End }
+        ensures rose { result ≡ Polled.Stop → Rose self.old.stops self.new.stops }
         ensures never_falls { self.old.stops ≤ self.new.stops }
-        ensures uncounted { result ≡ Some Next.Memory → self.new.stops ≡ self.old.stops }
-        ensures unasked { result ≡ None → self.new.stops ≡ self.old.stops }
+        ensures uncounted { result ≡ Polled.Memory → self.new.stops ≡ self.old.stops }
+        ensures unasked { result ≡ Polled.Ask → self.new.stops ≡ self.old.stops }
     {
         match self.state {
             State::Going => {}
-            State::Stopped(stop) => return Some(answer(stop, &mut self.stops)),
-            State::Broken => return Some(Next::Memory),
+            State::Stopped(stop) => return answer(stop, &mut self.stops),
+            State::Broken => return Polled::Memory,
         }
-        let mut event = None;
-        match take_step(alloc, &mut self.reader, &mut event) {
-            Ok(Step::Event) => Some(Next::Event(event.unwrap())),
+        match take_step(alloc, &mut self.reader, event) {
+            Ok(Step::Event) => Polled::Event,
             Ok(Step::Stop(stop)) => {
                 self.state = State::Stopped(stop);
-                Some(answer(stop, &mut self.stops))
+                answer(stop, &mut self.stops)
             }
-            Ok(Step::Ask) => None,
+            Ok(Step::Ask) => Polled::Ask,
             Err(_) => {
                 self.state = State::Broken;
-                Some(Next::Memory)
+                Polled::Memory
             }
         }
     }

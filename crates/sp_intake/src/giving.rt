@@ -6,6 +6,7 @@ ghost use Rattle.sp_intake.specs.Asked.{standing};
 
 use crate::events::EventReader;
 use crate::input::Stop;
+use crate::step::Polled;
 use sp_io::Source;
 use sp_plan::{Memory, Plan};
 use sp_ports::{Intake, Next};
@@ -88,9 +89,14 @@ impl<'a, S: Source> Intake for Input<'a, S> {
     ghost good = { λ old events new gave. gives_good (standing (S.state old.source.now) old.events) (standing (S.state new.source.now) new.events) events gave };
 
     fn next(&mut self, alloc: Global) -> Next {
+        let mut event = None;
         for _ in 0..u64::MAX {
-            if let Some(next) = self.events.poll(alloc) {
-                return next;
+            match self.events.poll(alloc, &mut event) {
+                Polled::Event => return Next::Event(event.unwrap()),
+                Polled::End => return Next::End,
+                Polled::Stop => return Next::Stop,
+                Polled::Memory => return Next::Memory,
+                Polled::Ask => {}
             }
             let read = self.source.read(&mut self.piece);
             self.events.take(&self.piece, read);

@@ -1,15 +1,14 @@
-ghost use Rattle.std.specs.Prelude.{◌≡◌, ◌≢◌, ◌≤◌, [], true, Ok, IsSome, OnOk};
+ghost use Rattle.std.specs.Prelude.{◌≡◌, ◌≢◌, ◌≤◌, [], true, Ok, Option, IsSome, OnOk};
 ghost use Rattle.sp_io.specs.Outside.{SourceState, Rose};
-ghost use Rattle.sp_ports.specs.Giving.{given_by};
+ghost use Rattle.sp_plan.specs.declared.event.Event as events;
 ghost use Rattle.sp_intake.specs.declared.events.State.TheVariants.{Going};
 ghost use Rattle.sp_intake.specs.Coming.{IsReady};
 ghost use Rattle.sp_intake.specs.Reading.{is_end};
-ghost use Rattle.sp_intake.specs.Standing.{Gives, IsHungry, state_after, given_in};
+ghost use Rattle.sp_intake.specs.Standing.{Gives, IsHungry, state_after, given_in, polled_in};
 
 use crate::input::Stop;
 use crate::reader::Reader;
 use sp_plan::{Event, Memory};
-use sp_ports::Next;
 use std::alloc::Global;
 
 /// What a reader comes to next.
@@ -47,18 +46,32 @@ pub(crate) fn take_step(
     Ok(Step::Ask)
 }
 
+/// What is answered where an event is asked for.
+#[derive(Clone, Copy, Drop)]
+pub(crate) enum Polled {
+    /// An event, which was put in.
+    Event,
+    End,
+    Stop,
+    Memory,
+    /// Bytes are wanted first.
+    Ask,
+}
+
 /// Tells a stop, and counts it where it isn't the end of the input.
-pub(crate) fn answer(stop: Stop, stops: &mut u64) -> Next
-    ensures none { given_by result ≡ [] }
-    ensures end { result ≡ Next.End → stop ≡ Stop.End }
-    ensures rose { result ≡ Next.Stop → Rose stops.old stops.new }
+pub(crate) fn answer(stop: Stop, stops: &mut u64) -> Polled
+    ensures none { (given : Option events.Event) → polled_in result given ≡ [] }
+    ensures end { result ≡ Polled.End → stop ≡ Stop.End }
+    ensures rose { result ≡ Polled.Stop → Rose stops.old stops.new }
     ensures never_falls { stops.old ≤ stops.new }
-    ensures told { result ≢ Next.Memory }
+    ensures told { result ≢ Polled.Memory }
+    ensures answered { result ≢ Polled.Ask }
+    ensures no_event { result ≢ Polled.Event }
     ensures uncounted { is_end stop ≡ true → stops.new ≡ stops.old }
 {
     if stop.is_end() {
-        return Next::End;
+        return Polled::End;
     }
     *stops = stops.saturating_add(1);
-    Next::Stop
+    Polled::Stop
 }

@@ -1,5 +1,4 @@
-use Rattle.std.proofs.Common.{◌≡◌, ◌<◌, ℕ, Bool, true, false, not, [], ◌∷◌, List, refl, sym, subst, ap, ◌∙◌, arith}
-use Rattle.std.specs.Prelude.{Option}
+use Rattle.std.proofs.Common.{◌≡◌, ◌<◌, ℕ, Bool, true, false, not, [], List, refl, sym, subst, ap, ◌∙◌, arith}
 use Rattle.sp_plan.specs.declared.event.Event.{Event}
 use Rattle.sp_intake.specs.declared.events.State.TheVariants.{Going, Stopped, Broken}
 use Rattle.sp_intake.specs.Reading.{is_end}
@@ -27,17 +26,16 @@ pub returns-in-Ok-Event-clause-gives : goal.returns-in-Ok-Event-clause-gives
 returns-in-Ok-Event-clause-gives c source =
     let old = c.args.self.now.reader in
     let new = c.take_step.new.reader in
-    let put : Gives (record { source = source; state = Going; reader = old }) (event_in c.take_step.new.event) (record { source = source; state = Going; reader = new }) =
+    let told : Gives (record { source = source; state = Going; reader = old }) (event_in c.take_step.new.event) (record { source = source; state = Going; reader = new }) =
     rw c.in-Ok-Event.field-0-is at c.in-Ok-Event.ensures.gives source in
-    let told = subst (λ (given : Option Event). Gives (record { source = source; state = Going; reader = old }) (event_in given) (record { source = source; state = Going; reader = new })) c.unwrap.ensures put in
-    gives_on c.args.self.now.state c.in-Going.is source source old new (c.unwrap.result ∷ []) told
+    gives_on c.args.self.now.state c.in-Going.is source source old new (event_in c.take_step.new.event) told
 
 pub returns-in-Ok-Stop-clause-gives : goal.returns-in-Ok-Stop-clause-gives
 returns-in-Ok-Stop-clause-gives c source =
     let old = c.args.self.now.reader in
     let new : Standing = record { source = source; state = Stopped c.in-Ok-Stop.stop; reader = c.take_step.new.reader } in
     let told : Gives (record { source = source; state = Going; reader = old }) [] new = rw c.in-Ok-Stop.field-0-is at c.in-Ok-Stop.ensures.gives source in
-    subst (λ (events : List Event). Gives (record { source = source; state = c.args.self.now.state; reader = old }) events new) (sym c.answer-in-Ok-Stop.ensures.none)
+    subst (λ (events : List Event). Gives (record { source = source; state = c.args.self.now.state; reader = old }) events new) (sym (c.answer-in-Ok-Stop.ensures.none c.take_step.new.event))
     (gives_going c.args.self.now.state c.in-Going.is source old [] new told)
 
 pub returns-in-Ok-Ask-clause-gives : goal.returns-in-Ok-Ask-clause-gives
