@@ -410,6 +410,7 @@ module _ (laws : HomeLaws) (h : Holding) (p : Pieced) (a : Coming h p) (b : Brou
         let numbers = c.replayed.tickets in
         record {
           compiled = c.compiled;
+          known_are = c.known_are;
           some = subst (λ k. 1 ≤ k) (sym bound_is) c.some;
           most = subst (λ k. k ≤ 4096) (sym bound_is) c.most;
           windows_plan = c.windows_plan;

@@ -11,9 +11,9 @@ use Rattle.sp_window.specs.Laws.{IsNumber}
 use Rattle.sp_match.specs.declared.moves.Moves.{Moves}
 use Rattle.sp_match.specs.public.Laws.{completion}
 use Rattle.sp_match.specs.public.Matching.{Matching, Stands}
-use Rattle.sp_piece.specs.Alike.{ReadAlike, by_plan}
+use Rattle.sp_piece.specs.Alike.{ReadAlike, all_told, by_plan}
 use Rattle.sp_piece.specs.Pieced.{Pieced, LedTo, Tells, loan}
-use Rattle.sp_piece.specs.Reading.{Loan, accounts_to, read_on, read_to}
+use Rattle.sp_piece.specs.Reading.{Account, Loan, accounts_to, read_on, read_to}
 use Rattle.sp_version.specs.declared.version.Version.{Version}
 use Rattle.sp_group.specs.Family.{entry_at}
 use Rattle.sp_group.specs.Machine as machine
@@ -193,7 +193,8 @@ module _ (laws : HomeLaws) (h : Holding) (p : Pieced) (a : Coming h p) where
   pub completed_now : (moves : List Moves) → Tells p moves → completions moves ≡ map (completion h.plan) adds.later
   completed_now moves tells =
       completions_are h.plan before now adds.later moves (accounts_to lending before p.read p.closed)
-      (tells before a.carries.stands ∙ ap (λ (l : Loan). accounts_to l before p.read p.closed) loan_is ∙ alike.told lending before p.read p.closed)
+      (ap (λ (x : Account). x.told) (tells before a.carries.stands) ∙ ap (λ (l : Loan). all_told (accounts_to l before p.read p.closed)) loan_is
+      ∙ ap all_told (alike.told lending before p.read p.closed))
       adds.matched
       (ap (λ (s : State). map (completion h.plan) s.matched) (sym led_home) ∙ laws.tell lending before p.read p.closed has_before.sound)
 

@@ -169,6 +169,7 @@ module _ (h : Holding) (n : ℕ) (d : Lent) (left : List Lent) (a : IsOutAt h n 
           let rooms = k.rooms in
           record {
             compiled = k.compiled;
+            known_are = k.known_are;
             some = subst (λ b. 1 ≤ b) (sym l.bound) k.some;
             most = subst (λ b. b ≤ 4096) (sym l.bound) k.most;
             windows_plan = k.windows_plan;

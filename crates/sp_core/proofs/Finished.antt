@@ -237,6 +237,7 @@ module _ (law : EverySchedule) (h : Holding) (c : IsCore h) (root window : ℕ) 
       pub core_finished : IsCore after_finish
       core_finished = record {
         compiled = c.compiled;
+        known_are = c.known_are;
         some = subst (λ n. 1 ≤ n) (sym bound_is) c.some;
         most = subst (λ n. n ≤ 4096) (sym bound_is) c.most;
         windows_plan = c.windows_plan;

@@ -195,6 +195,7 @@ core_with h parent label v journal room core reached is fits f live entered owed
     let none = not_out tickets h.tree.next (reached.kept.sane.unborn h.tree.next (omega arith)) in
     record {
       compiled = core.compiled;
+      known_are = core.known_are;
       some = core.some;
       most = core.most;
       windows_plan = core.windows_plan;

@@ -33,11 +33,11 @@ all_seen (m ∷ moves) =
 
 -- the completions told are the matches that are added
 pub completions_are : (q : Plan) (s t : State) (later : List Started) (moves : List Moves) (accounts : List Account)
-    → map seen_moves moves ≡ accounts → t.matched ≡ s.matched ++ later
+    → all_told (map seen_moves moves) ≡ all_told accounts → t.matched ≡ s.matched ++ later
     → map (completion q) t.matched ≡ map (completion q) s.matched ++ filter is_completion (all_told accounts)
     → completions moves ≡ map (completion q) later
 completions_are q s t later moves accounts told added law =
-    ap (filter is_completion) (all_seen moves ∙ ap all_told told)
+    ap (filter is_completion) (all_seen moves ∙ told)
     ∙ append_cancel_left (map (completion q) s.matched) (filter is_completion (all_told accounts)) (map (completion q) later)
     (sym law ∙ ap (map (completion q)) added ∙ map-append (completion q) s.matched later)
 

@@ -144,6 +144,7 @@ module _ (h : Holding) (lent : Lent) (n : ℕ) (a : Leases h lent n) where
         let rooms = k.rooms in
         record {
           compiled = k.compiled;
+          known_are = k.known_are;
           some = k.some;
           most = k.most;
           windows_plan = k.windows_plan;

@@ -1,6 +1,6 @@
 -- What a lease lends: events that were fed, which the version's matcher can read.
 use Rattle.std.proofs.Common.{◌≡◌, ℕ, ◌+◌, ◌-◌, ◌<◌, ◌≤◌, Bool, true, false, cond, nat_le, List, take, drop, length, map, refl, sym, ap, subst, ◌∙◌, arith}
-use Rattle.std.specs.List.{All}
+use Rattle.std.specs.List.{All, AllZip}
 use Rattle.std.proofs.lemmas.Bool.Decides.{nat_tests}
 use Rattle.std.proofs.lemmas.List.Elements.{All-nil, All-take, All-drop}
 use Rattle.std.proofs.lemmas.List.{length-drop, length-take}
@@ -12,12 +12,15 @@ use Rattle.sp_plan.specs.Reading.{reading}
 use Rattle.sp_plan.specs.Runs.{Started, State, after_closing}
 use Rattle.sp_plan.specs.Same.{SamePlan}
 use Rattle.sp_plan.specs.WindowNumbers.{first, size}
+use Rattle.sp_match.specs.declared.known.Known.{Known}
+use Rattle.sp_match.specs.public.Known.{IsKnown}
 use Rattle.sp_match.specs.public.Laws.{Below}
 use Rattle.sp_match.specs.public.Matching.{Matching, Stands, runs_of}
 use Rattle.sp_group.specs.Machine.{Ticket, inner, is_suppressed}
 use Rattle.sp_group.specs.Effects as effects
 use Rattle.sp_group.specs.Effects.{lent_count, unread}
 use Rattle.sp_piece.specs.declared.job.Job.{Job}
+use Rattle.sp_piece.specs.Alike.{SamePlansReadAlike}
 use Rattle.sp_piece.specs.Lending.{IsLendable}
 use Rattle.sp_rules.specs.Kept.{Local}
 use Rattle.sp_rules.specs.Lawful.{Lawful}
@@ -27,6 +30,7 @@ use Rattle.sp_core.specs.Carrying.{lent_events, ticket_of}
 use Rattle.sp_core.specs.Holding.{Holding, Holds, machine_of, running, version_of}
 use Rattle.sp_core.specs.Leasing.{IsLeased}
 use Rattle.sp_core.proofs.Entries.{found_of_all, local, version_is}
+use Rattle.sp_core.proofs.KnownEvents.{all_known_alike, part_known}
 use Rattle.sp_core.proofs.Leased.{Leases, version_same}
 use Rattle.sp_core.proofs.Told.{number_of, fed_within}
 
@@ -55,10 +59,10 @@ lent_fits u n = one (nat_le u n) refl
     one false is = grind (arith, nat_tests)
 
 -- so many events from a place on
-pub part_of : (events fed : List Event) (place n : ℕ) → events ≡ fed → take (place + n - place) (drop place events) ≡ take n (drop place fed)
-part_of events fed place n is =
+pub part_of : {X : Type 0} (events fed : List X) (place n : ℕ) → events ≡ fed → take (place + n - place) (drop place events) ≡ take n (drop place fed)
+part_of {X = X} events fed place n is =
     let count : place + n - place ≡ n = omega arith in
-    ap (λ k. take k (drop place events)) count ∙ ap (λ (es : List Event). take n (drop place es)) is
+    ap (λ k. take k (drop place events)) count ∙ ap (λ (es : List X). take n (drop place es)) is
 
 -- the events that are lent were fed
 pub record IsFed (h : Holding) (lent : Lent) : Type 0 where
@@ -111,14 +115,21 @@ module _ (h : Holding) (lent : Lent) (n : ℕ) (a : Leases h lent n) (r : Reache
       subst (λ k. Below k (inner h.plan h.events v)) (sym first_is) (closed_below _ (reading h.plan h.events v.skipped (first h.plan h.events v.window) v.position) v.done read)
 
   -- the version's matcher can read them
-  pub lendable : (before : Matching) (events : List Event) → before ≡ a.entry.entry.value.matcher → events ≡ lent_events h.events (ticket_of lent) → IsLendable before events lent.first
-  lendable before events matcher are =
+  pub lendable : SamePlansReadAlike → (before : Matching) (events : List Event) (known : List Known) → before ≡ a.entry.entry.value.matcher
+      → events ≡ lent_events h.events (ticket_of lent) → known ≡ take lent.count (drop (lent.first - 1) h.known) → IsLendable before events known lent.first
+  lendable alike before events known matcher are known_is =
       let fed = is_fed in
       let all : AllFit h.plan h.events = subst (λ (q : Plan). AllFit q h.events) a.core.windows_plan a.core.windows.good.0 in
       let part : AllFit h.plan (lent_events h.events (ticket_of lent)) = part_fits h.plan h.events lent.count (lent.first - 1) all in
+      let same : SamePlan before.plan h.plan = subst (λ (m : Matching). SamePlan m.plan h.plan) (sym matcher) held.plan in
+      let known_part : AllZip (IsKnown h.plan) (lent_events h.events (ticket_of lent)) (take lent.count (drop (lent.first - 1) h.known)) =
+      part_known (IsKnown h.plan) lent.count (lent.first - 1) h.events h.known a.core.known_are in
       let size : length events ≤ lent.count = omega (arith, ap length are, length-take lent.count (drop (lent.first - 1) h.events)) in
       record {
-        fit = subst (AllFit before.plan) (sym are) (all_fit before.plan h.plan _ (subst (λ (m : Matching). SamePlan m.plan h.plan) (sym matcher) held.plan) part);
+        fit = subst (AllFit before.plan) (sym are) (all_fit before.plan h.plan _ same part);
+        known_are = subst (λ (es : List Event). AllZip (IsKnown before.plan) es known) (sym are)
+            (subst (AllZip (IsKnown before.plan) (lent_events h.events (ticket_of lent))) (sym known_is)
+            (all_known_alike before.plan h.plan (alike before.plan h.plan same).taken _ _ known_part));
         below = below_runs lent.first before (inner h.plan h.events (version_of a.entry.entry))
             (subst (λ (m : Matching). Stands m (inner h.plan h.events (version_of a.entry.entry))) (sym matcher) held.stands) runs_below;
         few = omega (arith, fed.low, fed.high, fed.few, size);

@@ -26,6 +26,7 @@ pub mod HomeSettled
 pub mod InConflict
 pub mod Journal
 pub mod KeptBack
+pub mod KnownEvents
 pub mod Later
 pub mod LeaseRefused
 pub mod Leased

@@ -134,6 +134,7 @@ module _ (law : EverySchedule) (h : Holding) (c : IsCore h) (id : ℕ) (hit : is
     pub core_rolled : IsCore then
     core_rolled = record {
       compiled = c.compiled;
+      known_are = c.known_are;
       some = subst (λ n. 1 ≤ n) (sym bound_is) c.some;
       most = subst (λ n. n ≤ 4096) (sym bound_is) c.most;
       windows_plan = c.windows_plan;

@@ -67,6 +67,7 @@ module _ (h : Holding) (c : IsCore h) (consumed : NumberList) (journal_room emit
   pub core_roomier : IsCore (roomier h.tree)
   core_roomier = record {
     compiled = c.compiled;
+    known_are = c.known_are;
     some = c.some;
     most = c.most;
     windows_plan = c.windows_plan;
@@ -112,6 +113,7 @@ module _ (h : Holding) (c : IsCore h) (id : ℕ) (tree : Grown Version) (same : 
   core_written : IsCore (with_tree (with_value h.tree id same.value))
   core_written = record {
     compiled = c.compiled;
+    known_are = c.known_are;
     some = c.some;
     most = c.most;
     windows_plan = c.windows_plan;

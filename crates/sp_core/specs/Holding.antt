@@ -1,6 +1,6 @@
 -- What a core keeps, and for which state of the machine it stands.
 use Rattle.std.specs.Prelude.{◌≡◌, ℕ, ◌+◌, ◌≤◌, Bool, List, [], map, length}
-use Rattle.std.specs.List.{All}
+use Rattle.std.specs.List.{All, AllZip}
 use Rattle.std.specs.List.Sorted.{IsStrictlyIncreasing}
 use Rattle.std.specs.Arc.{arc_value}
 use Rattle.sp_base.specs.Numbers.{NumberList}
@@ -14,6 +14,8 @@ use Rattle.sp_plan.specs.Groups.{used_by_all}
 use Rattle.sp_plan.specs.Sequential.{match_of}
 use Rattle.sp_plan.specs.WindowNumbers.{first}
 use Rattle.sp_window.specs.Standing as window
+use Rattle.sp_match.specs.declared.known.Known.{Known}
+use Rattle.sp_match.specs.public.Known.{IsKnown}
 use Rattle.sp_match.specs.public.Matching.{Stands}
 use Rattle.sp_version.specs.declared.version.Version.{Version}
 use Rattle.sp_group.specs.declared.step.Entry as step
@@ -34,6 +36,7 @@ use Rattle.sp_core.specs.Rooms.{room, entries_owed, matches_held, numbers_held}
 pub record Holding : Type 0 where
   pub plan : Plan
   pub events : List Event
+  pub known : List Known
   pub windows : window.Kept
   pub ended : Bool
   pub finished : ℕ
@@ -50,6 +53,7 @@ abbrev pub holding : Inside → Holding
 holding c = record {
   plan = arc_value c.plan;
   events = c.events.items;
+  known = c.known.items;
   windows = c.windows;
   ended = c.ended;
   finished = c.finished;
@@ -125,6 +129,7 @@ pub record HasRooms (h : Holding) : Type 0 where
 -- what every core keeps
 pub record IsCore (h : Holding) : Type 0 where
   pub compiled : IsCompiled h.plan
+  pub known_are : AllZip (IsKnown h.plan) h.events h.known
   pub some : 1 ≤ h.tree.bound
   pub most : h.tree.bound ≤ 4096
   pub windows_plan : h.windows.plan ≡ h.plan

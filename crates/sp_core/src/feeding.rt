@@ -8,6 +8,7 @@ ghost use Rattle.sp_core.specs.Running.{IsDone, after, refused};
 use crate::rooms::{enter, make_room};
 use crate::{Core, CoreFault, Memory};
 use sp_group::{Refusal, Step};
+use sp_match::known_of;
 use sp_plan::Event;
 use sp_rules::{compiled_plans_are_lawful, every_schedule};
 use std::alloc::Global;
@@ -50,11 +51,14 @@ impl Core {
         every_schedule();
         compiled_plans_are_lawful();
         self.events.reserve(1)?;
+        self.known.reserve(1)?;
         make_room(&mut self.journal, self.tree.live())?;
         let copy = event.copy(alloc)?;
         self.windows.feed(alloc, &event)?;
         // There is room for both.
-        let _ = self.events.push(event);
+        self.known
+            .push_reserved(known_of(alloc, &self.plan, &event));
+        self.events.push_reserved(event);
         enter(&mut self.journal, Step::Feed(copy), 1);
         Ok(())
     }

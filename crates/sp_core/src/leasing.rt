@@ -9,7 +9,7 @@ ghost use Rattle.sp_core.specs.Running.{IsDone, after, refused};
 use crate::rooms::{enter, make_room};
 use crate::{Core, CoreFault, Lent, Memory};
 use sp_group::{Refusal, Step};
-use sp_piece::Job;
+use sp_piece::{Job, same_plans_read_alike};
 use sp_plan::{Event, Listed};
 use sp_rules::{compiled_plans_are_lawful, every_schedule};
 use sp_tree::Tree;
@@ -112,17 +112,21 @@ impl Core {
     {
         every_schedule();
         compiled_plans_are_lawful();
+        same_plans_read_alike();
         let Some(held) = self.tree.get(lent.version) else {
             unreachable!()
         };
         let place = lent.first as usize - 1;
-        let events = copies(alloc, &self.events[place..place + lent.count as usize])?;
+        let end = place + lent.count as usize;
+        let events = copies(alloc, &self.events[place..end])?;
+        let known = self.known[place..end].to_vec(alloc)?;
         Ok(Job {
             ticket: lent.ticket,
             version: lent.version,
             first: lent.first,
             before: held.matcher.copy(alloc)?,
             events: Listed::of(events),
+            known: Listed::of(known),
             snapshot: lent.snapshot.copy(alloc)?,
             closes: lent.closes,
         })

@@ -6,6 +6,7 @@ ghost use Rattle.sp_core.specs.Running.{begun};
 use crate::{Lent, Memory};
 use sp_base::Numbers;
 use sp_group::Entry;
+use sp_match::Known;
 use sp_plan::{Event, Match, Plan};
 use sp_rules::every_schedule;
 use sp_tree::Tree;
@@ -21,6 +22,8 @@ use std::sync::Arc;
 pub struct Core {
     pub(crate) plan: Arc<Plan>,
     pub(crate) events: Vec<Event>,
+    // What is known of each of them.
+    pub(crate) known: Vec<Known>,
     pub(crate) windows: Windows,
     pub(crate) ended: bool,
     pub(crate) finished: u32,
@@ -67,6 +70,7 @@ impl Core {
         Ok(Core {
             plan,
             events: Vec::new(alloc),
+            known: Vec::new(alloc),
             windows,
             ended: false,
             finished: 0,

@@ -20,6 +20,7 @@ invariant_of-self c =
     let k : Holding = record h { windows = c.end.new.self; ended = true; journal = c.enter.new.journal.items; journal_room = room c.enter.new.journal } in
     record {
       compiled = i.compiled;
+      known_are = i.known_are;
       some = i.some;
       most = i.most;
       windows_plan = c.end.ensures.plan ∙ i.windows_plan;

@@ -7,8 +7,16 @@ use Rattle.sp_core.specs.Returning.{IsPlaceOf}
 use Rattle.sp_core.specs.Rooms.{room}
 use Rattle.sp_core.specs.Running.{Running, after, once}
 use Rattle.sp_core.specs.Holding.{holding}
+use Rattle.sp_core.proofs.Carried.{place_within}
 use Rattle.sp_core.proofs.Ended.{out_at, core_ended, running_ended}
 use Rattle.sp_core.proofs.machine.Core.end_ticket.Goals as goal
+
+pub remove-lent-requires : goal.remove-lent-requires
+remove-lent-requires c =
+    let at = subst (λ (r : Running). IsPlaceOf r.machine.tickets c.args.ticket c.in-Some.place) (sym c.self.view_is) c.in-Some.ensures.some in
+    let within = place_within c.self.inside.tickets.items c.in-Some.place at.0 at.1 in
+    let many = c.self.inside.tickets.ok.0 in
+    omega arith
 
 pub invariant_of-self-2 : goal.invariant_of-self-2
 invariant_of-self-2 c =

@@ -1,5 +1,7 @@
-use Rattle.std.proofs.Common.{◌≡◌, ◌-◌, Some, None, length, sym, ap, subst, ◌∙◌, refl, arith}
+use Rattle.std.proofs.Common.{◌≡◌, ◌-◌, Some, None, take, drop, length, sym, ap, subst, ◌∙◌, refl, arith}
 use Rattle.std.specs.Option.{option_copied}
+use Rattle.std.proofs.lemmas.List.Elements.{same_from_all_zip}
+use Rattle.sp_match.specs.public.Known.{IsKnown}
 use Rattle.sp_tree.specs.Grown.{value_of}
 use Rattle.sp_core.specs.Carrying.{lent_events, ticket_of}
 use Rattle.sp_group.specs.declared.step.Step.TheVariants as s
@@ -8,6 +10,7 @@ use Rattle.sp_core.specs.Leasing.{IsLent}
 use Rattle.sp_core.specs.Running.{Running, refused}
 use Rattle.sp_core.specs.Holding.{holding}
 use Rattle.sp_core.proofs.Journal.{reached}
+use Rattle.sp_core.proofs.KnownEvents.{as_many}
 use Rattle.sp_core.proofs.Leased.{leases}
 use Rattle.sp_core.proofs.Lending.{all_lent, is_fed, lendable, is_leased, part_of}
 use Rattle.sp_core.proofs.machine.Core.job.Goals as goal
@@ -22,6 +25,17 @@ slice_bounds-copies-end c =
     let a = leases h lent n c.self.invariant is passes in
     let fed = is_fed h lent n a (reached c.every_schedule.ensures h c.self.invariant) (c.compiled_plans_are_lawful.ensures h.plan c.self.invariant.compiled) in
     omega (arith, fed.low, fed.high, ap length c.deref.ensures.value)
+
+pub slice_bounds-to_vec-end : goal.slice_bounds-to_vec-end
+slice_bounds-to_vec-end c =
+    let h = holding c.self.inside in
+    let lent = c.args.lent.now in
+    let n = c.args.count in
+    let is = subst (λ (r : Running). IsLent r lent.version n lent) (sym c.self.view_is) c.requires.lent in
+    let passes = subst (λ (r : Running). refused r (s.Lease lent.version n) ≡ None) (sym c.self.view_is) c.requires.passes in
+    let a = leases h lent n c.self.invariant is passes in
+    let fed = is_fed h lent n a (reached c.every_schedule.ensures h c.self.invariant) (c.compiled_plans_are_lawful.ensures h.plan c.self.invariant.compiled) in
+    omega (arith, fed.low, fed.high, ap length c.deref-2.ensures.value, as_many (IsKnown h.plan) h.events h.known c.self.invariant.known_are)
 
 pub unreachable-requires : goal.unreachable-requires
 unreachable-requires c =
@@ -46,9 +60,12 @@ invariant_of-result c =
     let value : c.in-Some.held.now ≡ a.entry.entry.value = cc in
     let events : c.in_ok-events.events.items ≡ lent_events h.events (ticket_of lent) =
     c.in_ok-events.ensures ∙ part_of c.deref.result.now h.events (lent.first - 1) lent.count c.deref.ensures.value in
+    let known : c.in_ok-known.known.items ≡ take lent.count (drop (lent.first - 1) h.known) =
+    same_from_all_zip _ _ _ c.in_ok-known.ensures.ok (λ x y is. is) ∙ part_of c.deref-2.result.now h.known (lent.first - 1) lent.count c.deref-2.ensures.value in
     record {
       lendable = lendable h lent n a (reached c.every_schedule.ensures h c.self.invariant) (c.compiled_plans_are_lawful.ensures h.plan c.self.invariant.compiled)
-          c.in_ok-copy.field-0 c.of.result (c.in_ok-copy.ensures ∙ ap (λ (v : Version). v.matcher) value) (c.of.ensures ∙ events);
+          c.same_plans_read_alike.ensures c.in_ok-copy.field-0 c.of.result c.of-2.result (c.in_ok-copy.ensures ∙ ap (λ (v : Version). v.matcher) value) (c.of.ensures ∙ events)
+          (c.of-2.ensures ∙ known);
     }
 
 pub returns-clause-job : goal.returns-clause-job

@@ -1,9 +1,11 @@
 use Rattle.std.proofs.Common.{rules, ◌≡◌, ◌∙◌, refl, sym, ap, subst, None, ℕ, pos, ◌≤ℤ◌, ◌++◌, ◌∷◌, [], Bool, true, false, List, map, arith}
-use Rattle.std.specs.List.{All}
+use Rattle.std.specs.List.{All, AllZip}
 use Rattle.sp_plan.specs.declared.event.Event.{Event}
 use Rattle.sp_plan.specs.declared.plan.Plan.{Plan}
 use Rattle.sp_plan.specs.Events.{fits}
 use Rattle.sp_plan.specs.WindowNumbers.{Good}
+use Rattle.sp_match.specs.declared.known.Known.{Known}
+use Rattle.sp_match.specs.public.Known.{IsKnown}
 use Rattle.sp_window.specs.Standing as window
 use Rattle.sp_group.specs.declared.step.Step.TheVariants as s
 use Rattle.sp_group.specs.declared.refusal.Refusal.TheVariants as r
@@ -13,6 +15,7 @@ use Rattle.sp_core.specs.Rooms.{room}
 use Rattle.sp_core.specs.Running.{Running, once, refused}
 use Rattle.sp_core.proofs.Journal.{replayed_on, reached}
 use Rattle.sp_core.proofs.Fed.{fits_last, in_order, all_hold_fed}
+use Rattle.sp_core.proofs.KnownEvents.{one_more_known}
 use Rattle.sp_core.proofs.Refused.{passes_if}
 use Rattle.sp_core.proofs.Owed.{room_for}
 use Rattle.sp_core.proofs.machine.Core.take_in.Goals as goal
@@ -38,12 +41,17 @@ invariant_of-self-2 c =
     let good : Good h.plan (h.events ++ e ∷ []) = subst (λ (r : Running). Good r.plan (r.machine.events ++ e ∷ [])) (sym c.self.view_is) c.requires.good in
     let passes : refused (running h) (s.Feed e) ≡ None = subst (λ (r : Running). refused r (s.Feed e) ≡ None) (sym c.self.view_is) c.requires.passes in
     let going : h.ended ≡ false = (passes_if h.ended r.AfterEnd _ passes).0 in
-    let pushed : c.push.new.self.items ≡ h.events ++ e ∷ [] = search rules in
+    let pushed : c.push_reserved-2.new.self.items ≡ h.events ++ e ∷ [] = c.push_reserved-2.ensures.items ∙ ap (λ (es : List Event). es ++ e ∷ []) c.reserve.ensures.items in
+    let kept : c.push_reserved.new.self.items ≡ h.known ++ c.known_of.result ∷ [] =
+    c.push_reserved.ensures.items ∙ ap (λ (ks : List Known). ks ++ c.known_of.result ∷ []) c.reserve-2.ensures.items in
+    let sure : IsKnown h.plan e c.known_of.result = subst (λ (q : Plan). IsKnown q e c.known_of.result) c.deref.ensures c.known_of.ensures.sure in
     let journal : c.enter.new.journal.items ≡ h.journal ++ once (s.Feed e) ∷ [] = search rules in
     let law = c.compiled_plans_are_lawful.ensures h.plan i.compiled in
-    let k : Holding = record h { events = c.push.new.self.items; windows = c.feed.new.self; journal = c.enter.new.journal.items; journal_room = room c.enter.new.journal } in
+    let k : Holding = record h { events = c.push_reserved-2.new.self.items; known = c.push_reserved.new.self.items; windows = c.feed.new.self; journal = c.enter.new.journal.items; journal_room = room c.enter.new.journal } in
     record {
       compiled = i.compiled;
+      known_are = subst (λ (events : List Event). AllZip (IsKnown h.plan) events c.push_reserved.new.self.items) (sym pushed)
+          (subst (AllZip (IsKnown h.plan) (h.events ++ e ∷ [])) (sym kept) (one_more_known (IsKnown h.plan) h.events h.known e c.known_of.result i.known_are sure));
       some = i.some;
       most = i.most;
       windows_plan = c.feed.ensures.plan ∙ i.windows_plan;
