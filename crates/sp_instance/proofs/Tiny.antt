@@ -60,9 +60,10 @@ tiny text =
 abbrev holds_below : Started → Type 0
 holds_below run = All (λ pair. pair.number < 1) run.1
 
-pub lendable : (m : Matching) → m.open_runs ≡ [] → m.started ≡ 0 → IsLendable m [] 1
+pub lendable : (m : Matching) → m.open_runs ≡ [] → m.started ≡ 0 → IsLendable m [] [] 1
 lendable m none not_one = record {
   fit = All-nil (λ e. fits m.plan e ≡ true);
+  known_are = tt;
   below = record { events = subst (All holds_below) (sym none) (All-nil holds_below); started = omega (arith, not_one) };
   few = lit≤ tt;
 }

@@ -55,6 +55,7 @@ fn job(alloc: Global, plan: &Arc<Plan>, ticket: u64) -> Result<Job, AllocError>
         first: 1,
         before,
         events: Listed::of(Vec::new(alloc)),
+        known: Listed::of(Vec::new(alloc)),
         snapshot: Numbers::new(alloc),
         closes: true,
     })

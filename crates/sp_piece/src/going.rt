@@ -45,7 +45,8 @@ fn begin(alloc: Global, matcher: &mut Option<Matcher>, before: &Matcher) -> Resu
 // of memory no more is told than before.
 fn add_wanted(alloc: Global, led: &Matcher, moves: &mut Vec<Moves>) -> Result<(), Memory>
     ensures ok { OnOk result
-        (TellsOn (record { told = []; wanted = wanted_as_before led.now }) moves.old.items moves.new.items) }
+        (TellsOn (record { told = []; wanted = wanted_as_before led.now })
+        moves.old.items moves.new.items) }
     ensures err { OnErr result (TellsSame moves.old.items moves.new.items) }
 {
     if led.open_runs().is_empty() {
@@ -68,10 +69,12 @@ fn offer_event(
     next: &Next,
 ) -> Result<(), Memory>
     requires fits { fits (current matcher.old before.now).plan next.now.event.now ≡ true }
-    requires known { IsKnown (current matcher.old before.now).plan next.now.event.now next.now.known }
+    requires known { IsKnown (current matcher.old before.now).plan
+        next.now.event.now next.now.known }
     requires below { Below next.now.number (runs_of (current matcher.old before.now)) }
     ensures ok { OnOk result (HandledOn (next.now.number, next.now.event.now)
-        (current matcher.old before.now) (current matcher.new before.now) moves.old.items moves.new.items) }
+        (current matcher.old before.now) (current matcher.new before.now)
+        moves.old.items moves.new.items) }
     ensures err { OnErr result (current matcher.new before.now ≡ current matcher.old before.now) }
     ensures err_moves { OnErr result (TellsSame moves.old.items moves.new.items) }
 {
@@ -94,10 +97,12 @@ pub(crate) fn handle_event(
     next: &Next,
 ) -> Result<(), Memory>
     requires fits { fits (current matcher.old before.now).plan next.now.event.now ≡ true }
-    requires known { IsKnown (current matcher.old before.now).plan next.now.event.now next.now.known }
+    requires known { IsKnown (current matcher.old before.now).plan
+        next.now.event.now next.now.known }
     requires below { Below next.now.number (runs_of (current matcher.old before.now)) }
     ensures ok { OnOk result (HandledOn (next.now.number, next.now.event.now)
-        (current matcher.old before.now) (current matcher.new before.now) moves.old.items moves.new.items) }
+        (current matcher.old before.now) (current matcher.new before.now)
+        moves.old.items moves.new.items) }
     ensures err { OnErr result (current matcher.new before.now ≡ current matcher.old before.now) }
     ensures err_moves { OnErr result (TellsSame moves.old.items moves.new.items) }
 {
