@@ -1,23 +1,26 @@
 // Jobs that are like others but for one thing.
 ghost use Rattle.std.specs.Prelude.{◌∷◌, []};
+ghost use Rattle.sp_match.specs.declared.known.Known.TheVariants.{Any};
 ghost use Rattle.sp_piece.specs.Lending.{IsLendable};
 
-use sp_match::Matcher;
+use sp_match::{Known, Matcher};
 use sp_piece::Job;
 use sp_plan::{Event, Listed};
 use std::alloc::{AllocError, Global};
 
 // The job with this matcher and one event.
 fn with(alloc: Global, job: &Job, before: Matcher, event: Event) -> Result<Job, AllocError>
-    requires { IsLendable before (event ∷ []) job.now.first }
+    requires { IsLendable before (event ∷ []) (Any ∷ []) job.now.first }
 {
     let events = vec![in alloc; event]?;
+    let known = vec![in alloc; Known::Any]?;
     Ok(Job {
         ticket: job.ticket,
         version: job.version,
         first: job.first,
         before,
         events: Listed::of(events),
+        known: Listed::of(known),
         snapshot: job.snapshot.copy(alloc)?,
         closes: job.closes,
     })

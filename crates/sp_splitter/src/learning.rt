@@ -5,7 +5,7 @@ use sp_match::Moves;
 /// Learns from what a piece did, in its order: how many events groups wanted before one more event, and after
 /// it.
 pub fn learn(predictor: &mut dyn Predictor, moves: &[Moves]) {
-    for of_one_event in moves {
-        predictor.learn_all(&of_one_event.wanted);
+    for entry in moves {
+        predictor.learn_all(&entry.wanted);
     }
 }
