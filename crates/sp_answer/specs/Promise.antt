@@ -4,7 +4,7 @@ use Rattle.std.specs.Prelude.{◌≡◌, ◌⊎◌, ◌<◌, ℕ, Bool, true, Li
 use Rattle.std.specs.List.{Contains}
 use Rattle.sp_io.specs.Outside.{SinkState, ToldFiles, IsUsedUp, Rose}
 use Rattle.sp_answer.specs.Outcome.{Outcome, Ending, ending, nothing_for, number_of}
-use Rattle.sp_answer.specs.Ran.{Outside, Ran}
+use Rattle.sp_answer.specs.Ran.{Outside, Ran, Made}
 use Rattle.sp_answer.specs.Written.{TellsLine}
 use Rattle.sp_answer.specs.declared.status.Status.{Status}
 use Rattle.sp_answer.specs.declared.status.Status.TheVariants.{Memory, Read}
@@ -38,6 +38,7 @@ pub data Answered (names : List (List ℕ)) (is_outcome : List ℕ → Bool → 
   by_file : FileFault names before after old new end → Answered names is_outcome before after old new end
   by_refusal : Refused is_outcome old new end → Answered names is_outcome before after old new end
   by_run : Ran is_outcome old new end → Answered names is_outcome before after old new end
+  by_itself : Made is_outcome old new end → Answered names is_outcome before after old new end
 
 -- A fault of a file of the command is answered: nothing is read and nothing is written then.
 abbrev pub FileTold : List (List ℕ) → Filed → Filed → Outside → Outside → Status → Type 0

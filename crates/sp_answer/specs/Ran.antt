@@ -43,3 +43,16 @@ pub record Ran (is_outcome : List ℕ → Bool → Outcome → Type 0) (old new 
   -- a fault of the input is answered, and so is one of the output
   pub read_told : old.input.faults < new.input.faults → (end.status ≡ Read) ⊎ ((end.status ≡ Write) ⊎ (end.status ≡ Memory))
   pub write_told : old.out.faults < new.out.faults → (end.status ≡ Write) ⊎ (end.status ≡ Memory)
+
+-- A text that is made without the input: of it nothing is read, and the outcome is the same whatever it has.
+pub record Made (is_outcome : List ℕ → Bool → Outcome → Type 0) (old new : Outside) (end : Ending) : Type 0 where
+  pub outcome : Outcome
+  pub is : (bytes : List ℕ) (ended : Bool) → is_outcome bytes ended outcome
+  pub unread : new.input ≡ old.input
+  -- where the call was cut off neither by want of memory nor by the output, status, line and text are these
+  pub exact : end.status ≢ Memory → end.status ≢ Write → (end ≡ ending_of outcome) × Grew old.out.held outcome.text new.out.held
+  -- else what was written begins the text, and the line is that of the status
+  pub cut_off : (end.status ≡ Memory) ⊎ (end.status ≡ Write) → (end.line ≡ line_of end.status) × GrewWithin old.out.held outcome.text new.out.held
+  -- a fault comes only where its count rose, and one of the output is answered
+  pub write_fault : end.status ≡ Write → Rose old.out.faults new.out.faults × (outcome.text ≢ [])
+  pub write_told : old.out.faults < new.out.faults → (end.status ≡ Write) ⊎ (end.status ≡ Memory)

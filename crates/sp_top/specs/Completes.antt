@@ -1,6 +1,6 @@
 -- Where nothing stands in the way, a call answers done or want of memory.
 use Rattle.std.specs.Prelude.{◌≡◌, ◌⊎◌, ◌≤◌, ℕ, true, List, [], length, Some}
-use Rattle.sp_io.specs.Outside.{SourceState, SinkState, ToldFiles, Grew, first_file}
+use Rattle.sp_io.specs.Outside.{SourceState, SinkState, ToldFiles, Grew, Rose, first_file}
 use Rattle.sp_plan.specs.declared.event.Event.{Event}
 use Rattle.sp_plan.specs.declared.plan.Plan.{Plan}
 use Rattle.sp_plan.specs.Lines.{text}
@@ -14,7 +14,10 @@ use Rattle.sp_load.specs.Places.{Place, word, file, longest_query, without_mark}
 use Rattle.sp_load.specs.Queries.{IsPlanFor}
 use Rattle.sp_answer.specs.Ran.{Outside}
 use Rattle.sp_answer.specs.Promise.{Filed, NoFaultRose}
-use Rattle.sp_top.specs.Commands.{Speed, run, plain, trace, IsCall, GivesFiles}
+use Rattle.sp_cli.specs.Commands.{Speed, QuerySource, run, plain, trace, drill}
+use Rattle.sp_drill.specs.Query.{drill_query}
+use Rattle.sp_top.specs.Commands.{place_of, IsCall, GivesFiles}
+use Rattle.sp_top.specs.Drill.{drill_text}
 use Rattle.sp_top.specs.Outcome.{Promise}
 use Rattle.sp_top.specs.Trace.{longest_schedule}
 
@@ -40,12 +43,12 @@ whole_text q events = text q (whole q events true).matches
 -- The words are a command whose predictor is there and whose query compiles, and where it is a trace the schedule has no bad line: this is
 -- a plan of the query, and the text that the command gives for events that were read whole.
 pub data AsksFor (predictors words : List (List ℕ)) (files : ToldFiles) (q : Plan) : (List Event → List ℕ) → Type 0 where
-  for_run : (place : Place) (speed : Speed) (query : List ℕ) → IsCall predictors words (run place speed) → StandsAt files place query
+  for_run : (source : QuerySource) (speed : Speed) (query : List ℕ) → IsCall predictors words (run source speed) → StandsAt files (place_of source) query
       → IsPlanFor query q → AsksFor predictors words files q (whole_text q)
-  for_plain : (place : Place) (query : List ℕ) → IsCall predictors words (plain place) → StandsAt files place query → IsPlanFor query q
+  for_plain : (source : QuerySource) (query : List ℕ) → IsCall predictors words (plain source) → StandsAt files (place_of source) query → IsPlanFor query q
       → AsksFor predictors words files q (whole_text q)
-  for_trace : (place : Place) (query schedule : List ℕ) (bound : ℕ) (steps : List TraceStep) → IsCall predictors words (trace place schedule bound)
-      → StandsAt files place query → IsPlanFor query q → TellsSchedule files schedule steps
+  for_trace : (source : QuerySource) (query schedule : List ℕ) (bound : ℕ) (steps : List TraceStep) → IsCall predictors words (trace source schedule bound)
+      → StandsAt files (place_of source) query → IsPlanFor query q → TellsSchedule files schedule steps
       → AsksFor predictors words files q (λ events. traced q bound events steps)
 
 -- The input has just these bytes, and the reading of all of them stops at their end, at no faulty row and at no limit.
@@ -70,3 +73,18 @@ Completes = (predictors words : List (List ℕ)) (before after : Filed) (old new
     → Promise predictors words before after old new err_old err_new result
     → AsksFor predictors words before.held q text_for → ReadsToEnd q old.input bytes → NoneRose predictors words before after old new
     → IsDone text_for q bytes old new result ⊎ (result ≡ 1)
+
+-- A drill was done: the output grew by its text.
+pub record IsDrilled (events seed : ℕ) (old new : SinkState) (result : ℕ) : Type 0 where
+  pub plan : Plan
+  pub is : IsPlanFor drill_query plan
+  pub number : result ≡ 0
+  pub text : Grew old.held (drill_text plan events seed) new.held
+
+-- Words that ask for a drill, and no fault of the output: whatever call keeps the promise is done, or answers want of memory.
+abbrev pub DrillCompletes : Type 0
+DrillCompletes = (predictors words : List (List ℕ)) (before after : Filed) (old new : Outside) (err_old err_new : SinkState) (result : ℕ)
+    (events seed : ℕ) (speed : Speed)
+    → Promise predictors words before after old new err_old err_new result
+    → IsCall predictors words (drill events seed speed) → (Rose old.out.faults new.out.faults → ⊥)
+    → IsDrilled events seed old.out new.out result ⊎ (result ≡ 1)

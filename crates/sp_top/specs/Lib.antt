@@ -1,4 +1,4 @@
-pub mod Options
+pub mod Drill
 pub mod Commands
 pub mod Ends
 pub mod Predictors

@@ -6,15 +6,18 @@ use Rattle.sp_answer.specs.Ran.{Outside}
 use Rattle.sp_answer.specs.Promise.{Filed, Served, Promise as PromiseOf}
 use Rattle.sp_answer.specs.declared.status.Status.{Status}
 use Rattle.sp_answer.specs.declared.status.Status.TheVariants.{Usage}
-use Rattle.sp_top.specs.Commands.{Command, run, plain, trace, IsCall, IsNoCall, GivesFiles}
+use Rattle.sp_cli.specs.Commands.{Command, run, plain, trace, drill}
+use Rattle.sp_top.specs.Commands.{place_of, IsCall, IsNoCall, GivesFiles}
+use Rattle.sp_top.specs.Drill.{DrillOutcome}
 use Rattle.sp_top.specs.Run.{RunOutcome}
 use Rattle.sp_top.specs.Trace.{TraceOutcome}
 
 -- the outcome of a command over what the files hold and the bytes taken from the input
 abbrev pub CommandOutcome : Command → ToldFiles → List ℕ → Bool → Outcome → Type 0
-CommandOutcome (run place speed) = RunOutcome place
-CommandOutcome (plain place) = RunOutcome place
-CommandOutcome (trace place schedule bound) = TraceOutcome place schedule bound
+CommandOutcome (run query speed) = RunOutcome (place_of query)
+CommandOutcome (plain query) = RunOutcome (place_of query)
+CommandOutcome (trace query schedule live) = TraceOutcome (place_of query) schedule live
+CommandOutcome (drill events seed speed) = λ held bytes ended. DrillOutcome events seed
 
 -- the outcome of the words, where predictors of these names are given
 abbrev pub IsOutcome : List (List ℕ) → List (List ℕ) → ToldFiles → List ℕ → Bool → Outcome → Type 0

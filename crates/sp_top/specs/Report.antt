@@ -10,10 +10,13 @@ use Rattle.sp_split.specs.declared.ended.Why.TheVariants as why
 use Rattle.sp_split.specs.Driving.{CameAbout}
 use Rattle.sp_intake.specs.Reading.{read}
 use Rattle.sp_load.specs.Places.{Place}
-use Rattle.sp_load.specs.Queries.{IsPlanAt}
+use Rattle.sp_load.specs.Queries.{IsPlanAt, IsPlanFor}
 use Rattle.sp_answer.specs.declared.status.Status.{Status}
 use Rattle.sp_answer.specs.declared.status.Status.TheVariants.{Done}
-use Rattle.sp_top.specs.Commands.{Speed, run, IsCall}
+use Rattle.sp_cli.specs.Commands.{Command, Speed, QuerySource, run, drill}
+use Rattle.sp_gen.specs.Generated.{generated}
+use Rattle.sp_drill.specs.Query.{drill_query}
+use Rattle.sp_top.specs.Commands.{place_of, IsCall, IsReported}
 
 -- A run of this speed over the whole input, which had these bytes, ended so.
 pub record Reports (speed : Speed) (bytes : List ℕ) (e : Ended) : Type 0 where
@@ -29,20 +32,18 @@ pub record Reports (speed : Speed) (bytes : List ℕ) (e : Ended) : Type 0 where
   -- and the entries of the hub which instances had a part in it
   pub about : CameAbout speed.instances e.core e.history.entries
 
--- The words are a run, and it ended so: by a plan of the query that stands there, over the bytes that were taken.
-pub record ReportsCall (predictors words : List (List ℕ)) (held : ToldFiles) (old new : Told) (e : Ended) : Type 0 where
-  pub place : Place
-  pub speed : Speed
-  pub call : IsCall predictors words (run place speed)
-  pub plan : IsPlanAt held place e.core.plan
-  pub taken : List ℕ
-  pub gave : Gave old taken new
-  pub reports : Reports speed taken e
+-- The words are a run or a drill, and it ended so: a run by a plan of the query that stands there, over the bytes that were taken; a drill
+-- by a plan of its query, over the rows that it generated.
+pub data ReportsCall (predictors words : List (List ℕ)) (held : ToldFiles) (old new : Told) (e : Ended) : Type 0 where
+  of_run : (query : QuerySource) (speed : Speed) (taken : List ℕ) → IsCall predictors words (run query speed) → IsPlanAt held (place_of query) e.core.plan
+      → Gave old taken new → Reports speed taken e → ReportsCall predictors words held old new e
+  of_drill : (events seed : ℕ) (speed : Speed) → IsCall predictors words (drill events seed speed) → IsPlanFor drill_query e.core.plan
+      → Reports speed (generated events seed) e → ReportsCall predictors words held old new e
 
--- what is reported of a call that answered this number: the end of a run where it was done, and else nothing
+-- what is reported of a call that answered this number: the end of a run or drill where it was done, and else nothing
 abbrev pub Reported : List (List ℕ) → List (List ℕ) → ToldFiles → Told → Told → ℕ → Option Ended → Type 0
 Reported predictors words held old new result (Some e) = (result ≡ 0) × ReportsCall predictors words held old new e
-Reported predictors words held old new result None = (place : Place) (speed : Speed) → IsCall predictors words (run place speed) → result ≢ 0
+Reported predictors words held old new result None = (command : Command) → IsReported command → IsCall predictors words command → result ≢ 0
 
 -- ---- before the line of the status is told
 
@@ -59,7 +60,7 @@ abbrev pub WhereDone : (Ended → Type 0) → Status → Option Ended → Type 0
 WhereDone Is status (Some e) = status ≡ Done → Is e
 WhereDone Is status None = status ≢ Done
 
--- the same of a call whose words are a run; for other words there is no end
+-- the same of a call whose words are a run or a drill; for other words there is no end
 abbrev pub Reporting : List (List ℕ) → List (List ℕ) → ToldFiles → Told → Told → Status → Option Ended → Type 0
 Reporting predictors words held old new status (Some e) = status ≡ Done → ReportsCall predictors words held old new e
-Reporting predictors words held old new status None = (place : Place) (speed : Speed) → IsCall predictors words (run place speed) → status ≢ Done
+Reporting predictors words held old new status None = (command : Command) → IsReported command → IsCall predictors words command → status ≢ Done
