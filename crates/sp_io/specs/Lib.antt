@@ -5,3 +5,5 @@ pub mod ToldFaults
 pub mod MemoryFiles
 pub mod Standard
 pub mod StandardFiles
+pub mod ByteSource
+pub mod Discard

@@ -24,7 +24,7 @@ less (Some limit) given = Some (limit - given)
 abbrev pub until_fault : MemSource → Option ℕ
 until_fault m = less m.fail_after m.given
 
-used_up_by : (ended : Bool) (bytes : List ℕ) → ended ≡ true → rest_of ended bytes ≡ []
+pub used_up_by : (ended : Bool) (bytes : List ℕ) → ended ≡ true → rest_of ended bytes ≡ []
 used_up_by true bytes is = refl
 used_up_by false bytes is = cc
 

@@ -2,6 +2,8 @@
 //! Those in memory tell their bytes, those of the system tell their counts alone.
 #![tactic(auto)]
 
+mod byte_source;
+mod discard;
 mod files;
 mod memory_files;
 mod memory_sink;
@@ -10,6 +12,8 @@ mod outside;
 mod standard;
 mod standard_files;
 
+pub use byte_source::ByteSource;
+pub use discard::Discard;
 pub use files::{Files, LoadFault, Loaded};
 pub use memory_files::MemFiles;
 pub use memory_sink::MemSink;
