@@ -4,3 +4,4 @@ pub mod Walked
 pub mod PairsFound
 pub mod Within
 pub mod Worked
+pub mod PairedCommands

@@ -3,3 +3,4 @@ pub mod Options
 pub mod Commands
 pub mod Paired
 pub mod Limits
+pub mod PairedCommands

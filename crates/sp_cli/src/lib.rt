@@ -8,7 +8,7 @@ mod read;
 mod values;
 
 pub use command::{Command, QuerySource, Speed, UsageFault};
-pub use law::{numbers_are_within, pairs_are_found};
+pub use law::{numbers_are_within, pairs_are_commands, pairs_are_found};
 pub use read::read_words;
 
 #[cfg(test)]

@@ -1,0 +1,36 @@
+-- Words in pairs as whole commands, from what is found at them.
+use Rattle.std.proofs.Common.{◌≡◌, List, ◌∷◌, ◌∙◌, ap}
+use Rattle.std.specs.Prelude.{option_and_then, option_map, unwrap_or, codes}
+use Rattle.clap.specs.Walk.{Row, Text, first_of}
+use Rattle.sp_cli.specs.Numbers.{number, number_or}
+use Rattle.sp_cli.specs.Commands.{plain, one_source, with_numbers, run_of, trace_of, drill_of, source_in, live_in, speed_in, run_in, plain_in, trace_in}
+use Rattle.sp_cli.specs.Paired.{PairsAreFound, value_of}
+use Rattle.sp_cli.specs.PairedCommands.{source_said, live_said, speed_said, PairsAreCommands}
+
+-- where each option is found that is said, it says the same
+module _ (rows : List Row) (said : List (Text × Text)) (are : (id : Text) → first_of id rows ≡ value_of id said) where
+  source_same : source_in rows ≡ source_said said
+  source_same = λ i. one_source (are (codes "query") i) (are (codes "file") i)
+
+  live_same : live_in rows ≡ live_said said
+  live_same = λ i. number_or 64 1 4096 (are (codes "live") i)
+
+  speed_same : speed_in rows ≡ speed_said said
+  speed_same = λ i. with_numbers (number_or 2 0 16 (are (codes "instances") i)) (live_same i) (number_or 64 1 1024 (are (codes "batch") i)) (unwrap_or (are (codes "predictor") i) (codes "markov"))
+
+pub pairs_are_commands : PairsAreFound → PairsAreCommands
+pairs_are_commands finds = record {
+  run = λ words said pairs.
+      let at = finds.run words said pairs in
+      ap (option_and_then run_in) at.1 ∙ (λ i. run_of (source_same at.0 said at.2 i) (speed_same at.0 said at.2 i));
+  plain = λ words said pairs.
+      let at = finds.plain words said pairs in
+      ap (option_and_then plain_in) at.1 ∙ ap (option_map plain) (source_same at.0 said at.2);
+  trace = λ words said pairs.
+      let at = finds.trace words said pairs in
+      ap (option_and_then trace_in) at.1 ∙ (λ i. trace_of (source_same at.0 said at.2 i) (at.2 (codes "schedule") i) (live_same at.0 said at.2 i));
+  drill = λ events seed words said pairs.
+      let at = finds.drill words said pairs in
+      let speed = ap (option_and_then speed_in) at.1 ∙ speed_same at.0 said at.2 in
+      ap (drill_of (number 1 1048576 events) (number 0 4294967295 seed)) speed;
+}

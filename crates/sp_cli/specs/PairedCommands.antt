@@ -1,0 +1,29 @@
+-- Words in pairs as whole commands.
+use Rattle.std.specs.Prelude.{◌≡◌, ℕ, List, ◌∷◌, Option, option_map, unwrap_or, codes}
+use Rattle.clap.specs.Walk.{Text}
+use Rattle.sp_cli.specs.Numbers.{number, number_or}
+use Rattle.sp_cli.specs.Commands.{QuerySource, Speed, plain, one_source, with_numbers, run_of, trace_of, drill_of, command_of}
+use Rattle.sp_cli.specs.Paired.{IsSourceName, IsSpeedName, IsRunName, IsTraceName, ArePairs, value_of}
+
+-- what the pairs say of where the query stands, of how many versions may be live, and of how a run works
+abbrev pub source_said : List (Text × Text) → Option QuerySource
+source_said said = one_source (value_of (codes "query") said) (value_of (codes "file") said)
+
+abbrev pub live_said : List (Text × Text) → Option ℕ
+live_said said = number_or 64 1 4096 (value_of (codes "live") said)
+
+abbrev pub speed_said : List (Text × Text) → Option Speed
+speed_said said =
+    with_numbers (number_or 2 0 16 (value_of (codes "instances") said)) (live_said said) (number_or 64 1 1024 (value_of (codes "batch") said))
+    (unwrap_or (value_of (codes "predictor") said) (codes "markov"))
+
+-- Behind the name of a command, and behind the two numbers of a drill, words in pairs give the command that their values say.
+pub record PairsAreCommands : Type 0 where
+  pub run : (words : List Text) (said : List (Text × Text)) → ArePairs IsRunName words said
+      → command_of (codes "run" ∷ words) ≡ run_of (source_said said) (speed_said said)
+  pub plain : (words : List Text) (said : List (Text × Text)) → ArePairs IsSourceName words said
+      → command_of (codes "plain" ∷ words) ≡ option_map plain (source_said said)
+  pub trace : (words : List Text) (said : List (Text × Text)) → ArePairs IsTraceName words said
+      → command_of (codes "trace" ∷ words) ≡ trace_of (source_said said) (value_of (codes "schedule") said) (live_said said)
+  pub drill : (events seed : Text) (words : List Text) (said : List (Text × Text)) → ArePairs IsSpeedName words said
+      → command_of (codes "drill" ∷ events ∷ seed ∷ words) ≡ drill_of (number 1 1048576 events) (number 0 4294967295 seed) (speed_said said)
