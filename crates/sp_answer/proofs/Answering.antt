@@ -1,11 +1,11 @@
 -- Answers before the input is read, answers cut short by want of memory, and an outcome seen as another.
-use Rattle.std.proofs.Common.{◌⊎◌, ◌≡◌, inl, inr, ℕ, Bool, false, List, refl, sym, subst}
-use Rattle.sp_io.specs.Outside.{ToldFiles, Gave, GrewWithin}
+use Rattle.std.proofs.Common.{◌⊎◌, ◌≡◌, ◌≢◌, inl, inr, ℕ, Bool, false, List, refl, sym, subst}
+use Rattle.sp_io.specs.Outside.{ToldFiles, Gave, Grew, GrewWithin}
 use Rattle.sp_answer.specs.declared.status.Status.{Status}
 use Rattle.sp_answer.specs.declared.status.Status.TheVariants.{Done, Memory, Usage, Query, Input, Read, Write, Limited, Schedule}
-use Rattle.sp_answer.specs.Outcome.{Outcome, Ending, ending}
-use Rattle.sp_answer.specs.Ran.{Outside, ReadsNoFurther, Ran}
-use Rattle.sp_answer.specs.Promise.{Filed, FileTold, Answered, by_memory, by_file, by_refusal, by_run, Served}
+use Rattle.sp_answer.specs.Outcome.{Outcome, Ending, ending, ending_of, line_of}
+use Rattle.sp_answer.specs.Ran.{Outside, ReadsNoFurther, Ran, Made}
+use Rattle.sp_answer.specs.Promise.{Filed, FileTold, Answered, by_memory, by_file, by_refusal, by_run, by_itself, Served}
 use Rattle.sp_answer.proofs.Grew.{within_none, grew_whole}
 
 -- ---- runs
@@ -56,16 +56,18 @@ ran_weaker P Q old new end weaker ran = record {
 }
 
 -- what was written begins the text, whatever the status
-begins : (P : List ℕ → Bool → Outcome → Type 0) (old new : Outside) (line : List ℕ) (s : Status) (r : Ran P old new (record { status = s; line = line })) → GrewWithin old.out.held r.outcome.text new.out.held
-begins P old new line Memory r = (r.cut_off (inl refl)).1
-begins P old new line Write r = (r.cut_off (inr refl)).1
-begins P old new line Done r = grew_whole _ _ _ (r.exact (λ e. cc) (λ e. cc)).1
-begins P old new line Usage r = grew_whole _ _ _ (r.exact (λ e. cc) (λ e. cc)).1
-begins P old new line (Query code place) r = grew_whole _ _ _ (r.exact (λ e. cc) (λ e. cc)).1
-begins P old new line (Input code row column) r = grew_whole _ _ _ (r.exact (λ e. cc) (λ e. cc)).1
-begins P old new line Read r = grew_whole _ _ _ (r.exact (λ e. cc) (λ e. cc)).1
-begins P old new line (Limited limit) r = grew_whole _ _ _ (r.exact (λ e. cc) (λ e. cc)).1
-begins P old new line (Schedule at) r = grew_whole _ _ _ (r.exact (λ e. cc) (λ e. cc)).1
+module _ (old new : Outside) (text : List ℕ) (told : Type 0) (cut : Type 0) where
+  begins : (s : Status) → (s ≢ Memory → s ≢ Write → told × Grew old.out.held text new.out.held) → ((s ≡ Memory) ⊎ (s ≡ Write) → cut × GrewWithin old.out.held text new.out.held)
+      → GrewWithin old.out.held text new.out.held
+  begins Memory exact cut_off = (cut_off (inl refl)).1
+  begins Write exact cut_off = (cut_off (inr refl)).1
+  begins Done exact cut_off = grew_whole _ _ _ (exact (λ e. cc) (λ e. cc)).1
+  begins Usage exact cut_off = grew_whole _ _ _ (exact (λ e. cc) (λ e. cc)).1
+  begins (Query code place) exact cut_off = grew_whole _ _ _ (exact (λ e. cc) (λ e. cc)).1
+  begins (Input code row column) exact cut_off = grew_whole _ _ _ (exact (λ e. cc) (λ e. cc)).1
+  begins Read exact cut_off = grew_whole _ _ _ (exact (λ e. cc) (λ e. cc)).1
+  begins (Limited limit) exact cut_off = grew_whole _ _ _ (exact (λ e. cc) (λ e. cc)).1
+  begins (Schedule at) exact cut_off = grew_whole _ _ _ (exact (λ e. cc) (λ e. cc)).1
 
 -- want of memory may take the place of any other end of a run
 ran_short : (P : List ℕ → Bool → Outcome → Type 0) (old new : Outside) (end : Ending) → Ran P old new end → Ran P old new (ending Memory)
@@ -76,11 +78,48 @@ ran_short P old new end r = record {
   is = r.is;
   no_further = r.no_further;
   exact = λ other _. absurd (other refl);
-  cut_off = λ _. (refl, begins P old new end.line end.status r);
+  cut_off = λ _. (refl, begins old new r.outcome.text (end ≡ ending_of r.outcome) (end.line ≡ line_of end.status) end.status r.exact r.cut_off);
   read_whole = λ e. cc;
   read_fault = λ e. cc;
   write_fault = λ e. cc;
   read_told = λ _. inr (inr refl);
+  write_told = λ _. inr refl;
+}
+
+-- ---- texts that are made without the input
+
+-- memory ran out before anything was written
+pub made_none : (P : List ℕ → Bool → Outcome → Type 0) (old : Outside) (o : Outcome) → ((b : List ℕ) (e : Bool) → P b e o) → Made P old old (ending Memory)
+made_none P old o is = record {
+  outcome = o;
+  is = is;
+  unread = refl;
+  exact = λ other _. absurd (other refl);
+  cut_off = λ _. (refl, within_none old.out.held o.text);
+  write_fault = λ e. cc;
+  write_told = λ _. inr refl;
+}
+
+made_weaker : (P Q : List ℕ → Bool → Outcome → Type 0) (old new : Outside) (end : Ending) → ((b : List ℕ) (e : Bool) (o : Outcome) → P b e o → Q b e o) → Made P old new end → Made Q old new end
+made_weaker P Q old new end weaker made = record {
+  outcome = made.outcome;
+  is = λ b e. weaker b e made.outcome (made.is b e);
+  unread = made.unread;
+  exact = made.exact;
+  cut_off = made.cut_off;
+  write_fault = made.write_fault;
+  write_told = made.write_told;
+}
+
+-- want of memory may take the place of any other end
+made_short : (P : List ℕ → Bool → Outcome → Type 0) (old new : Outside) (end : Ending) → Made P old new end → Made P old new (ending Memory)
+made_short P old new end m = record {
+  outcome = m.outcome;
+  is = m.is;
+  unread = m.unread;
+  exact = λ other _. absurd (other refl);
+  cut_off = λ _. (refl, begins old new m.outcome.text (end ≡ ending_of m.outcome) (end.line ≡ line_of end.status) end.status m.exact m.cut_off);
+  write_fault = λ e. cc;
   write_told = λ _. inr refl;
 }
 
@@ -94,12 +133,14 @@ module _ (names : List (List ℕ)) (before after : Filed) (old new : Outside) wh
     answered_short end (by_file fault) = by_memory refl fault.same
     answered_short end (by_refusal refusal) = by_memory refl refusal.same
     answered_short end (by_run run) = by_run (ran_short P old new end run)
+    answered_short end (by_itself made) = by_itself (made_short P old new end made)
 
     pub answered_weaker : (Q : List ℕ → Bool → Outcome → Type 0) (end : Ending) → ((b : List ℕ) (e : Bool) (o : Outcome) → P b e o → Q b e o) → Answered names P before after old new end → Answered names Q before after old new end
     answered_weaker Q end weaker (by_memory memory same) = by_memory memory same
     answered_weaker Q end weaker (by_file fault) = by_file fault
     answered_weaker Q end weaker (by_refusal refusal) = by_refusal (record { is = λ b e. weaker b e _ (refusal.is b e); line = refusal.line; same = refusal.same })
     answered_weaker Q end weaker (by_run run) = by_run (ran_weaker P Q old new end weaker run)
+    answered_weaker Q end weaker (by_itself made) = by_itself (made_weaker P Q old new end weaker made)
 
   -- a fault of a file is still told
   told_short : (s : Status) → FileTold names before after old new s → FileTold names before after old new Memory
