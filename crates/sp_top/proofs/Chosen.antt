@@ -1,5 +1,5 @@
 -- The first predictor of a name, and whether there is one.
-use Rattle.std.proofs.Common.{◌≡◌, ℕ, zero, suc, Bool, true, false, List, [], ◌∷◌, map, if◌then◌else◌, Option, Some, None, refl, sym, subst, arith}
+use Rattle.std.proofs.Common.{◌⊎◌, ◌≡◌, inl, inr, ℕ, zero, suc, Bool, true, false, List, [], ◌∷◌, map, if◌then◌else◌, Option, Some, None, refl, sym, subst, arith}
 use Rattle.std.specs.Prelude.{IfSome, IfNone}
 use Rattle.std.specs.List.{Contains}
 use Rattle.std.specs.Str.{bytes_eq}
@@ -49,3 +49,13 @@ module _ {X : Type 0} (f : X → List ℕ) (name : List ℕ) where
 
   pub not_chosen : (xs : List X) → None ≡ first_of is_named xs → Contains (map f xs) name → ⊥
   not_chosen xs is = subst (λ (r : Option X). IfNone r (Contains (map f xs) name → ⊥)) (sym is) (none_named xs)
+
+-- a name is one of a list or not
+pub is_there : (name : List ℕ) (xs : List (List ℕ)) → Contains xs name ⊎ (Contains xs name → ⊥)
+is_there name [] = inr (λ at. omega (arith, at.1))
+is_there name (x ∷ xs) = by (bytes_eq x name) refl (is_there name xs)
+  where
+    by : (b : Bool) → bytes_eq x name ≡ b → Contains xs name ⊎ (Contains xs name → ⊥) → Contains (x ∷ xs) name ⊎ (Contains (x ∷ xs) name → ⊥)
+    by true is rest = inl (0, omega arith, (bytes_eq-Decides x name).0 is)
+    by false is (inl there) = inl (behind (λ y. y) name x xs there)
+    by false is (inr none) = inr (λ at. none (ahead (λ y. y) name x xs (λ same. let yes = (bytes_eq-Decides x name).1 same in cc) at))

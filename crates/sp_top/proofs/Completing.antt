@@ -3,10 +3,10 @@ use Rattle.std.proofs.Common.{◌⊎◌, ◌≡◌, ◌≢◌, inl, inr, ℕ, Bo
 use Rattle.std.proofs.lemmas.List.{append-nil}
 use Rattle.std.proofs.lemmas.List.Sums.{fold-append}
 use Rattle.std.specs.Prelude.{is_some}
-use Rattle.std.specs.List.{fold}
+use Rattle.std.specs.List.{fold, Contains}
 use Rattle.sp_cut.specs.CutRows.{rows}
 use Rattle.sp_cut.specs.Growth.{RowsStay}
-use Rattle.sp_io.specs.Outside.{Told, ToldFiles, Gave, Grew, IsUsedUp, HoldsFile, HoldsLonger, first_file}
+use Rattle.sp_io.specs.Outside.{Told, ToldFiles, SinkState, Gave, Grew, IsUsedUp, Rose, HoldsFile, HoldsLonger, first_file}
 use Rattle.sp_plan.specs.declared.event.Event.{Event}
 use Rattle.sp_plan.specs.declared.plan.Plan.{Plan}
 use Rattle.sp_sched.specs.Schedules.{OneSchedule}
@@ -24,12 +24,13 @@ use Rattle.sp_load.proofs.OneTextLaws.{not_longer}
 use Rattle.sp_answer.specs.declared.status.Status.{Status}
 use Rattle.sp_answer.specs.declared.status.Status.TheVariants.{Done, Memory, Usage, Query, Input, Read, Write, Limited, Schedule}
 use Rattle.sp_answer.specs.Outcome.{Outcome, Ending, number_of, outcome}
-use Rattle.sp_answer.specs.Ran.{Outside, Ran}
-use Rattle.sp_answer.specs.Promise.{Filed, Answered, by_memory, by_file, by_refusal, by_run, Refused, NoFaultRose}
-use Rattle.sp_top.specs.Commands.{Command, run, plain, trace, IsCall}
-use Rattle.sp_top.specs.Completes.{StandsAt, in_word, in_file, TellsSchedule, for_run, for_plain, for_trace, ReadsToEnd, IsDone, Completes}
+use Rattle.sp_answer.specs.Ran.{Outside, Ran, Made}
+use Rattle.sp_answer.specs.Promise.{Filed, Answered, by_memory, by_file, by_refusal, by_run, by_itself, Refused}
+use Rattle.sp_cli.specs.Commands.{Command, run, plain, trace}
+use Rattle.sp_top.specs.Commands.{place_of, IsCall}
+use Rattle.sp_top.specs.Completes.{StandsAt, in_word, in_file, TellsSchedule, for_run, for_plain, for_trace, ReadsToEnd, NoneRose, IsDone, Completes}
 use Rattle.sp_top.specs.Ends.{status_of, reading_outcome}
-use Rattle.sp_top.specs.Outcome.{IsOutcome, CommandOutcome}
+use Rattle.sp_top.specs.Outcome.{IsOutcome, CommandOutcome, Promise}
 use Rattle.sp_top.specs.Run.{run_outcome, windows_text, RunOutcome, too_long, faulty, runs}
 use Rattle.sp_top.specs.Trace.{trace_text, trace_outcome, longest_schedule, HasSchedule, TextsOutcome, traces, TraceOutcome, long_query, long_schedule, of_texts}
 use Rattle.sp_top.proofs.OneCommand.{one_command}
@@ -66,7 +67,7 @@ gave_first bytes taken (Some left) gave = (left, gave)
 gave_first bytes taken None gave = absurd gave
 
 -- and all of them where nothing is left
-gave_all : (bytes taken : List ℕ) (new : Told) → Gave (Some bytes) taken new → IsUsedUp new → (taken ≡ bytes) × (new ≡ Some [])
+pub gave_all : (bytes taken : List ℕ) (new : Told) → Gave (Some bytes) taken new → IsUsedUp new → (taken ≡ bytes) × (new ≡ Some [])
 gave_all bytes taken (Some left) gave used_up = (sym (gave ∙ ap (λ (more : List ℕ). taken ++ more) used_up ∙ append-nil taken), ap Some used_up)
 gave_all bytes taken None gave used_up = absurd gave
 
@@ -114,13 +115,13 @@ module _ (reading : OneReading) (truth : OneTruth) (files : ToldFiles) (q : Plan
         (subst (λ (c : List ℕ). TextsOutcome text c bound bytes ended o) (one_content content holds) (subst (λ (t : List ℕ). TextsOutcome t content bound bytes ended o) (text_there files place text other stands has) is))
         (traces q steps compiles tells.is)
 
--- the words have no other outcome than a reading with this text
-abbrev IsOnly : List (List ℕ) → List (List ℕ) → ToldFiles → Plan → (List Event → Stop → List ℕ) → Type 0
-IsOnly predictors words files q T = (bytes : List ℕ) (ended : Bool) (o : Outcome) → IsOutcome predictors words files bytes ended o → o ≡ reading_outcome q T bytes ended
+-- there is no other outcome than a reading with this text
+abbrev pub IsOnly : (List ℕ → Bool → Outcome → Type 0) → Plan → (List Event → Stop → List ℕ) → Type 0
+IsOnly P q T = (bytes : List ℕ) (ended : Bool) (o : Outcome) → P bytes ended o → o ≡ reading_outcome q T bytes ended
 
 -- words that are a command have its outcomes alone
 only_by : (predictors words : List (List ℕ)) (files : ToldFiles) (q : Plan) (T : List Event → Stop → List ℕ) (command : Command) → IsCall predictors words command
-    → ((bytes : List ℕ) (ended : Bool) (o : Outcome) → CommandOutcome command files bytes ended o → o ≡ reading_outcome q T bytes ended) → IsOnly predictors words files q T
+    → ((bytes : List ℕ) (ended : Bool) (o : Outcome) → CommandOutcome command files bytes ended o → o ≡ reading_outcome q T bytes ended) → IsOnly (IsOutcome predictors words files) q T
 only_by predictors words files q T command is only bytes ended o (inl none) = absurd (none.0 command is)
 only_by predictors words files q T command is only bytes ended o (inr at) =
     only bytes ended o (subst (λ (c : Command). CommandOutcome c files bytes ended o) (one_command words at.0 command at.1.0 is.0) at.2)
@@ -128,7 +129,7 @@ only_by predictors words files q T command is only bytes ended o (inr at) =
 -- ---- the answer
 
 -- a status tells of memory, of the output, or of neither
-cut_by : (s : Status) → (s ≡ Memory) ⊎ ((s ≡ Write) ⊎ ((s ≢ Memory) × (s ≢ Write)))
+pub cut_by : (s : Status) → (s ≡ Memory) ⊎ ((s ≡ Write) ⊎ ((s ≢ Memory) × (s ≢ Write)))
 cut_by Memory = inl refl
 cut_by Write = inr (inl refl)
 cut_by Done = inr (inr ((λ e. cc), (λ e. cc)))
@@ -139,8 +140,8 @@ cut_by Read = inr (inr ((λ e. cc), (λ e. cc)))
 cut_by (Limited limit) = inr (inr ((λ e. cc), (λ e. cc)))
 cut_by (Schedule line) = inr (inr ((λ e. cc), (λ e. cc)))
 
-module _ (stay : RowsStay) (predictors words names : List (List ℕ)) (before after : Filed) (old new : Outside) (q : Plan) (bytes : List ℕ) (T : List Event → Stop → List ℕ) (only : IsOnly predictors words before.held q T)
-    (reads : ReadsToEnd q old.input bytes) (quiet : NoFaultRose names before after old new) (used_up : new.input.ended ≡ true → IsUsedUp new.input.left) where
+module _ (stay : RowsStay) (P : List ℕ → Bool → Outcome → Type 0) (old new : Outside) (q : Plan) (bytes : List ℕ) (T : List Event → Stop → List ℕ) (only : IsOnly P q T)
+    (reads : ReadsToEnd q old.input bytes) (no_read : Rose old.input.faults new.input.faults → ⊥) (no_write : Rose old.out.faults new.out.faults → ⊥) (used_up : new.input.ended ≡ true → IsUsedUp new.input.left) where
   -- a reading of the whole input
   abbrev whole_reading : Outcome
   whole_reading = outcome Done (T (read q bytes true).events End)
@@ -149,14 +150,22 @@ module _ (stay : RowsStay) (predictors words names : List (List ℕ)) (before af
   whole_is = ap (λ (stop : Stop). outcome (status_of stop) (T (read q bytes true).events stop)) reads.stop
 
   -- a command that asks for a text is not refused: with no bytes its input would lack a header
-  not_refused : (end : Ending) → Refused (IsOutcome predictors words before.held) old new end → ⊥
+  not_refused : (end : Ending) → Refused P old new end → ⊥
   not_refused end refused =
       let done : end.status ≡ Done = ap (λ (o : Outcome). o.status) (only bytes true _ (refused.is bytes true) ∙ whole_is) in
       let faulty : end.status ≡ Input 1 0 0 = ap (λ (o : Outcome). o.status) (only [] true _ (refused.is [] true)) in
       let clash : Done ≡ Input 1 0 0 = sym done ∙ faulty in
       absurd (cc clash)
 
-  module _ (end : Ending) (ran : Ran (IsOutcome predictors words before.held) old new end) where
+  -- nor made without the input
+  not_made : (end : Ending) → Made P old new end → ⊥
+  not_made end made =
+      let done : made.outcome.status ≡ Done = ap (λ (o : Outcome). o.status) (only bytes true made.outcome (made.is bytes true) ∙ whole_is) in
+      let faulty : made.outcome.status ≡ Input 1 0 0 = ap (λ (o : Outcome). o.status) (only [] true made.outcome (made.is [] true)) in
+      let clash : Done ≡ Input 1 0 0 = sym done ∙ faulty in
+      absurd (cc clash)
+
+  module _ (end : Ending) (ran : Ran P old new end) where
     gave : Gave (Some bytes) ran.taken new.input.left
     gave = subst (λ (t : Told). Gave t ran.taken new.input.left) reads.told ran.gave
 
@@ -171,54 +180,71 @@ module _ (stay : RowsStay) (predictors words names : List (List ℕ)) (before af
         let open_run = outcome_is ∙ ap (reading_outcome q T ran.taken) open_ in
         let here : ran.outcome.status ≡ status_of (stop_of (read q ran.taken false) false) = ap (λ (o : Outcome). o.status) open_run in
         let read_fault : end.status ≡ Read = exact ∙ here ∙ ap (λ (o : Option Failure). status_of (stop_or (read q ran.taken false) false o)) going in
-        quiet.input (ran.read_fault read_fault)
+        no_read (ran.read_fault read_fault)
 
     -- where it has ended, all of it was taken
-    ended_done : new.input.ended ≡ true → end.status ≡ ran.outcome.status → Grew old.out.held ran.outcome.text new.out.held → IsDone (λ events. T events End) q bytes old new (number_of end.status)
+    ended_done : new.input.ended ≡ true → end.status ≡ ran.outcome.status → Grew old.out.held ran.outcome.text new.out.held → (end.status ≡ Done) × IsDone (λ events. T events End) q bytes old new (number_of end.status)
     ended_done ended exact grew =
         let all = gave_all bytes ran.taken new.input.left gave (used_up ended) in
         let is : ran.outcome ≡ whole_reading = outcome_is ∙ ap (reading_outcome q T ran.taken) ended ∙ ap (λ (b : List ℕ). reading_outcome q T b true) all.0 ∙ whole_is in
-        record {
-          number = ap number_of (exact ∙ ap (λ (o : Outcome). o.status) is);
-          nothing_left = all.1;
-          text = subst (λ (o : Outcome). Grew old.out.held o.text new.out.held) is grew;
-        }
+        let done = exact ∙ ap (λ (o : Outcome). o.status) is in (
+          done,
+          record {
+            number = ap number_of done;
+            nothing_left = all.1;
+            text = subst (λ (o : Outcome). Grew old.out.held o.text new.out.held) is grew;
+          },
+        )
 
-    ran_done : IsDone (λ events. T events End) q bytes old new (number_of end.status) ⊎ (end.status ≡ Memory)
+    pub ran_done : ((end.status ≡ Done) × IsDone (λ events. T events End) q bytes old new (number_of end.status)) ⊎ (end.status ≡ Memory)
     ran_done = by (cut_by end.status) new.input.ended refl
       where
-        by : (end.status ≡ Memory) ⊎ ((end.status ≡ Write) ⊎ ((end.status ≢ Memory) × (end.status ≢ Write))) → (ended : Bool) → new.input.ended ≡ ended → IsDone (λ events. T events End) q bytes old new (number_of end.status) ⊎ (end.status ≡ Memory)
+        by : (end.status ≡ Memory) ⊎ ((end.status ≡ Write) ⊎ ((end.status ≢ Memory) × (end.status ≢ Write))) → (ended : Bool) → new.input.ended ≡ ended → ((end.status ≡ Done) × IsDone (λ events. T events End) q bytes old new (number_of end.status)) ⊎ (end.status ≡ Memory)
         by (inl memory) ended is = inr memory
-        by (inr (inl write)) ended is = absurd (quiet.out (ran.write_fault write).0)
+        by (inr (inl write)) ended is = absurd (no_write (ran.write_fault write).0)
         by (inr (inr neither)) true is =
             let exact = ran.exact neither.0 neither.1 in
             inl (ended_done is (ap (λ (e : Ending). e.status) exact.0) exact.1)
         by (inr (inr neither)) false is = absurd (stopped_open is (ap (λ (e : Ending). e.status) (ran.exact neither.0 neither.1).0))
 
-  answered_done : (end : Ending) → Answered names (IsOutcome predictors words before.held) before after old new end → IsDone (λ events. T events End) q bytes old new (number_of end.status) ⊎ (end.status ≡ Memory)
-  answered_done end (by_memory memory same) = inr (ap (λ (e : Ending). e.status) memory)
-  answered_done end (by_file fault) = absurd (quiet.files fault.name fault.own fault.rose)
-  answered_done end (by_refusal refused) = absurd (not_refused end refused)
-  answered_done end (by_run ran) = ran_done end ran
+  module _ (names : List (List ℕ)) (before after : Filed) (no_load : (name : List ℕ) → Contains names name → Rose (before.faults name) (after.faults name) → ⊥) where
+    answered_done : (end : Ending) → Answered names P before after old new end → IsDone (λ events. T events End) q bytes old new (number_of end.status) ⊎ (end.status ≡ Memory)
+    answered_done end (by_memory memory same) = inr (ap (λ (e : Ending). e.status) memory)
+    answered_done end (by_file fault) = absurd (no_load fault.name fault.own fault.rose)
+    answered_done end (by_refusal refused) = absurd (not_refused end refused)
+    answered_done end (by_run ran) = elim (ran_done end ran) [
+      | inl done ↦ inl done.1
+      | inr memory ↦ inr memory
+    ]
+    answered_done end (by_itself made) = absurd (not_made end made)
 
-  -- the same of the number that the program ends with
-  number_done : (end : Ending) (result : ℕ) → result ≡ number_of end.status → Answered names (IsOutcome predictors words before.held) before after old new end → IsDone (λ events. T events End) q bytes old new result ⊎ (result ≡ 1)
-  number_done end result number answered = elim (answered_done end answered) [
-    | inl done ↦ inl (subst (IsDone (λ events. T events End) q bytes old new) (sym number) done)
-    | inr memory ↦ inr (number ∙ ap number_of memory)
-  ]
+    -- the same of the number that the program ends with
+    number_done : (end : Ending) (result : ℕ) → result ≡ number_of end.status → Answered names P before after old new end → IsDone (λ events. T events End) q bytes old new result ⊎ (result ≡ 1)
+    number_done end result number answered = elim (answered_done end answered) [
+      | inl done ↦ inl (subst (IsDone (λ events. T events End) q bytes old new) (sym number) done)
+      | inr memory ↦ inr (number ∙ ap number_of memory)
+    ]
+
+-- whatever call keeps the promise, where the words have no other outcome
+promised : (stay : RowsStay) (predictors words : List (List ℕ)) (before after : Filed) (old new : Outside) (err_old err_new : SinkState) (result : ℕ) (q : Plan) (bytes : List ℕ)
+    (T : List Event → Stop → List ℕ) → IsOnly (IsOutcome predictors words before.held) q T → Promise predictors words before after old new err_old err_new result
+    → ReadsToEnd q old.input bytes → NoneRose predictors words before after old new → IsDone (λ events. T events End) q bytes old new result ⊎ (result ≡ 1)
+promised stay predictors words before after old new err_old err_new result q bytes T only promise reads quiet =
+    let none = quiet promise.names promise.given in
+    number_done stay (IsOutcome predictors words before.held) old new q bytes T only reads none.input none.out promise.used_up
+    promise.names before after none.files promise.end result promise.number promise.served.answered
 
 -- the law of completeness, from those of texts, of schedules and of rows
 pub completes : OneReading → OneSchedule → OneTruth → RowsStay → Completes
-completes reading sched truth stay predictors words before after old new err_old err_new result q bytes _ promise (for_run place speed text command stands compiles) reads quiet =
-    number_done stay predictors words promise.names before after old new q bytes (windows_text q)
-    (only_by predictors words before.held q (windows_text q) (run place speed) command (λ b e o. run_at reading truth before.held q place text compiles stands b e o))
-    reads (quiet promise.names promise.given) promise.used_up promise.end result promise.number promise.served.answered
-completes reading sched truth stay predictors words before after old new err_old err_new result q bytes _ promise (for_plain place text command stands compiles) reads quiet =
-    number_done stay predictors words promise.names before after old new q bytes (windows_text q)
-    (only_by predictors words before.held q (windows_text q) (plain place) command (λ b e o. run_at reading truth before.held q place text compiles stands b e o))
-    reads (quiet promise.names promise.given) promise.used_up promise.end result promise.number promise.served.answered
-completes reading sched truth stay predictors words before after old new err_old err_new result q bytes _ promise (for_trace place text name bound steps command stands compiles tells) reads quiet =
-    number_done stay predictors words promise.names before after old new q bytes (trace_text bound steps q)
-    (only_by predictors words before.held q (trace_text bound steps q) (trace place name bound) command (λ b e o. trace_at reading truth before.held q place text compiles stands b e sched name bound steps tells o))
-    reads (quiet promise.names promise.given) promise.used_up promise.end result promise.number promise.served.answered
+completes reading sched truth stay predictors words before after old new err_old err_new result q bytes _ promise (for_run source speed text command stands compiles) reads quiet =
+    promised stay predictors words before after old new err_old err_new result q bytes (windows_text q)
+    (only_by predictors words before.held q (windows_text q) (run source speed) command (λ b e o. run_at reading truth before.held q (place_of source) text compiles stands b e o))
+    promise reads quiet
+completes reading sched truth stay predictors words before after old new err_old err_new result q bytes _ promise (for_plain source text command stands compiles) reads quiet =
+    promised stay predictors words before after old new err_old err_new result q bytes (windows_text q)
+    (only_by predictors words before.held q (windows_text q) (plain source) command (λ b e o. run_at reading truth before.held q (place_of source) text compiles stands b e o))
+    promise reads quiet
+completes reading sched truth stay predictors words before after old new err_old err_new result q bytes _ promise (for_trace source text name bound steps command stands compiles tells) reads quiet =
+    promised stay predictors words before after old new err_old err_new result q bytes (trace_text bound steps q)
+    (only_by predictors words before.held q (trace_text bound steps q) (trace source name bound) command (λ b e o. trace_at reading truth before.held q (place_of source) text compiles stands b e sched name bound steps tells o))
+    promise reads quiet

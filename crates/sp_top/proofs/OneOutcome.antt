@@ -1,24 +1,32 @@
 -- Words, told files and bytes have one outcome, since texts have one reading and alike plans run and trace alike.
-use Rattle.std.proofs.Common.{◌≡◌, inl, inr, ℕ, Bool, List, [], Some, refl, sym, ◌∙◌, ap, subst}
+use Rattle.std.proofs.Common.{◌≡◌, inl, inr, ℕ, Bool, true, List, [], length, Some, refl, sym, ◌∙◌, ap, subst}
 use Rattle.std.specs.Prelude.{if◌then◌else◌}
 use Rattle.sp_io.specs.Outside.{HoldsLonger}
 use Rattle.sp_plan.specs.declared.event.Event.{Event}
 use Rattle.sp_plan.specs.declared.plan.Plan.{Plan}
 use Rattle.sp_sched.specs.Schedules.{OneSchedule}
 use Rattle.sp_sched.specs.declared.step.TraceStep.{TraceStep}
-use Rattle.sp_intake.specs.Reading.{is_end}
+use Rattle.sp_group.specs.Rising.{with_numbers}
+use Rattle.sp_emit.specs.Summary.{summary}
+use Rattle.sp_intake.specs.Reading.{Reading, read, is_end}
 use Rattle.sp_intake.specs.declared.input.Stop.{Stop}
 use Rattle.sp_load.specs.Places.{Place}
 use Rattle.sp_load.specs.Queries.{IsPlanFor, IsFaulty, IsPlanAt, IsFaultyAt}
 use Rattle.sp_load.specs.Laws.{OneReading, OneText}
 use Rattle.sp_load.proofs.OneTextLaws.{not_longer}
-use Rattle.sp_answer.specs.Outcome.{Outcome, nothing_for}
-use Rattle.sp_answer.specs.declared.status.Status.TheVariants.{Query, Schedule}
-use Rattle.sp_top.specs.Commands.{Command, run, plain, trace}
+use Rattle.sp_answer.specs.Outcome.{Outcome, outcome, nothing_for}
+use Rattle.sp_answer.specs.declared.status.Status.TheVariants.{Done, Query, Schedule}
+use Rattle.sp_cli.specs.Commands.{Command, run, plain, trace, drill}
+use Rattle.sp_drill.specs.Query.{drill_query}
+use Rattle.sp_gen.specs.Generated.{generated}
+use Rattle.sp_top.specs.Commands.{place_of}
+use Rattle.sp_top.specs.Drill.{summary_of, drill_text}
+use Rattle.sp_top.specs.Alike.{Alike}
 use Rattle.sp_top.specs.OneOutcome.{OneOutcome}
 use Rattle.sp_top.specs.Outcome.{CommandOutcome}
 use Rattle.sp_top.specs.Run.{run_outcome, RunOutcome, too_long, faulty, runs}
 use Rattle.sp_top.specs.Trace.{trace_text, trace_outcome, longest_schedule, HasSchedule, TextsOutcome, faulty as faulty_query, bad_line, traces, TraceOutcome, long_query, long_schedule, of_texts}
+use Rattle.sp_top.proofs.Alike.{read_same, windows_same, whole_same}
 use Rattle.sp_top.proofs.AlikeTraces.{traced_same}
 use Rattle.sp_top.proofs.OneCommand.{one_command}
 use Rattle.sp_top.proofs.OneRun.{OneTruth, plans_run_alike, stand_alike, outcome_by}
@@ -103,12 +111,27 @@ module _ (laws : RunLaws) (files : List (List ℕ × List ℕ)) (place : Place) 
       one_texts laws.reading laws.schedule laws.truth other also bound bytes ended o u
       (subst (λ (c : List ℕ). TextsOutcome other c bound bytes ended o) same-content (subst (λ (t : List ℕ). TextsOutcome t content bound bytes ended o) same-text is)) so
 
+-- ---- a drill
+
+-- plans of the drill's query have one summary
+one_drill : OneReading → OneTruth → (x y : Plan) → IsPlanFor drill_query x → IsPlanFor drill_query y → (events seed : ℕ) → drill_text x events seed ≡ drill_text y events seed
+one_drill reading truth x y one other events seed =
+    let both = reading.plans drill_query x y one other in
+    let alike = stand_alike truth both.0 x y both.1.stands both.2.stands in
+    ap (λ (r : Reading). summary_of x r.events) (read_same x y alike (generated events seed) true) ∙ summary_same x y alike (read y (generated events seed) true).events
+  where
+    summary_same : (x y : Plan) → Alike x y → (es : List Event) → summary_of x es ≡ summary_of y es
+    summary_same x y alike es = λ i.
+        let progress = whole_same x y alike es true i in
+        summary (length es) (length (windows_same x y alike es true i)) (length progress.matches) (length (with_numbers [] progress.consumed))
+
 -- ---- all words
 
 one_of : RunLaws → (files : List (List ℕ × List ℕ)) (command : Command) (bytes : List ℕ) (ended : Bool) (a b : Outcome) → CommandOutcome command (Some files) bytes ended a → CommandOutcome command (Some files) bytes ended b → a ≡ b
-one_of laws files (run place speed) bytes ended a b one other = one_run_outcome laws files place bytes ended a b one other
-one_of laws files (plain place) bytes ended a b one other = one_run_outcome laws files place bytes ended a b one other
-one_of laws files (trace place name bound) bytes ended a b one other = one_trace_outcome laws files place name bound bytes ended a b one other
+one_of laws files (run query speed) bytes ended a b one other = one_run_outcome laws files (place_of query) bytes ended a b one other
+one_of laws files (plain query) bytes ended a b one other = one_run_outcome laws files (place_of query) bytes ended a b one other
+one_of laws files (trace query name bound) bytes ended a b one other = one_trace_outcome laws files (place_of query) name bound bytes ended a b one other
+one_of laws files (drill events seed speed) bytes ended a b one other = one.2 ∙ ap (outcome Done) (one_drill laws.reading laws.truth one.0 other.0 one.1 other.1 events seed) ∙ sym other.2
 
 pub one_outcome : RunLaws → OneOutcome
 one_outcome laws predictors words files bytes ended one other (inl none) (inl so) = none.1 ∙ sym so.1

@@ -29,9 +29,10 @@ use Rattle.sp_split.specs.declared.ended.Ended.{Ended}
 use Rattle.sp_split.specs.declared.ended.Why.{Why}
 use Rattle.sp_split.specs.declared.ended.Why.TheVariants as why
 use Rattle.sp_split.specs.Driving.{Drove, CameAbout}
-use Rattle.sp_top.specs.Commands.{Command, Speed, run, IsCommand, IsCall, IsNoCall}
+use Rattle.sp_cli.specs.Commands.{Command, Speed, QuerySource, run, drill}
+use Rattle.sp_top.specs.Commands.{place_of, IsCommand, IsCall, IsNoCall, IsReported}
 use Rattle.sp_top.specs.Ends.{status_of, status_of_end, status_of_refusal}
-use Rattle.sp_top.specs.Report.{Reported, ReportsPlan, ReportsPlace, WhereDone, Reporting}
+use Rattle.sp_top.specs.Report.{of_run, of_drill, Reported, ReportsPlan, ReportsPlace, ReportsDrill, WhereDone, Reporting}
 use Rattle.sp_top.proofs.Driven.{whole_end, if_some}
 use Rattle.sp_top.proofs.OneCommand.{one_command}
 use Rattle.sp_top.proofs.Running.{only_ended}
@@ -150,21 +151,30 @@ refused_undone (r.Query code at) is = cc
 
 module _ (predictors words : List (List ℕ)) (held : ToldFiles) (old new : Told) where
   -- words that are a run
-  pub of_run : (place : Place) (speed : Speed) → IsCall predictors words (run place speed) → (status : Status) (ended : Option Ended)
+  pub reports_run : (query : QuerySource) (speed : Speed) → IsCall predictors words (run query speed) → (place : Place) → place ≡ place_of query → (status : Status) (ended : Option Ended)
       → WhereDone (ReportsPlace held place speed old new) status ended → Reporting predictors words held old new status ended
-  of_run place speed call status None report = λ _ _ _. report
-  of_run place speed call status (Some e) report = λ done.
+  reports_run query speed call place at status None report = λ _ _ _. report
+  reports_run query speed call place at status (Some e) report = λ done.
       let own = report done in
-      record { place = place; speed = speed; call = call; plan = own.0; taken = own.1; gave = own.2; reports = own.3 }
+      of_run query speed own.1 call (subst (λ (p : Place). IsPlanAt held p e.core.plan) at own.0) own.2 own.3
+
+  -- words that are a drill
+  pub reports_drill : (events seed : ℕ) (speed : Speed) → IsCall predictors words (drill events seed speed) → (status : Status) (ended : Option Ended)
+      → WhereDone (ReportsDrill events seed speed) status ended → Reporting predictors words held old new status ended
+  reports_drill events seed speed call status None report = λ _ _ _. report
+  reports_drill events seed speed call status (Some e) report = λ done. let own = report done in of_drill events seed speed call own.0 own.1
 
   -- words that are no call
-  pub of_none : IsNoCall predictors words → (status : Status) → Reporting predictors words held old new status None
-  of_none none status place speed call = absurd (none (run place speed) call)
+  pub reports_none : IsNoCall predictors words → (status : Status) → Reporting predictors words held old new status None
+  reports_none none status command reported call = absurd (none command call)
 
   -- words that are another command
-  pub of_other : (command : Command) → IsCommand words command → ((place : Place) (speed : Speed) → command ≡ run place speed → ⊥) → (status : Status)
-      → Reporting predictors words held old new status None
-  of_other command is other status place speed call = absurd (other place speed (one_command words command (run place speed) is call.0))
+  pub reports_other : (command : Command) → IsCommand words command → (IsReported command → ⊥) → (status : Status) → Reporting predictors words held old new status None
+  reports_other command is other status asked reported call = absurd (other (subst IsReported (one_command words asked command call.0 is) reported))
+
+  -- words for which there was no memory
+  pub reports_no_memory : Reporting predictors words held old new Memory None
+  reports_no_memory command reported call is = cc is
 
   -- what is reported once the line of the status was told
   pub told : (status line : Status) (ended report : Option Ended) (result : ℕ) → (line ≡ status) ⊎ (line ≡ Memory) → Reporting predictors words held old new status ended
@@ -175,7 +185,7 @@ module _ (predictors words : List (List ℕ)) (held : ToldFiles) (old new : Told
       none undone nonzero = subst (Reported predictors words held old new result) (sym (other undone)) (λ _ _ _. nonzero)
 
       some : line ≡ Done → (o : Option Ended) → Reporting predictors words held old new Done o → Reported predictors words held old new result o
-      some own None given = λ place speed call _. given place speed call refl
+      some own None given = λ command reported call _. given command reported call refl
       some own (Some e) given = (is ∙ ap number_of own, given refl)
 
       status_is : line ≡ Done → status ≡ Done

@@ -1,6 +1,7 @@
 -- Which words are a command whose predictor is there, where its query stands, and which files it names.
-use Rattle.std.specs.Prelude.{◌≡◌, ◌⊎◌, ℕ, List, [], ◌∷◌, ◌++◌, Some}
+use Rattle.std.specs.Prelude.{◌≡◌, ◌⊎◌, ℕ, false, List, [], ◌∷◌, ◌++◌, Some}
 use Rattle.std.specs.List.{Contains}
+use Rattle.sp_io.specs.Outside.{SourceState}
 use Rattle.sp_cli.specs.Commands.{Command, run, plain, trace, drill, QuerySource, text, file, command_of}
 use Rattle.sp_load.specs.Places as places
 use Rattle.sp_load.specs.Places.{Place}
@@ -53,6 +54,10 @@ ReadsInput (run query speed) = Unit {0}
 ReadsInput (plain query) = Unit {0}
 ReadsInput (trace query schedule live) = Unit {0}
 ReadsInput (drill events seed speed) = ⊥
+
+-- where the words are a command that reads the input, this has not ended yet
+abbrev pub IsUnendedFor : List (List ℕ) → SourceState → Type 0
+IsUnendedFor words input = (command : Command) → IsCommand words command → ReadsInput command → input.ended ≡ false
 
 -- the command is a run of the speculative engine, whose end is reported
 abbrev pub IsReported : Command → Type 0

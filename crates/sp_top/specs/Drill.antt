@@ -1,5 +1,6 @@
 -- What a drill comes to: the summary of its query over generated rows.
 use Rattle.std.specs.Prelude.{◌≡◌, ℕ, true, List, [], length}
+use Rattle.sp_io.specs.Outside.{SinkState, Grew, GrewWithin, Rose}
 use Rattle.sp_plan.specs.declared.event.Event.{Event}
 use Rattle.sp_plan.specs.declared.plan.Plan.{Plan}
 use Rattle.sp_plan.specs.Windows.{windows}
@@ -11,7 +12,8 @@ use Rattle.sp_drill.specs.Query.{drill_query}
 use Rattle.sp_intake.specs.Reading.{read}
 use Rattle.sp_load.specs.Queries.{IsPlanFor}
 use Rattle.sp_answer.specs.Outcome.{Outcome, outcome}
-use Rattle.sp_answer.specs.declared.status.Status.TheVariants.{Done}
+use Rattle.sp_answer.specs.declared.status.Status.{Status}
+use Rattle.sp_answer.specs.declared.status.Status.TheVariants.{Done, Memory, Write}
 
 -- the summary of a whole input of these events: how many they are, the windows that they open, the matches of these one after another, and
 -- the events that the matches consume
@@ -27,3 +29,9 @@ drill_text q events seed = summary_of q (read q (generated events seed) true).ev
 -- The outcome of a drill: it is done, and its text is that of a plan of the drill's query.
 abbrev pub DrillOutcome : ℕ → ℕ → Outcome → Type 0
 DrillOutcome events seed o = (q : Plan) × IsPlanFor drill_query q × (o ≡ outcome Done (drill_text q events seed))
+
+-- A line was written by one call, and this status is answered: the output failed, or there was no memory for the line and no call.
+pub data WritesSummary (line : List ℕ) (old new : SinkState) : Status → Type 0 where
+  written : Grew old.held line new.held → new.faults ≡ old.faults → WritesSummary line old new Done
+  failed : GrewWithin old.held line new.held → Rose old.faults new.faults → WritesSummary line old new Write
+  no_memory : new ≡ old → WritesSummary line old new Memory

@@ -55,6 +55,10 @@ ReportsPlan q speed old new e = (e.core.plan ≡ q) × (bytes : List ℕ) × Gav
 abbrev pub ReportsPlace : ToldFiles → Place → Speed → Told → Told → Ended → Type 0
 ReportsPlace held place speed old new e = IsPlanAt held place e.core.plan × (bytes : List ℕ) × Gave old bytes new × Reports speed bytes e
 
+-- a drill over so many rows of this seed ended so
+abbrev pub ReportsDrill : ℕ → ℕ → Speed → Ended → Type 0
+ReportsDrill events seed speed e = IsPlanFor drill_query e.core.plan × Reports speed (generated events seed) e
+
 -- where the status is that it was done, there is an end, and it is such a one
 abbrev pub WhereDone : (Ended → Type 0) → Status → Option Ended → Type 0
 WhereDone Is status (Some e) = status ≡ Done → Is e

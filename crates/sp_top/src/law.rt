@@ -1,7 +1,7 @@
 // Laws of what the program promises.
 ghost use Rattle.sp_top.specs.Alike.{PlansRunAlike};
 ghost use Rattle.sp_top.specs.OneOutcome.{OneOutcome};
-ghost use Rattle.sp_top.specs.Completes.{Completes};
+ghost use Rattle.sp_top.specs.Completes.{Completes, DrillCompletes};
 
 use sp_compile::one_truth;
 use sp_cut::rows_stay;
@@ -41,3 +41,9 @@ pub fn completes()
     one_truth();
     rows_stay();
 }
+
+/// Law: words that give a drill and an output whose count of faults did not rise give status 0 and the
+/// summary, or status 1 for want of memory.
+pub fn drills_complete()
+    ensures { DrillCompletes }
+{}

@@ -2,12 +2,12 @@
 //! own. What it promises is `Promise` of `specs/Outcome.antt`, the contract of `spectre`.
 #![tactic(auto)]
 
+mod asked;
 mod choosing;
-mod command;
+mod drill;
 mod ends;
 mod law;
 mod lines;
-mod options;
 mod output;
 mod plain;
 mod run;
@@ -15,5 +15,5 @@ mod top;
 mod trace;
 mod workshop;
 
-pub use law::{completes, one_outcome, plans_run_alike};
+pub use law::{completes, drills_complete, one_outcome, plans_run_alike};
 pub use top::spectre;

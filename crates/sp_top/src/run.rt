@@ -10,21 +10,21 @@ ghost use Rattle.sp_intake.specs.Standing.{ReadsFrom};
 ghost use Rattle.sp_answer.specs.Outcome.{ending};
 ghost use Rattle.sp_answer.specs.Promise.{filed, Served};
 ghost use Rattle.sp_answer.specs.Ran.{outside, Ran};
+ghost use Rattle.sp_cli.specs.Commands.{speed_seen};
 ghost use Rattle.sp_load.specs.Places.{place_of};
-ghost use Rattle.sp_top.specs.Commands.{files_of, run_of, speed_of};
+ghost use Rattle.sp_top.specs.Commands.{files_at};
 ghost use Rattle.sp_top.specs.Ends as ends;
-ghost use Rattle.sp_top.specs.Outcome.{CommandOutcome};
 ghost use Rattle.sp_top.specs.Report.{ReportsPlace, ReportsPlan, WhereDone};
-ghost use Rattle.sp_top.specs.Run.{IsPlanRun};
+ghost use Rattle.sp_top.specs.Run.{IsPlanRun, RunOutcome};
 
-use crate::command::Run;
+use crate::asked::Run;
 use crate::ends::{status_of, status_of_refusal};
 use crate::lines::Lines;
-use crate::options::Speed;
 use crate::plain::shared;
 use crate::workshop::{Answer, Workshop};
 use sp_answer::Status;
 use sp_chance::Predictor;
+use sp_cli::Speed;
 use sp_core::Core;
 use sp_instance::Gate;
 use sp_intake::{EventReader, Input, Stop};
@@ -62,15 +62,15 @@ fn core_of(alloc: Global, plan: &Arc<Plan>, live: u32) -> Result<Core, Memory>
 fn drive_core<S: Source, K: Sink, G: Gate, R: Threads + Wait + Sync>(
     shop: &Workshop<'_, G, R>,
     core: Core,
-    speed: Speed,
+    speed: &Speed,
     predictor: Box<dyn Predictor>,
     input: &mut Input<'_, S>,
     lines: &mut Lines<'_, K>,
 ) -> Answer
     requires fresh { core ≡ begun core.plan core.bound }
-    requires bound { core.bound ≡ speed.live }
-    requires batch { (1 ≤ speed.batch) × (speed.batch ≤ 1024) }
-    requires instances { speed.instances ≤ 16 }
+    requires bound { core.bound ≡ speed.now.live }
+    requires batch { (1 ≤ speed.now.batch) × (speed.now.batch ≤ 1024) }
+    requires instances { speed.now.instances ≤ 16 }
     requires compiled { IsCompiled core.plan }
     requires plan_in { plan_in input.old.events.reader.kept ≡ core.plan }
     requires unstopped { input.old.events.stops ≡ 0 }
@@ -83,16 +83,12 @@ fn drive_core<S: Source, K: Sink, G: Gate, R: Threads + Wait + Sync>(
         (ending result.status) }
     ensures report { (origin : SourceState)
         → ReadsFrom core.plan origin (standing (S.state input.old.source.now) input.old.events)
-        → WhereDone (ReportsPlan core.plan (speed_of speed.entry)
+        → WhereDone (ReportsPlan core.plan (speed_seen speed.now)
         origin.left (S.state input.new.source.now).left) result.status result.ended }
     ensures same_in { input.new.source.ghost_name ≡ input.old.source.ghost_name }
     ensures same_out { lines.new.out.ghost_name ≡ lines.old.out.ghost_name }
 {
-    let Speed {
-        instances,
-        batch,
-        ..
-    } = speed;
+    let (instances, batch) = (speed.instances, speed.batch);
     let Workshop { rt, alloc, gate } = shop;
     // A law: while the input has not ended, the matches so far begin those of any longer input.
     growth();
@@ -116,25 +112,25 @@ fn take_back<T>(lent: &mut T)
     ensures { lent.new ≡ lent.old }
 {}
 
-// Runs a plan over the input.
-fn run_plan<S: Source, K: Sink, G: Gate, R: Threads + Wait + Sync>(
+/// Runs a plan over the input.
+pub(crate) fn run_plan<S: Source, K: Sink, G: Gate, R: Threads + Wait + Sync>(
     shop: &Workshop<'_, G, R>,
     plan: Plan,
-    speed: Speed,
+    speed: &Speed,
     predictor: Box<dyn Predictor>,
     input: &mut S,
     out: &mut K,
 ) -> Answer
     requires compiled { IsCompiled plan }
-    requires live { (1 ≤ speed.live) × (speed.live ≤ 4096) }
-    requires batch { (1 ≤ speed.batch) × (speed.batch ≤ 1024) }
-    requires instances { speed.instances ≤ 16 }
+    requires live { (1 ≤ speed.now.live) × (speed.now.live ≤ 4096) }
+    requires batch { (1 ≤ speed.now.batch) × (speed.now.batch ≤ 1024) }
+    requires instances { speed.now.instances ≤ 16 }
     requires not_ended { (S.state input.old).ended ≡ false }
     ensures ran { Ran (IsPlanRun plan)
         (outside (S.state input.old) (K.state out.old))
         (outside (S.state input.new) (K.state out.new))
         (ending result.status) }
-    ensures report { WhereDone (ReportsPlan plan (speed_of speed.entry)
+    ensures report { WhereDone (ReportsPlan plan (speed_seen speed.now)
         (S.state input.old).left (S.state input.new).left) result.status result.ended }
 {
     let alloc = shop.alloc;
@@ -165,18 +161,19 @@ pub(crate) fn run<S: Source, F: Files, K: Sink, G: Gate, R: Threads + Wait + Syn
     files: &mut F,
     out: &mut K,
 ) -> Answer
-    requires live { (1 ≤ asked.speed.live) × (asked.speed.live ≤ 4096) }
-    requires batch { (1 ≤ asked.speed.batch) × (asked.speed.batch ≤ 1024) }
-    requires instances { asked.speed.instances ≤ 16 }
+    requires live { (1 ≤ asked.speed.now.live) × (asked.speed.now.live ≤ 4096) }
+    requires batch { (1 ≤ asked.speed.now.batch) × (asked.speed.now.batch ≤ 1024) }
+    requires instances { asked.speed.now.instances ≤ 16 }
     requires not_ended { (S.state input.old).ended ≡ false }
-    ensures served { Served (files_of (run_of asked.entry)) (CommandOutcome (run_of asked.entry))
+    ensures served { Served (files_at (place_of asked.entry.place))
+        (RunOutcome (place_of asked.entry.place))
         (filed (F.held files.old) (F.faults files.old))
         (filed (F.held files.new) (F.faults files.new))
         (outside (S.state input.old) (K.state out.old))
         (outside (S.state input.new) (K.state out.new))
         (ending result.status) }
     ensures report { WhereDone (ReportsPlace (F.held files.old) (place_of asked.entry.place)
-        (speed_of asked.entry.speed) (S.state input.old).left (S.state input.new).left)
+        (speed_seen asked.entry.speed.now) (S.state input.old).left (S.state input.new).left)
         result.status result.ended }
 {
     match plan_at(shop.alloc, asked.place, files) {

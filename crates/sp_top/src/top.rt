@@ -1,25 +1,86 @@
 // The words, and the answer to them.
-ghost use Rattle.std.specs.Prelude.{◌≡◌, ◌≢◌, false, None, map, string_bytes};
+ghost use Rattle.std.specs.Prelude.{◌≡◌, ◌≢◌, ℕ, List, false, None, map, string_bytes};
 ghost use Rattle.sp_answer.specs.Promise.{filed};
 ghost use Rattle.sp_answer.specs.Ran.{outside};
 ghost use Rattle.sp_answer.specs.declared.status.Status.TheVariants.{Done};
+ghost use Rattle.sp_cli.specs.Commands.{seen};
+ghost use Rattle.sp_cli.specs.Limits.{IsWithin};
+ghost use Rattle.sp_top.specs.Commands.{IsCommand, IsUnendedFor, ReadsInput};
 ghost use Rattle.sp_top.specs.Outcome.{Answers, Promise};
 ghost use Rattle.sp_top.specs.Report.{Reported, Reporting};
 
+use crate::asked::{Run, Trace, place_of};
 use crate::choosing::choose;
-use crate::command::{Command, asked};
+use crate::drill::drill;
 use crate::plain::plain;
 use crate::run::run;
 use crate::trace::trace;
 use crate::workshop::{Answer, Workshop};
 use sp_answer::{Status, tell};
 use sp_chance::Predictor;
+use sp_cli::{Command, UsageFault, numbers_are_within, read_words};
 use sp_instance::Gate;
 use sp_io::{Files, Sink, Source};
 use sp_split::Ended;
 use std::alloc::Global;
 use std::sync::Wait;
 use std::thread::Threads;
+
+// Does what a command asks. What it comes to is an answer to all words that are this command.
+fn carry_out<S: Source, F: Files, K: Sink, G: Gate, R: Threads + Wait + Sync>(
+    shop: &Workshop<'_, G, R>,
+    command: &Command,
+    input: &mut S,
+    files: &mut F,
+    out: &mut K,
+    predictors: Vec<Box<dyn Predictor>>,
+) -> Answer
+    requires within { IsWithin (seen command.now) }
+    requires not_ended { ReadsInput (seen command.now) → (S.state input.old).ended ≡ false }
+    ensures answers { (words : List (List ℕ)) → IsCommand words (seen command.now)
+        → Answers (map (λ one. named one) predictors.items) words
+        (filed (F.held files.old) (F.faults files.old))
+        (filed (F.held files.new) (F.faults files.new))
+        (outside (S.state input.old) (K.state out.old))
+        (outside (S.state input.new) (K.state out.new))
+        result.status }
+    ensures report { (words : List (List ℕ)) → IsCommand words (seen command.now)
+        → Reporting (map (λ one. named one) predictors.items) words (F.held files.old)
+        (S.state input.old).left (S.state input.new).left result.status result.ended }
+{
+    match command {
+        Command::Run { query, speed } => match choose(predictors, &speed.predictor) {
+            Some(predictor) => {
+                let place = place_of(query);
+                run(shop, Run { place, speed }, predictor, input, files, out)
+            }
+            None => Answer::of(Status::Usage),
+        },
+        Command::Plain { query } => {
+            Answer::of(plain(shop.alloc, place_of(query), input, files, out))
+        }
+        Command::Trace {
+            query,
+            schedule,
+            live,
+        } => {
+            let asked = Trace {
+                place: place_of(query),
+                schedule: schedule.as_str(),
+                live: *live,
+            };
+            Answer::of(trace(shop.alloc, asked, input, files, out))
+        }
+        Command::Drill {
+            events,
+            seed,
+            speed,
+        } => match choose(predictors, &speed.predictor) {
+            Some(predictor) => drill(shop, *events, *seed, speed, predictor, out),
+            None => Answer::of(Status::Usage),
+        },
+    }
+}
 
 // The status, before its line is written, and what a run ended with.
 fn answer<S: Source, F: Files, K: Sink, G: Gate, R: Threads + Wait + Sync>(
@@ -30,7 +91,7 @@ fn answer<S: Source, F: Files, K: Sink, G: Gate, R: Threads + Wait + Sync>(
     out: &mut K,
     predictors: Vec<Box<dyn Predictor>>,
 ) -> Answer
-    requires not_ended { (S.state input.old).ended ≡ false }
+    requires not_ended { IsUnendedFor (map string_bytes words.now) (S.state input.old) }
     ensures answers { Answers (map (λ one. named one) predictors.items) (map string_bytes words.now)
         (filed (F.held files.old) (F.faults files.old))
         (filed (F.held files.new) (F.faults files.new))
@@ -41,15 +102,12 @@ fn answer<S: Source, F: Files, K: Sink, G: Gate, R: Threads + Wait + Sync>(
         (map string_bytes words.now) (F.held files.old)
         (S.state input.old).left (S.state input.new).left result.status result.ended }
 {
-    let alloc = shop.alloc;
-    match asked(words) {
-        Some(Command::Run(one)) => match choose(predictors, one.speed.predictor) {
-            Some(predictor) => run(shop, one, predictor, input, files, out),
-            None => Answer::of(Status::Usage),
-        },
-        Some(Command::Plain(place)) => Answer::of(plain(alloc, place, input, files, out)),
-        Some(Command::Trace(one)) => Answer::of(trace(alloc, one, input, files, out)),
-        None => Answer::of(Status::Usage),
+    // a law: the numbers that words say are within their limits
+    numbers_are_within();
+    match read_words(shop.alloc, words) {
+        Ok(command) => carry_out(shop, &command, input, files, out, predictors),
+        Err(UsageFault::Usage) => Answer::of(Status::Usage),
+        Err(UsageFault::Memory) => Answer::of(Status::Memory),
     }
 }
 
@@ -84,7 +142,7 @@ pub fn spectre<S: Source, F: Files, K: Sink, E: Sink, G: Gate, R: Threads + Wait
     predictors: Vec<Box<dyn Predictor>>,
     report: &mut Option<Ended>,
 ) -> u8
-    requires not_ended { (S.state input.old).ended ≡ false }
+    requires not_ended { IsUnendedFor (map string_bytes words.now) (S.state input.old) }
     ensures promise { Promise (map (λ one. named one) predictors.items) (map string_bytes words.now)
         (filed (F.held files.old) (F.faults files.old))
         (filed (F.held files.new) (F.faults files.new))

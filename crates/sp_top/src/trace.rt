@@ -12,8 +12,7 @@ ghost use Rattle.sp_answer.specs.Outcome.{ending};
 ghost use Rattle.sp_answer.specs.Promise.{filed, Served};
 ghost use Rattle.sp_answer.specs.Ran.{outside, Ran};
 ghost use Rattle.sp_answer.specs.Written.{WritesText};
-ghost use Rattle.sp_top.specs.Commands.{files_at, files_of, trace_of};
-ghost use Rattle.sp_top.specs.Outcome.{CommandOutcome};
+ghost use Rattle.sp_top.specs.Commands.{files_at};
 ghost use Rattle.sp_top.specs.Trace.{
   AnswersTexts,
   HasSchedule,
@@ -22,9 +21,10 @@ ghost use Rattle.sp_top.specs.Trace.{
   RefusesTexts,
   RefusesTrace,
   TextsOutcome,
+  TraceOutcome,
 };
 
-use crate::command::Trace;
+use crate::asked::Trace;
 use crate::ends::{status_of, status_of_refusal};
 use crate::output::write_texts;
 use crate::plain::shared;
@@ -200,7 +200,9 @@ pub(crate) fn trace<S: Source, F: Files, K: Sink>(
     requires some { 1 ≤ asked.live }
     requires most { asked.live ≤ 4096 }
     requires not_ended { (S.state input.old).ended ≡ false }
-    ensures { Served (files_of (trace_of asked.entry)) (CommandOutcome (trace_of asked.entry))
+    ensures { let place = place_of asked.entry.place in
+        let name = asked.entry.schedule.now in
+        Served (files_at place ++ name ∷ []) (TraceOutcome place name asked.entry.live)
         (filed (F.held files.old) (F.faults files.old))
         (filed (F.held files.new) (F.faults files.new))
         (outside (S.state input.old) (K.state out.old))

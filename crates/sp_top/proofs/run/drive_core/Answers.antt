@@ -8,7 +8,7 @@ use Rattle.sp_answer.specs.Outcome.{ending}
 use Rattle.sp_answer.specs.Ran.{outside, Ran}
 use Rattle.sp_answer.specs.declared.status.Status.{Status}
 use Rattle.sp_split.specs.declared.ended.Went.{Went}
-use Rattle.sp_top.specs.Commands.{speed_of}
+use Rattle.sp_cli.specs.Commands.{speed_seen}
 use Rattle.sp_top.specs.Ends.{status_of_end}
 use Rattle.sp_top.specs.Run.{IsPlanRun}
 use Rattle.sp_top.specs.declared.workshop.Answer.{Answer}
@@ -48,7 +48,7 @@ returns-in-Ok-clause-report g c origin reads done =
     let replays = sym (ap (replay core.plan core.bound) c.journal.ensures.entries) ∙ c.journal.ensures.replays in
     reports_plan c.args.core origin first last reads (Rose old.events.stops new.events.stops)
     (halts new.events.state old.events.stops new.events.stops c.stop.ensures.halted) (outlet before c.args.lines.now.taken) (outlet after c.drive.new.outlet.taken)
-    (speed_of c.args.speed) c.in-Ok.ended c.in-Ok.ensures.ended c.requires.bound replays c.in-Ok.ensures.about
+    (speed_seen c.args.speed.now) c.in-Ok.ended c.in-Ok.ensures.ended c.requires.bound replays c.in-Ok.ensures.about
     (sym (c.status_of_end-status.ensures ∙ ap (status_of_end c.in-Ok.ended.why) c.stop.ensures.stop) ∙ done)
 
 pub returns-in-Err-clause-ran : goal.returns-in-Err-clause-ran

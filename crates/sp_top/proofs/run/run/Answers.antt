@@ -3,7 +3,8 @@ use Rattle.sp_load.specs.Places.{place_of}
 use Rattle.sp_answer.specs.Outcome.{ending}
 use Rattle.sp_answer.specs.Promise.{Filed, filed, Served}
 use Rattle.sp_answer.specs.Ran.{Outside, outside}
-use Rattle.sp_top.specs.Commands.{files_at, speed_of}
+use Rattle.sp_cli.specs.Commands.{speed_seen}
+use Rattle.sp_top.specs.Commands.{files_at}
 use Rattle.sp_top.specs.Run.{RunOutcome}
 use Rattle.sp_top.specs.Report.{ReportsPlace, WhereDone}
 use Rattle.sp_top.specs.declared.workshop.Answer.{Answer}
@@ -21,7 +22,7 @@ returns-in-Ok-clause-served g c =
 
 pub returns-in-Ok-clause-report : goal.returns-in-Ok-clause-report
 returns-in-Ok-clause-report g c =
-    of_place (g.F.Files.held c.args.files.now) (place_of c.args.asked.place) (speed_of c.args.asked.speed) _ _ c.in-Ok.plan c.in-Ok.ensures.plan c.run_plan.result.status c.run_plan.result.ended c.run_plan.ensures.report
+    of_place (g.F.Files.held c.args.files.now) (place_of c.args.asked.place) (speed_seen c.args.asked.speed.now) _ _ c.in-Ok.plan c.in-Ok.ensures.plan c.run_plan.result.status c.run_plan.result.ended c.run_plan.ensures.report
 
 pub returns-in-Err-clause-served : goal.returns-in-Err-clause-served
 returns-in-Err-clause-served g c =
@@ -37,5 +38,5 @@ returns-in-Err-clause-served g c =
 pub returns-in-Err-clause-report : goal.returns-in-Err-clause-report
 returns-in-Err-clause-report g c =
     let left = (g.S.Source.state c.args.input.now).left in
-    subst (λ (a : Answer). WhereDone (ReportsPlace (g.F.Files.held c.args.files.now) (place_of c.args.asked.place) (speed_of c.args.asked.speed) left left) a.status a.ended) (sym c.of.ensures)
+    subst (λ (a : Answer). WhereDone (ReportsPlace (g.F.Files.held c.args.files.now) (place_of c.args.asked.place) (speed_seen c.args.asked.speed.now) left left) a.status a.ended) (sym c.of.ensures)
     (λ done. refused_undone c.in-Err.refusal (sym c.status_of_refusal.ensures ∙ done))

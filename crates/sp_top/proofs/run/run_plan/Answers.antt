@@ -8,7 +8,7 @@ use Rattle.sp_intake.proofs.Gave.{gave_none}
 use Rattle.sp_intake.proofs.Since.{no_further_none}
 use Rattle.sp_answer.specs.Outcome.{ending}
 use Rattle.sp_answer.specs.Ran.{Outside, outside, Ran}
-use Rattle.sp_top.specs.Commands.{speed_of}
+use Rattle.sp_cli.specs.Commands.{speed_seen}
 use Rattle.sp_top.specs.Run.{windows_text, IsPlanRun}
 use Rattle.sp_top.specs.declared.workshop.Answer.{Answer}
 use Rattle.sp_top.proofs.Running.{unread}
@@ -57,4 +57,4 @@ returns-clause-report g c =
     let core_is : c.in-Ok-core_of.core.plan ≡ q = ap (λ (core : Running). core.plan) c.in-Ok-core_of.ensures in
     let from : ReadsFrom q origin first = rw (c.over-reading.ensures.events, c.over-reading.ensures.source) (c.in-Ok-new.ensures.fresh origin c.requires.not_ended) in
     let report = c.drive_core-answer.ensures.report origin (subst (λ (p : Plan). ReadsFrom p origin first) (sym core_is) from) in
-    as_report c.args.plan c.in-Ok-core_of.core.plan (core_is ∙ c.in-Ok.ensures) (speed_of c.args.speed) origin.left _ _ (search rules) _ _ report
+    as_report c.args.plan c.in-Ok-core_of.core.plan (core_is ∙ c.in-Ok.ensures) (speed_seen c.args.speed.now) origin.left _ _ (search rules) _ _ report

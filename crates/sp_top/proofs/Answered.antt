@@ -1,0 +1,82 @@
+-- What was answered to a command, as an answer to its words.
+use Rattle.std.proofs.Common.{◌⊎◌, ◌≡◌, inl, inr, ℕ, List, [], Option, Some, None, refl, sym, subst, ◌∙◌, arith}
+use Rattle.sp_answer.specs.Outcome.{ending}
+use Rattle.sp_answer.specs.Ran.{Outside, Made}
+use Rattle.sp_answer.specs.Promise.{Filed, Served, by_memory, by_refusal, by_itself}
+use Rattle.sp_answer.specs.declared.status.Status.{Status}
+use Rattle.sp_answer.specs.declared.status.Status.TheVariants.{Memory, Usage}
+use Rattle.sp_answer.proofs.Answering.{served_weaker}
+use Rattle.sp_cli.specs.Commands.{Command, Speed, run, plain, trace, drill, command_of}
+use Rattle.sp_top.specs.Commands.{IsCommand, HasPredictor, IsCall, IsNoCall, files_of, GivesFiles}
+use Rattle.sp_top.specs.Drill.{DrillOutcome}
+use Rattle.sp_top.specs.Outcome.{Answers, CommandOutcome, IsOutcome}
+use Rattle.sp_top.proofs.Chosen.{is_there}
+use Rattle.sp_top.proofs.OneCommand.{one_command}
+
+pub answers : (predictors words : List (List ℕ)) (command : Command) → IsCall predictors words command → (before after : Filed) (old new : Outside) (s : Status)
+    → Served (files_of command) (CommandOutcome command) before after old new (ending s) → Answers predictors words before after old new s
+answers predictors words command is before after old new s served =
+    (files_of command, inr (command, is, refl), served_weaker (files_of command) before after old new (CommandOutcome command) (IsOutcome predictors words) (ending s) (λ b e o given. inr (command, is, given)) served)
+
+-- a command whose predictor is not there is no call
+pub no_call : (predictors words : List (List ℕ)) (command : Command) → IsCommand words command → (HasPredictor predictors command → ⊥) → IsNoCall predictors words
+no_call predictors words command is none other call = none (subst (HasPredictor predictors) (one_command words other command call.0 is) call.1)
+
+-- words that are no command are no call
+pub no_command : (predictors words : List (List ℕ)) → command_of words ≡ None → IsNoCall predictors words
+no_command predictors words none command call = let clash : Some command ≡ None = sym call.0 ∙ none in absurd (cc clash)
+
+-- words that are no call are refused
+pub refused : (predictors words : List (List ℕ)) → IsNoCall predictors words → (before : Filed) (old : Outside) → Answers predictors words before before old old Usage
+refused predictors words none before old = (
+  [],
+  inl (none, refl),
+  record {
+    answered = by_refusal (record { is = λ bytes ended. inl (none, refl); line = refl; same = refl });
+    file_told = λ name own rose. absurd (omega (arith, own.1));
+    files = refl;
+    counts = inl (λ name. refl);
+  },
+)
+
+-- a drill opens no file
+pub drilled : (predictors words : List (List ℕ)) (events seed : ℕ) (speed : Speed) → IsCall predictors words (drill events seed speed) → (before : Filed) (old new : Outside) (s : Status)
+    → Made (λ bytes ended. DrillOutcome events seed) old new (ending s) → Answers predictors words before before old new s
+drilled predictors words events seed speed is before old new s made = answers predictors words (drill events seed speed) is before before old new s (record {
+  answered = by_itself made;
+  file_told = λ name own rose. absurd (omega (arith, own.1));
+  files = refl;
+  counts = inl (λ name. refl);
+})
+
+-- ---- want of memory
+
+-- the predictor of a command is there or not
+has_predictor : (predictors : List (List ℕ)) (command : Command) → HasPredictor predictors command ⊎ (HasPredictor predictors command → ⊥)
+has_predictor predictors (run query speed) = is_there speed.predictor predictors
+has_predictor predictors (plain query) = inl tt
+has_predictor predictors (trace query schedule live) = inl tt
+has_predictor predictors (drill events seed speed) = is_there speed.predictor predictors
+
+-- whatever the words are, they give names of files
+gives_names : (predictors words : List (List ℕ)) (command : Option Command) → command_of words ≡ command → (names : List (List ℕ)) × GivesFiles predictors words names
+gives_names predictors words None is = ([], inl (no_command predictors words is, refl))
+gives_names predictors words (Some command) is = by (has_predictor predictors command)
+  where
+    by : HasPredictor predictors command ⊎ (HasPredictor predictors command → ⊥) → (names : List (List ℕ)) × GivesFiles predictors words names
+    by (inl there) = (files_of command, inr (command, (is, there), refl))
+    by (inr none) = ([], inl (no_call predictors words command is none, refl))
+
+-- memory ran out before the command was known
+pub no_memory : (predictors words : List (List ℕ)) (before : Filed) (old : Outside) → Answers predictors words before before old old Memory
+no_memory predictors words before old =
+    let given = gives_names predictors words (command_of words) refl in (
+      given.0,
+      given.1,
+      record {
+        answered = by_memory refl refl;
+        file_told = λ name own rose. (inr refl, refl);
+        files = refl;
+        counts = inl (λ name. refl);
+      },
+    )

@@ -1,0 +1,184 @@
+-- A drill: its plan, its run over generated rows, its summary, and that it is done where no fault stands in the way.
+use Rattle.std.proofs.Common.{◌⊎◌, ◌≡◌, ◌≢◌, ◌≤◌, inl, inr, ⊎_elim, ℕ, Bool, true, false, List, [], length, Option, Some, None, Ok, Err, refl, sym, ◌∙◌, ap, subst, arith}
+use Rattle.std.specs.Prelude.{Result, IfErr}
+use Rattle.std.specs.List.{Contains}
+use Rattle.sp_cut.specs.Growth.{RowsStay}
+use Rattle.sp_io.specs.Outside.{Told, ToldFiles, SourceState, SinkState, Gave, Grew, GrewWithin, IsUsedUp, Rose}
+use Rattle.sp_plan.specs.declared.event.Event.{Event}
+use Rattle.sp_plan.specs.declared.found.Match.{Match}
+use Rattle.sp_plan.specs.declared.plan.Plan.{Plan}
+use Rattle.sp_plan.specs.Sequential.{Progress, seq, whole}
+use Rattle.sp_plan.specs.Windows.{closed, windows}
+use Rattle.sp_group.specs.Rising.{with_numbers}
+use Rattle.sp_emit.specs.Summary.{summary}
+use Rattle.sp_gen.specs.Generated.{generated}
+use Rattle.sp_drill.specs.Drill.{GeneratedRowsAreRead}
+use Rattle.sp_drill.specs.Query.{drill_query, DrillQueryHasPlan}
+use Rattle.sp_intake.specs.Reading.{read}
+use Rattle.sp_load.specs.Queries.{IsPlanFor, RefusesText}
+use Rattle.sp_load.specs.Laws.{OneReading}
+use Rattle.sp_load.specs.declared.refusal.Refusal.{Refusal}
+use Rattle.sp_load.specs.declared.refusal.Refusal.TheVariants as r
+use Rattle.sp_answer.specs.declared.status.Status.{Status}
+use Rattle.sp_answer.specs.declared.status.Status.TheVariants.{Done, Memory, Read, Write}
+use Rattle.sp_answer.specs.Outcome.{Outcome, Ending, ending, number_of, outcome, nothing_for}
+use Rattle.sp_answer.specs.Ran.{Outside, outside, Ran, Made}
+use Rattle.sp_answer.specs.Promise.{Filed, Answered, by_memory, by_file, by_refusal, by_run, by_itself}
+use Rattle.sp_answer.proofs.Answering.{made_none}
+use Rattle.sp_answer.proofs.Grew.{grew_whole}
+use Rattle.sp_split.specs.declared.ended.Ended.{Ended}
+use Rattle.sp_cli.specs.Commands.{Command, Speed, drill}
+use Rattle.sp_top.specs.Commands.{IsCall, GivesFiles, files_of}
+use Rattle.sp_top.specs.Completes.{ReadsToEnd, IsDrilled, DrillCompletes}
+use Rattle.sp_top.specs.Drill.{summary_of, drill_text, DrillOutcome, WritesSummary, written, failed, no_memory}
+use Rattle.sp_top.specs.Outcome.{IsOutcome, CommandOutcome}
+use Rattle.sp_top.specs.Report.{Reports, ReportsPlan, ReportsDrill, WhereDone}
+use Rattle.sp_top.specs.Run.{windows_text, IsPlanRun}
+use Rattle.sp_top.proofs.Completing.{gave_all, cut_by, ran_done}
+use Rattle.sp_top.proofs.OneCommand.{one_command}
+use Rattle.sp_top.proofs.Reporting.{all_closed}
+
+-- ---- its plan
+
+-- a query that has a plan is refused for want of memory alone
+pub only_memory : OneReading → DrillQueryHasPlan → (refusal : Refusal) → RefusesText drill_query refusal → refusal ≡ r.Memory
+only_memory reading has r.Memory refuses = refl
+only_memory reading has (r.Query code at) refuses = absurd (reading.apart drill_query has.plan code at has.is refuses)
+only_memory reading has r.Read refuses = absurd refuses
+only_memory reading has (r.Limited limit) refuses = absurd refuses
+
+pub memory_alone : OneReading → DrillQueryHasPlan → (result : Result Plan Refusal) → IfErr result (RefusesText drill_query) → IfErr result (λ refusal. refusal ≡ r.Memory)
+memory_alone reading has (Ok plan) refused = tt
+memory_alone reading has (Err refusal) refused = only_memory reading has refusal refused
+
+-- ---- its run
+
+-- no fault was counted where none can be
+pub quiet : Rose 0 0 → ⊥
+quiet (inl rose) = omega (arith, rose)
+quiet (inr full) = omega (arith, full)
+
+-- where there is an end and a run was done, it is such a one
+pub end_of : (Is : Ended → Type 0) (s : Status) (o : Option Ended) (e : Ended) → s ≡ Done → o ≡ Some e → WhereDone Is s o → Is e
+end_of Is s o e done some report = subst (λ (x : Option Ended). WhereDone Is Done x) some (subst (λ (t : Status). WhereDone Is t o) done report) refl
+
+-- it was fed as many events as there are rows
+pub few_events : GeneratedRowsAreRead → DrillQueryHasPlan → (events seed : ℕ) (speed : Speed) (e : Ended) → events ≤ 1048576 → ReportsDrill events seed speed e → length e.core.machine.events ≤ 1048576
+few_events rows has events seed speed e few own =
+    let count : length e.core.machine.events ≡ events = ap length own.1.events ∙ (rows e.core.plan events seed (has.reads e.core.plan own.0) few).count in
+    subst (λ (n : ℕ). n ≤ 1048576) (sym count) few
+
+module _ (stay : RowsStay) (has : DrillQueryHasPlan) (rows : GeneratedRowsAreRead) (q : Plan) (is : IsPlanFor drill_query q) (events seed : ℕ) (few : events ≤ 1048576) (old new : Outside)
+    (told : old.input.left ≡ Some (generated events seed)) (no_read : Rose old.input.faults new.input.faults → ⊥) (no_write : Rose old.out.faults new.out.faults → ⊥)
+    (used_up : new.input.ended ≡ true → IsUsedUp new.input.left) (s : Status) (ran : Ran (IsPlanRun q) old new (ending s)) where
+  reads : ReadsToEnd q old.input (generated events seed)
+  reads = record { told = told; stop = (rows q events seed (has.reads q is) few).stop }
+
+  -- the rows are read to their end
+  pub rows_done : (s ≡ Done) ⊎ (s ≡ Memory)
+  rows_done = ⊎_elim (λ done. inl done.0) (λ memory. inr memory)
+      (ran_done stay (IsPlanRun q) old new q (generated events seed) (windows_text q) (λ b e o own. own) reads no_read no_write used_up (ending s) ran)
+
+  -- and the run over them is that of the drill
+  pub rows_reported : (speed : Speed) (ended : Option Ended) → WhereDone (ReportsPlan q speed old.input.left new.input.left) s ended → WhereDone (ReportsDrill events seed speed) s ended
+  rows_reported speed None report = report
+  rows_reported speed (Some e) report = λ done.
+      let own = report done in
+      let all = gave_all (generated events seed) own.1 new.input.left (subst (λ (t : Told). Gave t own.1 new.input.left) told own.2) (used_up (ran.read_whole done)) in
+      (subst (IsPlanFor drill_query) (sym own.0) is, subst (λ (bytes : List ℕ). Reports speed bytes e) all.0 own.3)
+
+-- ---- its summary
+
+-- what a core has where all windows are finished is what its summary counts
+pub summary_is : (q : Plan) (events : List Event) (finished : ℕ) (emitted : List Match) (consumed : List ℕ) → finished ≡ length (windows q events true) → emitted ≡ (seq q events finished).matches
+    → consumed ≡ with_numbers [] (seq q events finished).consumed → summary (length events) finished (length emitted) (length consumed) ≡ summary_of q events
+summary_is q events finished emitted consumed all matches used =
+    let same : finished ≡ closed q events true = all ∙ sym (all_closed q events) in
+    λ i. summary (length events) (all i)
+    (length ((matches ∙ ap (λ (n : ℕ). (seq q events n).matches) same) i)) (length ((used ∙ ap (λ (n : ℕ). with_numbers [] (seq q events n).consumed) same) i))
+
+-- a summary is no empty line
+summary_some : (a b c d : ℕ) → summary a b c d ≢ []
+summary_some a b c d is = cc is
+
+text_some : (q : Plan) (events seed : ℕ) → drill_text q events seed ≢ []
+text_some q events seed =
+    let es = (read q (generated events seed) true).events in
+    let progress = whole q es true in
+    summary_some (length es) (length (windows q es true)) (length progress.matches) (length (with_numbers [] progress.consumed))
+
+module _ (q : Plan) (is : IsPlanFor drill_query q) (events seed : ℕ) (input : SourceState) where
+  -- memory ran out before a summary was written
+  pub made_unwritten : (old : SinkState) → Made (λ bytes ended. DrillOutcome events seed) (outside input old) (outside input old) (ending Memory)
+  made_unwritten old = made_none (λ bytes ended. DrillOutcome events seed) (outside input old) (outcome Done (drill_text q events seed)) (λ b e. (q, is, refl))
+
+  -- a summary that was written is the text of the drill
+  pub made_summary : (line : List ℕ) → line ≡ drill_text q events seed → (old new : SinkState) (s : Status) → WritesSummary line old new s
+      → Made (λ bytes ended. DrillOutcome events seed) (outside input old) (outside input new) (ending s)
+  made_summary line own old new _ (written grew quiet) = record {
+    outcome = outcome Done (drill_text q events seed);
+    is = λ b e. (q, is, refl);
+    unread = refl;
+    exact = λ _ _. (refl, subst (λ (l : List ℕ). Grew old.held l new.held) own grew);
+    cut_off = λ which. absurd (⊎_elim (λ e. cc) (λ e. cc) which);
+    write_fault = λ e. cc;
+    write_told = λ rose. absurd (omega (arith, rose, quiet));
+  }
+  made_summary line own old new _ (failed within rose) = record {
+    outcome = outcome Done (drill_text q events seed);
+    is = λ b e. (q, is, refl);
+    unread = refl;
+    exact = λ _ other. absurd (other refl);
+    cut_off = λ _. (refl, subst (λ (l : List ℕ). GrewWithin old.held l new.held) own within);
+    write_fault = λ _. (rose, text_some q events seed);
+    write_told = λ _. inl refl;
+  }
+  made_summary line own old new _ (no_memory same) =
+      subst (λ (k : SinkState). Made (λ bytes ended. DrillOutcome events seed) (outside input old) (outside input k) (ending Memory)) (sym same) (made_unwritten old)
+
+-- ---- whatever call keeps the promise
+
+module _ (predictors words : List (List ℕ)) (held : ToldFiles) (events seed : ℕ) (speed : Speed) (call : IsCall predictors words (drill events seed speed)) where
+  -- words that are a drill have its outcomes alone
+  drill_only : (bytes : List ℕ) (ended : Bool) (o : Outcome) → IsOutcome predictors words held bytes ended o → DrillOutcome events seed o
+  drill_only bytes ended o (inl none) = absurd (none.0 (drill events seed speed) call)
+  drill_only bytes ended o (inr at) =
+      subst (λ (c : Command). CommandOutcome c held bytes ended o) (one_command words at.0 (drill events seed speed) at.1.0 call.0) at.2
+
+  -- and give no file
+  no_file : (names : List (List ℕ)) → GivesFiles predictors words names → names ≡ []
+  no_file names (inl none) = none.1
+  no_file names (inr at) = at.2 ∙ ap files_of (one_command words at.0 (drill events seed speed) at.1.0 call.0)
+
+  module _ (names : List (List ℕ)) (given : GivesFiles predictors words names) (before after : Filed) (old new : Outside) (no_write : Rose old.out.faults new.out.faults → ⊥) where
+    drill_done : (end : Ending) → Answered names (IsOutcome predictors words held) before after old new end → IsDrilled events seed old.out new.out (number_of end.status) ⊎ (end.status ≡ Memory)
+    drill_done end (by_memory memory same) = inr (ap (λ (e : Ending). e.status) memory)
+    drill_done end (by_file fault) =
+        let own : Contains [] fault.name = subst (λ (ns : List (List ℕ)). Contains ns fault.name) (no_file names given) fault.own in
+        absurd (omega (arith, own.1))
+    drill_done end (by_refusal refused) =
+        let own = drill_only [] true _ (refused.is [] true) in
+        absurd (text_some own.0 events seed (sym (ap (λ (o : Outcome). o.text) own.2)))
+    drill_done end (by_run ran) =
+        let own = drill_only ran.no_further.front false ran.no_further.outcome ran.no_further.goes_on in
+        let clash : Done ≡ Read = sym (ap (λ (o : Outcome). o.status) own.2) ∙ ran.no_further.is_open in
+        absurd (cc clash)
+    drill_done end (by_itself made) = by (cut_by end.status)
+      where
+        by : (end.status ≡ Memory) ⊎ ((end.status ≡ Write) ⊎ ((end.status ≢ Memory) × (end.status ≢ Write))) → IsDrilled events seed old.out new.out (number_of end.status) ⊎ (end.status ≡ Memory)
+        by (inl memory) = inr memory
+        by (inr (inl write)) = absurd (no_write (made.write_fault write).0)
+        by (inr (inr neither)) =
+            let own = drill_only [] true made.outcome (made.is [] true) in
+            let exact = made.exact neither.0 neither.1 in
+            inl (record {
+              plan = own.0;
+              is = own.1;
+              number = ap number_of (ap (λ (e : Ending). e.status) exact.0 ∙ ap (λ (o : Outcome). o.status) own.2);
+              text = subst (λ (o : Outcome). Grew old.out.held o.text new.out.held) own.2 exact.1;
+            })
+
+pub drills_complete : DrillCompletes
+drills_complete predictors words before after old new err_old err_new result events seed speed promise call no_write =
+    ⊎_elim (λ done. inl (subst (IsDrilled events seed old.out new.out) (sym promise.number) done)) (λ memory. inr (promise.number ∙ ap number_of memory))
+    (drill_done predictors words before.held events seed speed call promise.names promise.given before after old new no_write promise.end promise.served.answered)
