@@ -104,11 +104,11 @@ impl Call {
         })
     }
 
-    /// Whether it is a run of the whole program whose words name no number of instances.
+    /// Whether it is a run or a drill of the whole program whose words name no number of instances.
     pub(crate) fn leaves_instances(&self) -> bool {
         let words = self.words.as_slice();
         let is_run = match words {
-            [first, ..] => first.as_str() == "run",
+            [first, ..] => matches!(first.as_str(), "run" | "drill"),
             [] => false,
         };
         self.single.is_empty() && is_run && !has_word(words, INSTANCES)

@@ -4,6 +4,7 @@ use crate::fault::Fault;
 use crate::gates::delayed_by;
 use crate::key::Key;
 use crate::row::Row;
+use sp_gen::generate;
 use std::alloc::{AllocError, Global};
 use std::str;
 
@@ -76,6 +77,13 @@ fn put_scattered(alloc: Global, count: u32, to: &mut Vec<u8>) -> Result<(), Faul
         let letter = LETTERS[(drawn >> 20) as usize % 4];
         put_event(alloc, before + 1, letter, to)?;
     }
+    Ok(())
+}
+
+// Appends the header and so many rows that are generated from this seed.
+fn put_generated(alloc: Global, count: u32, seed: u32, to: &mut Vec<u8>) -> Result<(), Fault> {
+    let rows = generate(alloc, count, seed)?;
+    to.extend_from_slice(rows.as_bytes())?;
     Ok(())
 }
 
@@ -158,6 +166,10 @@ impl Line {
             Key::Word => put_word(text.repeat(alloc, self.times as usize), &mut row.call.words),
             Key::File => put_file(alloc, text, &mut row.call.files),
             Key::Scattered => put_scattered(alloc, number(text)?, &mut row.call.input),
+            Key::Generated => {
+                let (count, seed) = two_numbers(text)?;
+                put_generated(alloc, count, seed, &mut row.call.input)
+            }
             Key::Gate => {
                 row.call.delayed = delayed_by(text)?;
                 Ok(())

@@ -1,6 +1,6 @@
 //! The worked rows: runs each row of the files that the arguments name by the top call, over objects in
-//! memory, and tells each row whose answer is another one than the row says; a row of `run` that names no
-//! number of instances also without an instance. docs/rows.md describes the files.
+//! memory, and tells each row whose answer is another one than the row says; a row of `run` or `drill` that
+//! names no number of instances also without an instance. docs/rows.md describes the files.
 #![tactic(auto)]
 
 mod call;
