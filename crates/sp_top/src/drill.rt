@@ -15,6 +15,7 @@ use crate::ends::status_of_refusal;
 use crate::run::run_plan;
 use crate::workshop::{Answer, Workshop};
 use sp_answer::Status;
+use sp_base::Numbers;
 use sp_chance::Predictor;
 use sp_cli::Speed;
 use sp_core::Core;
@@ -26,7 +27,7 @@ use sp_instance::Gate;
 use sp_io::{ByteSource, Discard, Sink};
 use sp_load::{QueryText, Refusal, one_reading, plan_of_text};
 use sp_plan::{Memory, Plan};
-use std::alloc::Global;
+use std::alloc::{AllocError, Global};
 use std::sync::Wait;
 use std::thread::Threads;
 
@@ -73,6 +74,13 @@ fn run_rows<G: Gate, R: Threads + Wait + Sync>(
     run_plan(shop, plan, speed, predictor, &mut input, &mut Discard)
 }
 
+// How many numbers there are. Fails where they are more than a `u32` counts, as for want of memory.
+fn count_of(numbers: &Numbers) -> Result<u32, Memory>
+    ensures { IfOk result (λ count. count ≡ length numbers.now.list) }
+{
+    u32::try_from(numbers.list().len()).or(Err(AllocError))
+}
+
 // The summary of a run whose windows are all finished.
 fn summary_of(alloc: Global, core: &Core) -> Result<String, Memory>
     requires few { length core.now.machine.events ≤ 1048576 }
@@ -84,7 +92,7 @@ fn summary_of(alloc: Global, core: &Core) -> Result<String, Memory>
     let events = core.events().len() as u32;
     let windows = core.finished();
     let matches = core.emitted().len() as u64;
-    let consumed = core.consumed().list().len() as u64;
+    let consumed = count_of(core.consumed())?;
     summary_text(alloc, events, windows, matches, consumed)
 }
 
