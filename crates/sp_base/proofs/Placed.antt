@@ -136,8 +136,12 @@ inserted_last ns n at place past =
     let whole : take at ns ≡ ns = sym (append-nil (take at ns)) ∙ ap (λ l. take at ns ++ l) (sym none) ∙ take-append-drop at ns in
     ap (λ l. take at ns ++ n ∷ l) none ∙ ap (λ l. l ++ n ∷ []) whole
 
+-- a number past all others isn't there
+pub not_there : (ns : List ℕ) (n : ℕ) → All (λ m. m < n) ns → has ns n ≡ false
+not_there ns n past = not_below n ns (recursion_from_All (λ m. m < n) ns past)
+
 -- a number that is there is not past all others
 pub not_past : (ns : List ℕ) (n : ℕ) → has ns n ≡ true → All (λ m. m < n) ns → ⊥
 not_past ns n there past =
-    let none : has ns n ≡ false = not_below n ns (recursion_from_All (λ m. m < n) ns past) in
+    let none : has ns n ≡ false = not_there ns n past in
     cc

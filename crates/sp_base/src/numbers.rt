@@ -43,6 +43,14 @@ impl Numbers {
         &self.list
     }
 
+    /// The vector of its numbers, rising strictly. Takes no memory.
+    pub fn into_list(self) -> Vec<u32>
+        ensures list { result.items ≡ self.list }
+        ensures rising { IsStrictlyIncreasing result.items }
+    {
+        self.list
+    }
+
     /// Whether this number is among them.
     pub fn has(&self, n: u32) -> bool
         ensures { result ≡ has self.now.list n }
@@ -62,6 +70,11 @@ impl Numbers {
         ensures full { OnErr result (self.old.spare ≡ 0) }
         ensures spare { self.old.spare ≤ self.new.spare + 1 }
     {
+        // Most calls bring a number past the last one.
+        if is_past(&self.list, n) {
+            self.list.push(n)?;
+            return Ok(true);
+        }
         let at = place(&self.list, n);
         if is_at(&self.list, at, n) {
             return Ok(false);

@@ -1,5 +1,6 @@
 pub mod Events
 pub mod Values
+pub mod Kept
 pub mod Blocks
 pub mod Pages
 pub mod Windows

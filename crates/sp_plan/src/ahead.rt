@@ -29,6 +29,18 @@ fn reads_bound(expr: &Expr) -> bool
     }
 }
 
+// The same of a side of a comparison, which is mostly no operator.
+#[inline(always)]
+fn side_reads_bound(expr: &Expr) -> bool
+    ensures { result ≡ Known.reads_bound expr.now }
+{
+    match expr {
+        Expr::Literal(_) | Expr::Word(_) | Expr::Column(_) => false,
+        Expr::Earlier { .. } => true,
+        _ => reads_bound(expr),
+    }
+}
+
 // Whether a predicate may come to the answer. A NOT turns the answer that is asked for; of an AND both
 // sides have to hold, and one is enough to fail, and of an OR the other way round.
 fn may_be(answer: bool, pred: &Pred, event: &Event, none: &Bound) -> bool
@@ -43,8 +55,8 @@ fn may_be(answer: bool, pred: &Pred, event: &Event, none: &Bound) -> bool
         match rest {
             Pred::Always => return wanted,
             Pred::Test { by, left, right } => {
-                return reads_bound(left)
-                    || reads_bound(right)
+                return side_reads_bound(left)
+                    || side_reads_bound(right)
                     || sides_compare(*by, left, right, event, none) == wanted;
             }
             Pred::And(left, right) => {

@@ -109,6 +109,14 @@ impl Bound {
         self.pairs.clear();
     }
 
+    /// Takes all events away as `clear` does, and puts handles of them into the list, those that no copy of
+    /// this value shares. Takes memory for the list alone: handles for which it is wanting are dropped.
+    pub fn release(&mut self, handles: &mut Vec<SharedEvent>)
+        ensures { self.new ≡ [] }
+    {
+        self.pairs.release(handles);
+    }
+
     /// The same events once more. No event is copied.
     pub fn copy(&self, alloc: Global) -> Result<Bound, Memory>
         ensures { IfOk result (λ bound. bound ≡ self.now) }

@@ -1,7 +1,7 @@
 // What expressions come to, and whether predicates hold.
 ghost use Rattle.std.specs.Prelude.{◌≡◌, ◌≤◌, ◌+◌, ◌*◌, ◌^◌, ◌+ℤ◌, ◌*ℤ◌, neg_ℤ, pos, unsigned_abs, ◌<◌, IfSome};
 ghost use Rattle.sp_plan.specs.Values;
-ghost use Rattle.sp_plan.specs.Values.{column_of, earlier_column, last_bound};
+ghost use Rattle.sp_plan.specs.Values.{BoundEvents, column_of, earlier_column, last_bound};
 ghost use Rattle.sp_plan.specs.Bounds as b;
 
 use crate::{Bound, Compare, Event, Expr, Pred, Value};
@@ -54,20 +54,20 @@ fn power_of_ten(by: u8) -> i128
 }
 
 // What stands in a column, as a number; 0 where the event has no such column.
-#[inline]
+#[inline(always)]
 fn column_value(event: &Event, column: u16) -> i64
     ensures value { result ≡ column_of column event.now }
     ensures small { b.IsSmall event.now → unsigned_abs result ≤ 1000000000000000 }
 {
-    match event.values.as_slice().get(column as usize) {
-        Some(Value::Number(n)) => *n,
-        Some(Value::Symbol(s)) => i64::from(*s),
+    match event.values.get(column as usize) {
+        Some(Value::Number(n)) => n,
+        Some(Value::Symbol(s)) => i64::from(s),
         None => 0,
     }
 }
 
 // What stands in a column of the last event that is bound to a name; 0 where there is none.
-#[inline]
+#[inline(always)]
 fn earlier_value(bound: &Bound, name: u8, column: u16) -> i64
     ensures value { result ≡ earlier_column (last_bound name bound.now) column }
     ensures small { b.AllSmall bound.now → unsigned_abs result ≤ 1000000000000000 }
@@ -78,9 +78,22 @@ fn earlier_value(bound: &Bound, name: u8, column: u16) -> i64
     }
 }
 
-// What a literal, a text of the query or a column comes to; None for an operator.
+// What a literal, a text of the query or a column of the event at hand comes to; None for anything else.
 #[inline(always)]
-fn leaf(expr: &Expr, event: &Event, bound: &Bound) -> Option<i64>
+fn near(expr: &Expr, event: &Event) -> Option<i64>
+    ensures { (bound : BoundEvents) → IfSome result (λ n. n ≡ Values.value expr.now event.now bound) }
+{
+    match expr {
+        Expr::Literal(n) => Some(*n),
+        Expr::Word(symbol) => Some(i64::from(*symbol)),
+        Expr::Column(column) => Some(column_value(event, *column)),
+        _ => None,
+    }
+}
+
+// What a part of a product comes to that is no operator; None for an operator.
+#[inline(never)]
+fn factor(expr: &Expr, event: &Event, bound: &Bound) -> Option<i64>
     ensures { IfSome result (λ n. n ≡ Values.value expr.now event.now bound.now) }
 {
     match expr {
@@ -92,21 +105,17 @@ fn leaf(expr: &Expr, event: &Event, bound: &Bound) -> Option<i64>
     }
 }
 
-// The same, where it is a part of a product.
-#[inline(never)]
-fn factor(expr: &Expr, event: &Event, bound: &Bound) -> Option<i64>
-    ensures { IfSome result (λ n. n ≡ Values.value expr.now event.now bound.now) }
-{
-    leaf(expr, event, bound)
-}
-
-// The same of the right part, which is a number in most products: it is read in place.
+// The same, where it is mostly a column: it is read in place.
 #[inline(always)]
-fn right_factor(expr: &Expr, event: &Event, bound: &Bound) -> Option<i64>
+fn column_factor(expr: &Expr, event: &Event, bound: &Bound) -> Option<i64>
     ensures { IfSome result (λ n. n ≡ Values.value expr.now event.now bound.now) }
 {
     match expr {
-        Expr::Literal(n) => Some(*n),
+        Expr::Column(column) => Some(column_value(event, *column)),
+        Expr::Earlier { name, column } => {
+            let value = earlier_value(bound, *name, *column);
+            Some(value)
+        }
         _ => factor(expr, event, bound),
     }
 }
@@ -119,30 +128,61 @@ fn times(one: i64, other: i64) -> i128
     i128::from(one) * i128::from(other)
 }
 
-// What a leaf or a product of two comes to, by so much; None for anything else, and where it doesn't fit.
+// What the product of two such parts comes to; None for other parts. A number, which one of them is in most
+// products, is read in place.
 #[inline(always)]
-fn product(expr: &Expr, by: i64, event: &Event, bound: &Bound) -> Option<i128>
-    ensures { IfSome result (λ n. n ≡ Values.value expr.now event.now bound.now *ℤ by) }
+fn product(left: &Expr, right: &Expr, event: &Event, bound: &Bound) -> Option<i128>
+    ensures { IfSome result (λ n. n ≡ Values.value left.now event.now bound.now
+        *ℤ Values.value right.now event.now bound.now) }
+{
+    if let Expr::Literal(by) = right {
+        return Some(times(column_factor(left, event, bound)?, *by));
+    }
+    if let Expr::Literal(by) = left {
+        return Some(times(*by, factor(right, event, bound)?));
+    }
+    let by = factor(right, event, bound)?;
+    Some(times(factor(left, event, bound)?, by))
+}
+
+// What a part or the product of two comes to; None for anything else, and where it doesn't fit.
+#[inline(never)]
+fn part(expr: &Expr, event: &Event, bound: &Bound) -> Option<i64>
+    ensures { IfSome result (λ n. n ≡ Values.value expr.now event.now bound.now) }
 {
     match expr {
         Expr::Mul(left, right) => {
-            let right = right_factor(right, event, bound)?;
-            let by = right.checked_mul(by)?;
-            Some(times(factor(left, event, bound)?, by))
+            let by = factor(right, event, bound)?;
+            factor(left, event, bound)?.checked_mul(by)
         }
-        _ => Some(times(factor(expr, event, bound)?, by)),
+        _ => factor(expr, event, bound),
     }
 }
 
-// What a leaf or the product of two comes to, or one of these raised; None for anything else, and where
+// The same of what is raised, which is mostly a column.
+#[inline(always)]
+fn raised_part(expr: &Expr, event: &Event, bound: &Bound) -> Option<i64>
+    ensures { IfSome result (λ n. n ≡ Values.value expr.now event.now bound.now) }
+{
+    match expr {
+        Expr::Column(column) => Some(column_value(event, *column)),
+        _ => part(expr, event, bound),
+    }
+}
+
+// What a part or the product of two comes to, or one of these raised; None for anything else, and where
 // it doesn't fit.
 #[inline(always)]
 fn short_value(expr: &Expr, event: &Event, bound: &Bound) -> Option<i128>
     ensures { IfSome result (λ n. n ≡ Values.value expr.now event.now bound.now) }
 {
     match expr {
-        Expr::Raise { by, inner } if *by < 19 => product(inner, short_power(*by), event, bound),
-        _ => product(expr, 1, event, bound),
+        Expr::Mul(left, right) => product(left, right, event, bound),
+        Expr::Raise { by, inner } if *by < 19 => Some(times(
+            raised_part(inner, event, bound)?,
+            short_power(*by),
+        )),
+        _ => Some(i128::from(column_factor(expr, event, bound)?)),
     }
 }
 
@@ -260,7 +300,22 @@ fn compares(by: Compare, left: i128, right: i128) -> bool
     }
 }
 
-// Whether what two sides come to compares so, where one of them is no leaf.
+// The same of two values of 64 bits.
+#[inline(always)]
+fn short_compares(by: Compare, left: i64, right: i64) -> bool
+    ensures { result ≡ Values.compares by left right }
+{
+    match by {
+        Compare::Equal => left == right,
+        Compare::Unequal => left != right,
+        Compare::Less => left < right,
+        Compare::AtMost => left <= right,
+        Compare::Greater => left > right,
+        Compare::AtLeast => left >= right,
+    }
+}
+
+// Whether what two sides come to compares so, whatever they are.
 #[inline(never)]
 fn long_sides_compare(by: Compare, left: &Expr, right: &Expr, event: &Event, bound: &Bound) -> bool
     requires left { b.StaysWithin left.now }
@@ -270,15 +325,24 @@ fn long_sides_compare(by: Compare, left: &Expr, right: &Expr, event: &Event, bou
     ensures { result ≡ Values.compares by
         (Values.value left.now event.now bound.now) (Values.value right.now event.now bound.now) }
 {
-    if let Some(one) = short_value(left, event, bound)
-        && let Some(other) = short_value(right, event, bound)
+    if let Some(other) = short_value(right, event, bound)
+        && let Some(one) = short_value(left, event, bound)
     {
         return compares(by, one, other);
     }
     compares(by, value(left, event, bound), value(right, event, bound))
 }
 
-// Whether what two sides come to compares so: two leaves are compared in 64 bits.
+// Whether a number compares so with a column of the last event that is bound to a name.
+#[inline(never)]
+fn earlier_compares(by: Compare, one: i64, name: u8, column: u16, bound: &Bound) -> bool
+    ensures { result ≡ Values.compares by one (earlier_column (last_bound name bound.now) column) }
+{
+    short_compares(by, one, earlier_value(bound, name, column))
+}
+
+// Whether what two sides come to compares so: a column of the event at hand is compared in place, and in
+// 64 bits, with what is no operator.
 #[inline]
 pub(crate) fn sides_compare(
     by: Compare,
@@ -294,10 +358,23 @@ pub(crate) fn sides_compare(
     ensures { result ≡ Values.compares by
         (Values.value left.now event.now bound.now) (Values.value right.now event.now bound.now) }
 {
-    if let Some(other) = leaf(right, event, bound)
-        && let Some(one) = leaf(left, event, bound)
+    if let Expr::Column(column) = left {
+        if let Some(other) = near(right, event) {
+            let one = column_value(event, *column);
+            return short_compares(by, one, other);
+        }
+        if let Expr::Earlier {
+            name,
+            column: earlier,
+        } = right
+        {
+            let one = column_value(event, *column);
+            return earlier_compares(by, one, *name, *earlier, bound);
+        }
+    } else if let Some(one) = near(left, event)
+        && let Some(other) = near(right, event)
     {
-        return compares(by, i128::from(one), i128::from(other));
+        return short_compares(by, one, other);
     }
     long_sides_compare(by, left, right, event, bound)
 }

@@ -231,6 +231,18 @@ impl Pairs {
         self.tail.clear();
     }
 
+    // Takes all pairs away as `clear` does, and puts the handles of those that stand in no page into the list.
+    // Handles for which memory is wanting are dropped.
+    pub(crate) fn release(&mut self, handles: &mut Vec<SharedEvent>)
+        ensures { self.new ≡ [] }
+    {
+        self.pages.clear();
+        self.paged = 0;
+        while let Some(pair) = self.tail.pop() {
+            let _ = handles.push(pair.event);
+        }
+    }
+
     // The same pairs once more. No page is copied, and no event.
     pub(crate) fn copy(&self, alloc: Global) -> Result<Pairs, Memory>
         ensures { IfOk result (λ pairs. pairs ≡ self.now) }

@@ -1,4 +1,4 @@
-ghost use Rattle.std.specs.Prelude.{◌≡◌, List, ℕ, IfOk, IsSome, IsNone, IfSome, ◌+◌, ◌<◌, ◌↔◌};
+ghost use Rattle.std.specs.Prelude.{◌≡◌, List, ℕ, IfOk, IsSome, IsNone, IfSome, IsTrue, ◌+◌, ◌<◌, ◌↔◌};
 ghost use Rattle.std.specs.List.Sorted.{IsStrictlyIncreasing};
 
 use crate::Memory;
@@ -19,6 +19,18 @@ impl Model for Places {
     ghost invariant = { λ s. IsStrictlyIncreasing s.list.items };
 }
 
+// Whether numbers rise strictly.
+fn rises(list: &[u32]) -> bool
+    ensures { IsTrue result ↔ IsStrictlyIncreasing list.now }
+{
+    for i in 1..list.len() {
+        if list[i - 1] >= list[i] {
+            return false;
+        }
+    }
+    true
+}
+
 impl Places {
     /// None exactly where the list doesn't rise strictly.
     pub fn new(alloc: Global, list: &[u32]) -> Result<Option<Places>, Memory>
@@ -26,14 +38,23 @@ impl Places {
         ensures some { IfOk result (λ places. IsSome places → IsStrictlyIncreasing list.now) }
         ensures none { IfOk result (λ places. IsNone places → ¬ IsStrictlyIncreasing list.now) }
     {
-        for i in 1..list.len() {
-            if list[i - 1] >= list[i] {
-                return Ok(None);
-            }
+        if !rises(list) {
+            return Ok(None);
         }
         Ok(Some(Places {
             list: list.to_vec(alloc)?,
         }))
+    }
+
+    /// The vector's numbers, None exactly where they don't rise strictly. Takes no memory.
+    pub fn of(list: Vec<u32>) -> Option<Places>
+        ensures value { IfSome result (λ p. p ≡ list.items) }
+        ensures some { IsSome result ↔ IsStrictlyIncreasing list.items }
+    {
+        if !rises(&list) {
+            return None;
+        }
+        Some(Places { list })
     }
 
     /// Its numbers, rising strictly.

@@ -4,7 +4,7 @@ ghost use Rattle.std.specs.Prelude.{◌≡◌, ◌↔◌, IsTrue};
 ghost use Rattle.std.specs.List.{AllZip};
 ghost use Rattle.sp_plan.specs.Same.{SameExpr, SamePred, SameName, SameOpening, SamePlan};
 
-use crate::{Column, Element, Event, Expr, Name, Opening, Plan, Pred, Schema, Text, Value};
+use crate::{Column, Element, Event, Expr, Name, Opening, Plan, Pred, Schema, Text};
 
 // Whether two expressions are the same but for addresses.
 fn same_expr(x: &Expr, y: &Expr) -> bool
@@ -129,13 +129,6 @@ fn same_elements(xs: &[Element], ys: &[Element]) -> bool
     xs == ys
 }
 
-// Whether two lists of values are one.
-fn same_values(xs: &[Value], ys: &[Value]) -> bool
-    ensures { IsTrue result ↔ (xs.now ≡ ys.now) }
-{
-    xs == ys
-}
-
 // Whether two schemas are one.
 fn same_schema(x: &Schema, y: &Schema) -> bool
     ensures { IsTrue result ↔ (x.now ≡ y.now) }
@@ -163,6 +156,6 @@ impl Event {
     pub fn same(&self, other: &Event) -> bool
         ensures { IsTrue result ↔ (self.now ≡ other.now) }
     {
-        self.time == other.time && same_values(self.values.as_slice(), other.values.as_slice())
+        self.time == other.time && self.values.same(&other.values)
     }
 }

@@ -1,5 +1,5 @@
 // An event that several bindings hold.
-ghost use Rattle.std.specs.Prelude.{◌≡◌, IfOk};
+ghost use Rattle.std.specs.Prelude.{◌≡◌, IfOk, IsTrue};
 
 use crate::{Event, Memory};
 use std::alloc::Global;
@@ -32,6 +32,20 @@ impl SharedEvent {
         Ok(SharedEvent {
             event: Arc::new(alloc, event)?,
         })
+    }
+
+    /// Makes this the handle of another event, a copy of it that is written over the one at hand. Answers
+    /// whether it is so: where another handle is of the same copy, this one stays as it is.
+    pub fn renew(&mut self, alloc: Global, event: &Event) -> Result<bool, Memory>
+        ensures renewed { IfOk result (λ renewed. IsTrue renewed → self.new ≡ event.now) }
+    {
+        match Arc::get_mut(&mut self.event) {
+            Some(place) => {
+                *place = event.copy(alloc)?;
+                Ok(true)
+            }
+            None => Ok(false),
+        }
     }
 
     /// One more handle of the event. Copies nothing and takes no memory: it fails only where the count of

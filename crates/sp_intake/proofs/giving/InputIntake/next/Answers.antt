@@ -60,6 +60,12 @@ returns-in-Memory-clause-given g c from events before =
     gives_more (standing (g.S.Source.state from.source.now) from.events) old new events [] few before
     (gives_more old here new [] [] few c.loop.invariant.gives (c.in-Memory.ensures.gives source))
 
+pub returns-clause-given : goal.returns-clause-given
+returns-clause-given g c from events before =
+    let old = standing (g.S.Source.state c.args.self.now.source.now) c.args.self.now.events in
+    let here = standing (g.S.Source.state c.loop.self.source.now) c.loop.self.events in
+    gives_more (standing (g.S.Source.state from.source.now) from.events) old here events [] c.loop.self.events.few before c.loop.invariant.gives
+
 pub loop-preserved : goal.loop-preserved
 loop-preserved g c =
     let before = g.S.Source.state c.loop.self.source.now in
