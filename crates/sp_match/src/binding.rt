@@ -15,7 +15,8 @@ use crate::leaving::abandon;
 use crate::moves::Move;
 use crate::offer::{Offer, share};
 use crate::run::Run;
-use sp_plan::{Plan, SharedEvent};
+use crate::stock::Stock;
+use sp_plan::Plan;
 
 // Whether the query consumes the events of a name.
 fn is_consumed(plan: &Plan, name: u8) -> bool
@@ -29,7 +30,7 @@ fn is_consumed(plan: &Plan, name: u8) -> bool
 // complete.
 fn grow(
     offer: &Offer,
-    shared: &mut Option<SharedEvent>,
+    shared: &mut Stock,
     run: &mut Run,
     name: u8,
     list: &mut Vec<Move>,
@@ -64,7 +65,7 @@ fn grow(
 /// each other open run that holds a number which it used. Answers whether it used the event.
 pub(crate) fn bind(
     offer: &Offer,
-    shared: &mut Option<SharedEvent>,
+    shared: &mut Stock,
     runs: &mut [Run],
     at: usize,
     name: u8,
@@ -90,6 +91,9 @@ pub(crate) fn bind(
     let is_whole = grow(offer, shared, &mut runs[at], name, list)?;
     if !is_whole {
         return Ok(false);
+    }
+    if let [run] = runs {
+        return Ok(run.used.has(offer.number));
     }
     let used = runs[at].used.copy(offer.alloc)?;
     abandon(runs, &used, list)?;

@@ -17,6 +17,27 @@ pub fn places_of(alloc: Global, numbers: &Numbers) -> Result<Places, Memory>
     Ok(places)
 }
 
+// The same numbers as a match has them. Takes no memory.
+fn as_places(numbers: Numbers) -> Places
+    ensures { result ≡ numbers.list }
+{
+    let Some(places) = Places::of(numbers.into_list()) else {
+        unreachable!()
+    };
+    places
+}
+
+// The events of each name, as a match has them, where those who told of them need them no more.
+fn as_bound_places(alloc: Global, bound: Vec<(u8, Numbers)>) -> Result<Vec<(u8, Places)>, Memory>
+    ensures { IfOk result (λ list. list.items ≡ map seen_name bound.items) }
+{
+    let mut list = Vec::with_capacity(alloc, bound.len())?;
+    for (name, numbers) in bound {
+        list.push((name, as_places(numbers)))?;
+    }
+    Ok(list)
+}
+
 // The events of each name, as a match has them.
 fn bound_places(alloc: Global, bound: &[(u8, Numbers)]) -> Result<Vec<(u8, Places)>, Memory>
     ensures { IfOk result (λ list. list.items ≡ map seen_name bound.now) }
@@ -49,5 +70,29 @@ pub fn match_of(
         number,
         bound: Listed::of(bound_places(alloc, bound)?),
         used: places_of(alloc, used)?,
+    })
+}
+
+/// The match that a completed run is, as `match_of` has it, with the lists that told of it: no list of
+/// numbers is copied. Fails for want of memory alone.
+pub fn as_match(
+    alloc: Global,
+    window: u32,
+    number: u64,
+    bound: Listed<(u8, Numbers)>,
+    used: Numbers,
+) -> Result<Match, Memory>
+    ensures { IfOk result (λ one. one ≡ record {
+      window = window;
+      number = number;
+      bound = map seen_name bound;
+      used = used.list;
+    }) }
+{
+    Ok(Match {
+        window,
+        number,
+        bound: Listed::of(as_bound_places(alloc, bound.into_vec())?),
+        used: as_places(used),
     })
 }

@@ -14,16 +14,16 @@ use crate::moves::{Move, Moves};
 use crate::offer::Offer;
 use crate::run::Run;
 use crate::starting::{open, start_name};
+use crate::stock::Stock;
 use crate::turns::offer_to_all;
 use crate::wanting::{want_after, want_before};
-use sp_plan::SharedEvent;
 
 // All that an event does to the runs and tells, but runs that leave are only marked. Answers whether a
 // run started. Where nothing is told, nothing was done. After want of memory what was done to the runs
 // can be undone.
 fn handle(
     offer: &Offer,
-    shared: &mut Option<SharedEvent>,
+    shared: &mut Stock,
     runs: &mut Vec<Run>,
     count: u32,
     list: &mut Vec<Move>,
@@ -53,6 +53,7 @@ fn handle(
 /// All that an event does and tells, as `handle` has it. What was told before is forgotten.
 pub(crate) fn handle_told(
     offer: &Offer,
+    shared: &mut Stock,
     runs: &mut Vec<Run>,
     count: u32,
     list: &mut Vec<Move>,
@@ -68,14 +69,15 @@ pub(crate) fn handle_told(
         (take (length runs.old.items) (all_kept runs.new.items)) }
 {
     list.clear();
-    let mut shared = None;
-    handle(offer, &mut shared, runs, count, list)
+    shared.begin();
+    handle(offer, shared, runs, count, list)
 }
 
 /// All that an event does and tells, as `handle` has it, and what the runs want that were open when it
 /// came. `lefts` is a room that is used again.
 pub(crate) fn handle_all(
     offer: &Offer,
+    shared: &mut Stock,
     runs: &mut Vec<Run>,
     lefts: &mut Vec<u32>,
     count: u32,
@@ -97,8 +99,8 @@ pub(crate) fn handle_all(
 {
     moves.clear();
     want_before(offer.plan, runs, lefts)?;
-    let mut shared = None;
-    let began = handle(offer, &mut shared, runs, count, &mut moves.list)?;
+    shared.begin();
+    let began = handle(offer, shared, runs, count, &mut moves.list)?;
     want_after(offer.plan, lefts, runs, &mut moves.wanted)?;
     Ok(began)
 }

@@ -1,5 +1,5 @@
 // What is known of an event before any run is offered it.
-ghost use Rattle.std.specs.Prelude.{◌≡◌, true};
+ghost use Rattle.std.specs.Prelude.{◌≡◌, true, []};
 ghost use Rattle.std.specs.List.{list_any};
 ghost use Rattle.sp_plan.specs.Bounds.{IsSmall};
 ghost use Rattle.sp_plan.specs.Compiled.{IsCompiled};
@@ -8,7 +8,7 @@ ghost use Rattle.sp_match.specs.public.Known.{IsKnown, known_by, may_take};
 ghost use Rattle.sp_match.specs.inside.Taking.{IsMask};
 
 use crate::offer::first_name;
-use sp_plan::{Event, Plan, fitting_events_are_small, may_hold, what_may_not_hold_does_not};
+use sp_plan::{Bound, Event, Plan, fitting_events_are_small, may_hold, what_may_not_hold_does_not};
 use std::alloc::Global;
 
 /// What is known of an event by the plan alone, whatever the open runs have bound.
@@ -48,9 +48,20 @@ pub fn known_of(alloc: Global, plan: &Plan, event: &Event) -> Known
     ensures value { result ≡ known_by plan.now event.now }
     ensures sure { IsKnown plan.now event.now result }
 {
+    known_beside(alloc, plan, event, &Bound::new(alloc))
+}
+
+/// The same with a value in which nothing is bound, which serves for many events.
+pub fn known_beside(alloc: Global, plan: &Plan, event: &Event, none: &Bound) -> Known
+    requires compiled { IsCompiled plan.now }
+    requires fits { fits plan.now event.now ≡ true }
+    requires none { none.now ≡ [] }
+    ensures value { result ≡ known_by plan.now event.now }
+    ensures sure { IsKnown plan.now event.now result }
+{
     fitting_events_are_small();
     what_may_not_hold_does_not();
-    if first_name(alloc, plan, event).is_some() {
+    if first_name(plan, event, none).is_some() {
         Known::Any
     } else if may_be_taken(alloc, plan, event) {
         Known::Onward

@@ -18,12 +18,13 @@ mod offer;
 mod run;
 mod settling;
 mod starting;
+mod stock;
 mod taking;
 mod turns;
 mod wanting;
 
-pub use found::{match_of, places_of};
-pub use known::{Known, known_of};
+pub use found::{as_match, match_of, places_of};
+pub use known::{Known, known_beside, known_of};
 pub use laws::{
     abandonments_are_told, closing_ends_runs, completions_are_matches, handling_is_lawful,
     moves_are_handling, moves_lead_on, numbers_stay_below, one_event_more, open_has_no_match,

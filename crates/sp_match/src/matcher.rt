@@ -14,7 +14,8 @@ use crate::leaving::abandon_all;
 use crate::moves::{Move, Moves};
 use crate::offer::Offer;
 use crate::run::Run;
-use crate::settling::{settle, undo};
+use crate::settling::{end_all, settle, undo};
+use crate::stock::Stock;
 use crate::wanting::{left, want_as_before};
 use sp_plan::{Event, Plan, fitting_events_are_small, plans_are_themselves};
 use std::alloc::Global;
@@ -30,6 +31,8 @@ pub struct Matcher {
     count: u32,
     // what the open runs wanted before the event at hand; a room that is used again
     lefts: Vec<u32>,
+    // what runs that ended have left for later ones
+    stock: Stock,
 }
 
 impl Model for Matcher {
@@ -83,6 +86,7 @@ impl Matcher {
             runs: Vec::new(alloc),
             count: 0,
             lefts: Vec::new(alloc),
+            stock: Stock::new(alloc),
         })
     }
 
@@ -93,13 +97,13 @@ impl Matcher {
         &self.runs
     }
 
-    /// Forgets all runs. The rooms are kept, and no memory is taken.
+    /// Forgets all runs. Their rooms are kept for later ones, but for those for which memory is wanting.
     pub fn clear(&mut self)
         ensures plan { self.new.plan ≡ self.old.plan }
         ensures none { self.new.open_runs ≡ [] }
         ensures count { self.new.started ≡ 0 }
     {
-        self.runs.clear();
+        end_all(&mut self.runs, &mut self.stock);
         self.count = 0;
     }
 
@@ -138,10 +142,17 @@ impl Matcher {
             known,
             may: &may,
         };
-        match handle_all(&offer, &mut self.runs, &mut self.lefts, self.count, moves) {
+        match handle_all(
+            &offer,
+            &mut self.stock,
+            &mut self.runs,
+            &mut self.lefts,
+            self.count,
+            moves,
+        ) {
             Ok(started) => {
                 let is_quiet = moves.list.is_empty();
-                settle(&self.plan, &mut self.runs, is_quiet);
+                settle(&self.plan, &mut self.runs, &mut self.stock, is_quiet);
                 self.count = count_after(self.count, started);
                 Ok(())
             }
@@ -239,10 +250,10 @@ impl Matcher {
             known,
             may: &may,
         };
-        match handle_told(&offer, &mut self.runs, self.count, list) {
+        match handle_told(&offer, &mut self.stock, &mut self.runs, self.count, list) {
             Ok(started) => {
                 let is_quiet = list.is_empty();
-                settle(&self.plan, &mut self.runs, is_quiet);
+                settle(&self.plan, &mut self.runs, &mut self.stock, is_quiet);
                 self.count = count_after(self.count, started);
                 Ok(())
             }
@@ -331,6 +342,7 @@ impl Matcher {
             runs: copies(alloc, &self.runs)?,
             count: self.count,
             lefts: Vec::new(alloc),
+            stock: Stock::new(alloc),
         })
     }
 

@@ -8,6 +8,7 @@ ghost use Rattle.sp_match.specs.inside.Offer.{IsOffer, IsShared, lets_leave};
 
 use crate::Memory;
 use crate::known::Known;
+use crate::stock::Stock;
 use crate::taking::span;
 use sp_plan::{Bound, Element, Event, Plan, Select, SharedEvent, holds};
 use std::alloc::Global;
@@ -58,17 +59,19 @@ fn first_of(plan: &Plan, event: &Event, none: &Bound, element: Element) -> Optio
     None
 }
 
-/// The name under which an event begins a run, if it begins one: a name of the first element.
-pub(crate) fn first_name(alloc: Global, plan: &Plan, event: &Event) -> Option<u8>
+/// The name under which an event begins a run, if it begins one: a name of the first element. Nothing is
+/// bound in `none`.
+pub(crate) fn first_name(plan: &Plan, event: &Event, none: &Bound) -> Option<u8>
     requires compiled { IsCompiled plan.now }
     requires small { IsSmall event.now }
+    requires none { none.now ≡ [] }
     ensures { result ≡ takes plan.now [] event.now }
 {
     let elements = plan.elements.as_slice();
     if elements.is_empty() {
         return None;
     }
-    first_of(plan, event, &Bound::new(alloc), elements[0])
+    first_of(plan, event, none, elements[0])
 }
 
 /// The name under which the event begins a run, if it begins one. It isn't looked for where it is known
@@ -79,7 +82,7 @@ pub(crate) fn begins(offer: &Offer) -> Option<u8>
 {
     match offer.known {
         Known::Never | Known::Onward => None,
-        Known::Any => first_name(offer.alloc, offer.plan, offer.event),
+        Known::Any => first_name(offer.plan, offer.event, &Bound::new(offer.alloc)),
     }
 }
 
@@ -96,16 +99,16 @@ pub(crate) fn leaves(offer: &Offer) -> bool
 
 /// A handle of the event for a run that binds it. The event is copied for the first of these runs alone;
 /// `shared`, which is None until then, keeps a handle for the others.
-pub(crate) fn share(offer: &Offer, shared: &mut Option<SharedEvent>) -> Result<SharedEvent, Memory>
+pub(crate) fn share(offer: &Offer, shared: &mut Stock) -> Result<SharedEvent, Memory>
     requires { IsShared offer.now shared.old }
     ensures event { IfOk result (λ event. event ≡ offer.now.event.now) }
     ensures kept { OnOk result (shared.new ≡ Some offer.now.event.now) }
     ensures shared { IsShared offer.now shared.new }
 {
-    if let Some(event) = shared {
+    if let Some(event) = shared.event() {
         return event.share();
     }
-    let event = SharedEvent::of(offer.alloc, offer.event)?;
-    *shared = Some(event.share()?);
+    let event = shared.copy_of(offer.alloc, offer.event)?;
+    shared.keep_event(&event)?;
     Ok(event)
 }

@@ -79,6 +79,22 @@ impl Run {
         }
     }
 
+    // A run that has bound no event, in the rooms of this one. Takes no memory.
+    pub(crate) fn renewed(mut self, number: u32) -> Run
+        ensures { kept result ≡ empty number }
+    {
+        self.number = number;
+        self.bound.clear();
+        self.used.clear();
+        self.events.clear();
+        self.names = [false; 32];
+        self.filled = 0;
+        self.ahead = None;
+        self.turn = Turn::Idle;
+        self.fate = Fate::Stays;
+        self
+    }
+
     // Whether it stays open.
     pub(crate) fn stays(&self) -> bool
         ensures { result ≡ stays self.now.fate }

@@ -16,8 +16,9 @@ use crate::binding::bind;
 use crate::moves::Move;
 use crate::offer::{Offer, begins};
 use crate::run::Run;
+use crate::stock::Stock;
 use crate::turns::Reception;
-use sp_plan::{Plan, Select, SharedEvent};
+use sp_plan::{Plan, Select};
 
 // How many runs stay open.
 fn open_count(runs: &[Run]) -> usize
@@ -70,7 +71,7 @@ pub(crate) fn start_name(offer: &Offer, runs: &[Run], so_far: Reception) -> Opti
 /// open run that holds a number which it used.
 pub(crate) fn open(
     offer: &Offer,
-    shared: &mut Option<SharedEvent>,
+    shared: &mut Stock,
     runs: &mut Vec<Run>,
     count: u32,
     name: u8,
@@ -92,7 +93,7 @@ pub(crate) fn open(
         (take (length runs.old.items) (all_kept runs.new.items)) }
 {
     let at = runs.len();
-    runs.push(Run::new(offer.alloc, count + 1))?;
+    runs.push(shared.run(offer.alloc, count + 1))?;
     list.push(Move::Opened { run: count + 1 })?;
     bind(offer, shared, runs, at, name, list)?;
     Ok(())

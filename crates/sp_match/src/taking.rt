@@ -1,5 +1,5 @@
 // Which name a run takes an event under.
-ghost use Rattle.std.specs.Prelude.{◌≡◌, ◌⊎◌, ◌<◌, ◌≤◌, ◌-◌, ◌&&◌, true, Some, None, length, take, not, slice_index_or, IfSome, if◌then◌else◌};
+ghost use Rattle.std.specs.Prelude.{◌≡◌, ◌⊎◌, ◌<◌, ◌≤◌, ◌-◌, ◌&&◌, true, Some, None, length, take, not, slice_get, slice_index_or, IfSome, if◌then◌else◌};
 ghost use Rattle.std.specs.List.{range_with_len, list_any, list_all, last_or};
 ghost use Rattle.sp_plan.specs.declared.plan.Plan.{Plan};
 ghost use Rattle.sp_plan.specs.Bounds.{IsSmall};
@@ -85,29 +85,15 @@ fn is_filled(run: &Run, element: Element) -> bool
     true
 }
 
-// The first element that the run hasn't filled.
-fn first_unfilled(plan: &Plan, run: &Run) -> Option<Element>
-    requires compiled { IsCompiled plan.now }
-    requires good { Good plan.now (kept run.now) }
-    ensures first { result ≡ next_element plan.now (pairs (kept run.now)) }
-    ensures named { IfSome result IsNamed }
-{
-    let elements = plan.elements.as_slice();
-    for i in run.filled..elements.len() {
-        if !is_filled(run, elements[i]) {
-            return Some(elements[i]);
-        }
-    }
-    None
-}
-
-/// How many elements in front the run has filled. Those that it had filled before aren't looked at.
+/// How many elements in front the run has filled: the next one is the first that it hasn't filled. Those
+/// that it had filled before aren't looked at.
 pub(crate) fn filled_front(plan: &Plan, run: &Run) -> usize
     requires compiled { IsCompiled plan.now }
     requires good { Good plan.now (kept run.now) }
     ensures within { result ≤ length plan.now.elements }
     ensures filled { list_all (Runs.is_filled (pairs (kept run.now)))
         (take result plan.now.elements) ≡ true }
+    ensures next { next_element plan.now (pairs (kept run.now)) ≡ slice_get plan.now.elements result }
 {
     let elements = plan.elements.as_slice();
     for i in run.filled..elements.len() {
@@ -116,6 +102,32 @@ pub(crate) fn filled_front(plan: &Plan, run: &Run) -> usize
         }
     }
     elements.len()
+}
+
+// The one of these elements that stands at this place.
+fn one_of(elements: &[Element], place: usize) -> Option<Element>
+    ensures { result ≡ slice_get elements.now place }
+{
+    elements.get(place).copied()
+}
+
+// The element at this place.
+fn element_at(plan: &Plan, place: usize) -> Option<Element>
+    requires compiled { IsCompiled plan.now }
+    ensures element { result ≡ slice_get plan.now.elements place }
+    ensures named { IfSome result IsNamed }
+{
+    one_of(plan.elements.as_slice(), place)
+}
+
+// The first element that the run hasn't filled.
+fn first_unfilled(plan: &Plan, run: &Run) -> Option<Element>
+    requires compiled { IsCompiled plan.now }
+    requires good { Good plan.now (kept run.now) }
+    ensures first { result ≡ next_element plan.now (pairs (kept run.now)) }
+    ensures named { IfSome result IsNamed }
+{
+    element_at(plan, filled_front(plan, run))
 }
 
 /// Whether a run has filled every element.
@@ -214,7 +226,20 @@ pub(crate) fn look_ahead(plan: &Plan, run: &Run) -> Ahead
     }
 }
 
-// The same, which is looked for only where the run doesn't keep it.
+/// The same, where so many elements in front are known to be filled, and the next one isn't.
+pub(crate) fn look_ahead_at(plan: &Plan, run: &Run, filled: usize) -> Ahead
+    requires compiled { IsCompiled plan.now }
+    requires good { Good plan.now (kept run.now) }
+    requires next { next_element plan.now (pairs (kept run.now)) ≡ slice_get plan.now.elements filled }
+    ensures ahead { IsAhead plan.now (pairs (kept run.now)) result }
+{
+    Ahead {
+        element: element_at(plan, filled),
+        again: last_again(plan, run),
+    }
+}
+
+// What a run may take next, which is looked for only where the run doesn't keep it.
 fn ahead_of(plan: &Plan, run: &Run) -> Ahead
     requires compiled { IsCompiled plan.now }
     requires good { Good plan.now (kept run.now) }

@@ -16,8 +16,8 @@ use crate::leaving::leave;
 use crate::moves::Move;
 use crate::offer::{Offer, leaves};
 use crate::run::Run;
+use crate::stock::Stock;
 use crate::taking::takes;
-use sp_plan::SharedEvent;
 
 /// What an event has met with among the runs that were open when it came.
 #[derive(Clone, Copy, Drop)]
@@ -33,7 +33,7 @@ pub(crate) enum Reception {
 // The run at this place, which is open, is offered the event.
 fn deal(
     offer: &Offer,
-    shared: &mut Option<SharedEvent>,
+    shared: &mut Stock,
     runs: &mut [Run],
     at: usize,
     so_far: Reception,
@@ -77,7 +77,7 @@ fn deal(
 // One run's turn: it is offered the event unless it has left or the event was used.
 fn turn(
     offer: &Offer,
-    shared: &mut Option<SharedEvent>,
+    shared: &mut Stock,
     runs: &mut [Run],
     at: usize,
     so_far: Reception,
@@ -104,7 +104,7 @@ fn turn(
 /// The runs that are open when an event comes are offered it, the oldest first.
 pub(crate) fn offer_to_all(
     offer: &Offer,
-    shared: &mut Option<SharedEvent>,
+    shared: &mut Stock,
     runs: &mut [Run],
     list: &mut Vec<Move>,
 ) -> Result<Reception, Memory>

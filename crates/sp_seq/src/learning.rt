@@ -1,27 +1,35 @@
 // What is known of the events, which is asked once for each of them.
-ghost use Rattle.std.specs.Prelude.{◌<◌, ◌≤◌, length, slice_index_or, OnOk};
+ghost use Rattle.std.specs.Prelude.{◌≡◌, [], ◌<◌, ◌≤◌, length, slice_index_or, OnOk};
 ghost use Rattle.sp_plan.specs.Compiled.{IsCompiled};
 ghost use Rattle.sp_plan.specs.Events.{AllFit};
 ghost use Rattle.sp_plan.specs.declared.event.Event as seen;
 ghost use Rattle.sp_match.specs.public.Known.{IsKnown};
 ghost use Rattle.sp_seq.specs.Learned.{AllKnown};
 
-use sp_match::{Known, known_of};
-use sp_plan::{Event, Memory, Plan};
+use sp_match::{Known, known_beside};
+use sp_plan::{Bound, Event, Memory, Plan};
 use std::alloc::Global;
 
 // What is known of the event at a place. Of those before place `first`, which no window to come has, nothing
 // is asked.
-fn known_at(alloc: Global, plan: &Plan, events: &[Event], first: usize, place: usize) -> Known
+fn known_at(
+    plan: &Plan,
+    events: &[Event],
+    first: usize,
+    place: usize,
+    none: &Bound,
+    alloc: Global,
+) -> Known
     requires compiled { IsCompiled plan.now }
     requires fit { AllFit plan.now events.now }
     requires within { place < length events.now }
+    requires none { none.now ≡ [] }
     ensures { (other : seen.Event) → IsKnown plan.now (slice_index_or events.now place other) result }
 {
     if place < first {
         Known::Any
     } else {
-        known_of(alloc, plan, &events[place])
+        known_beside(alloc, plan, &events[place], none)
     }
 }
 
@@ -41,8 +49,9 @@ pub(crate) fn learn(
     ensures known { OnOk result (AllKnown plan.now events.now known.new.items) }
     ensures learned { OnOk result (end ≤ length known.new.items) }
 {
+    let none = Bound::new(alloc);
     for place in known.len()..end {
-        known.push(known_at(alloc, plan, events, first, place))?;
+        known.push(known_at(plan, events, first, place, &none, alloc))?;
     }
     Ok(())
 }

@@ -1,12 +1,12 @@
 -- What the runs of a window keep, whatever moves are made.
 use Rattle.std.specs.Prelude.{◌≡◌, ◌↔◌, ◌⊎◌, ℕ, ◌+◌, ◌<◌, ◌≤◌, ◌==◌, Bool, true, false, List, [], ◌∷◌, ◌++◌, length, filter, map}
-use Rattle.std.specs.List.{All, list_any, flat_map, fold}
+use Rattle.std.specs.List.{All, list_any, fold}
 use Rattle.std.specs.List.Sorted.{IsStrictlyIncreasing}
 use Rattle.sp_plan.specs.declared.plan.Plan.{Plan}
 pub use Rattle.sp_plan.specs.Groups.{is_open, is_matched, group, used_by, used_by_all}
 use Rattle.sp_plan.specs.Windows.{Numbered}
-use Rattle.sp_plan.specs.Runs.{Started, State, bindings, fresh, handle, state, used, is_among, matched_runs, after_closing}
-use Rattle.sp_plan.specs.Moves.{Told, OpenedTold, GrownTold, CompletedTold, AbandonedTold, told, Move, is_run, pairs_of, apply, apply_all, moves, closing}
+use Rattle.sp_plan.specs.Runs.{Started, State, bindings, fresh, handle, state, used, is_among, after_closing}
+use Rattle.sp_plan.specs.Moves.{Told, OpenedTold, GrownTold, CompletedTold, AbandonedTold, told, Move, is_run, apply, apply_all, moves, closing}
 
 -- the open runs stand in the order of their start, and have numbers that were given
 pub record Ordered (s : State) : Type 0 where

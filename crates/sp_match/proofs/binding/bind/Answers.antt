@@ -62,7 +62,7 @@ returns c =
     c.in_ok-used.ensures ∙ ap (λ (r : Run). r.used.list) (get_or-set_same rs at c.grow.new.run c.index-runs-at-2.result c.requires.within) ∙ ap (λ (k : Kept). k.used) c.in_ok-is_whole.ensures.run in
     let before = map seen c.args.list.now.items in
     record {
-      used = c.has.ensures ∙ ap (λ ns. is_among ns c.args.offer.now.number) (used ∙ all_used q name x k done) ∙ ap (λ k. is_among (used_by_binding q name x k) c.args.offer.now.number) (sym same);
+      used = c.has-2.ensures ∙ ap (λ ns. is_among ns c.args.offer.now.number) (used ∙ all_used q name x k done) ∙ ap (λ k. is_among (used_by_binding q name x k) c.args.offer.now.number) (sym same);
       runs = c.in_ok-abandon.ensures.runs ∙ ap (map (run_after_use ns)) set_is ∙ whole_runs_are q name x at ks k ns same done used;
       told = c.in_ok-abandon.ensures.told ∙ (λ i. c.in_ok-is_whole.ensures.told i ++ flat_map (use_told ns) (set_is i))
           ∙ append_assoc before (binding_told q name x k) (flat_map (use_told ns) (set ks at (run_after_binding q name x k))) ∙ ap (λ l. before ++ l) (whole_told_is q name x at ks k ns same done used);

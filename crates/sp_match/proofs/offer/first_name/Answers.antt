@@ -19,4 +19,4 @@ returns c =
     let q = c.args.plan.now in
     let elements = c.as_slice-elements.result.now in
     let some : 0 < length elements = search rules in
-    c.first_of-2.ensures ∙ begins_with q c.args.event.now elements (One 0) (sym c.as_slice-elements.ensures) some (subst (All IsSetOfMany) (sym c.as_slice-elements.ensures) c.requires.compiled.sets)
+    c.first_of.ensures ∙ begins_with q c.args.event.now elements (One 0) (sym c.as_slice-elements.ensures) some (subst (All IsSetOfMany) (sym c.as_slice-elements.ensures) c.requires.compiled.sets)

@@ -27,19 +27,19 @@ pub bind-requires-clause-good : goal.bind-requires-clause-good
 bind-requires-clause-good c =
     let q = c.args.offer.now.plan.now in
     let old = map kept c.args.runs.now.items in
-    let is = pushed c.args.runs.now.items c.deref_mut.result.now c.new.result (c.args.count + 1) (c.deref_mut.ensures.value ∙ c.in_ok-push.ensures.items) c.new.ensures in
+    let is = pushed c.args.runs.now.items c.deref_mut.result.now c.run.result (c.args.count + 1) (c.deref_mut.ensures.value ∙ c.in_ok-push.ensures.items) c.run.ensures.run in
     subst (All (Good q)) (sym is) (All-push (Good q) old (empty (c.args.count + 1)) c.requires.good (good_empty q (c.args.count + 1)))
 
 pub returns-in_err-bind-clause-undoes : goal.returns-in_err-bind-clause-undoes
 returns-in_err-bind-clause-undoes c =
     undone c.args.offer.now.plan.now c.args.runs.now.items c.deref_mut.result.now c.bind.new.runs (drop (length c.bind.new.runs) c.push.new.self.items) (c.args.count + 1) c.push.new.self.len
-    (pushed c.args.runs.now.items c.deref_mut.result.now c.new.result (c.args.count + 1) (c.deref_mut.ensures.value ∙ c.in_ok-push.ensures.items) c.new.ensures)
+    (pushed c.args.runs.now.items c.deref_mut.result.now c.run.result (c.args.count + 1) (c.deref_mut.ensures.value ∙ c.in_ok-push.ensures.items) c.run.ensures.run)
     (c.bind.auto.runs ∙ c.deref_mut.ensures.len) c.in_err-bind.ensures.undoes
 
 pub returns-clause-undoes : goal.returns-clause-undoes
 returns-clause-undoes c =
     undone c.args.offer.now.plan.now c.args.runs.now.items c.deref_mut.result.now c.bind.new.runs (drop (length c.bind.new.runs) c.push.new.self.items) (c.args.count + 1) c.push.new.self.len
-    (pushed c.args.runs.now.items c.deref_mut.result.now c.new.result (c.args.count + 1) (c.deref_mut.ensures.value ∙ c.in_ok-push.ensures.items) c.new.ensures)
+    (pushed c.args.runs.now.items c.deref_mut.result.now c.run.result (c.args.count + 1) (c.deref_mut.ensures.value ∙ c.in_ok-push.ensures.items) c.run.ensures.run)
     (c.bind.auto.runs ∙ c.deref_mut.ensures.len) c.in_ok-bind.ensures.undoes
 
 pub returns-clause-good : goal.returns-clause-good

@@ -1,11 +1,22 @@
-use Rattle.std.proofs.Common.{sym, subst, arith}
+use Rattle.std.proofs.Common.{◌≡◌, true, false, not, take, get_or, sym, ap, subst, ◌∙◌, rules, arith}
 use Rattle.std.proofs.lemmas.Grind.{common_steps}
-use Rattle.std.specs.List.{All}
+use Rattle.std.specs.List.{All, find, list_all, slice_get}
 use Rattle.std.proofs.lemmas.List.Elements.{All-get_or}
+use Rattle.std.proofs.lemmas.Option.{slice_get-get_or}
 use Rattle.sp_plan.specs.declared.plan.Element.TheVariants.{One}
+use Rattle.sp_plan.specs.Runs.{is_filled}
+use Rattle.sp_match.specs.inside.Kept.{kept, pairs}
 use Rattle.sp_match.specs.inside.Good.{IsNamed}
+use Rattle.sp_match.proofs.Searches.{found_none, found_more, found_here}
 use Rattle.sp_match.proofs.ElementsAreNamed.{elements_named}
 use Rattle.sp_match.proofs.taking.filled_front.Goals as goal
+
+pub loop-i-init : goal.loop-i-init
+loop-i-init c =
+    let r = pairs (kept c.args.run.now) in
+    let filled = c.args.run.now.filled in
+    let all : list_all (is_filled r) (take filled c.as_slice-elements.result.now) ≡ true = ap (λ es. list_all (is_filled r) (take filled es)) c.as_slice-elements.ensures ∙ c.requires.good.filled in
+    record { filled = all; none = found_none (is_filled r) (take filled c.as_slice-elements.result.now) all }
 
 pub is_filled-requires-clause-named : goal.is_filled-requires-clause-named
 is_filled-requires-clause-named c =
@@ -13,4 +24,25 @@ is_filled-requires-clause-named c =
     All-get_or IsNamed c.as_slice-elements.result.now c.loop-i.i (One 0) c.loop-i-test.true all
 
 pub loop-i-preserved : goal.loop-i-preserved
-loop-i-preserved c = grind (arith, common_steps)
+loop-i-preserved c =
+    let r = pairs (kept c.args.run.now) in
+    let elements = c.as_slice-elements.result.now in
+    let element = get_or elements c.loop-i.i (One 0) in
+    let same : get_or elements c.loop-i.i element ≡ element = search rules in
+    let fails : not (is_filled r (get_or elements c.loop-i.i element)) ≡ false = ap (λ e. not (is_filled r e)) same ∙ ap not (sym c.is_filled.ensures ∙ c.if-not-is_filled.false) in
+    let before = c.loop-i.invariant.filled in
+    record {
+      filled = grind (arith, common_steps);
+      none = found_more (λ element. not (is_filled r element)) elements c.loop-i.i element c.loop-i.invariant.none c.loop-i-test.true fails;
+    }
+
+pub returns-then-not-is_filled-clause-next : goal.returns-then-not-is_filled-clause-next
+returns-then-not-is_filled-clause-next c =
+    let r = pairs (kept c.args.run.now) in
+    let elements = c.as_slice-elements.result.now in
+    let element = get_or elements c.loop-i.i (One 0) in
+    let same : element ≡ get_or elements c.loop-i.i element = search rules in
+    let holds : not (is_filled r element) ≡ true = ap not (sym c.is_filled.ensures ∙ c.if-not-is_filled.true) in
+    ap (λ es. find (λ element. not (is_filled r element)) es) (sym c.as_slice-elements.ensures)
+    ∙ found_here (λ element. not (is_filled r element)) elements c.loop-i.i element c.loop-i.invariant.none c.loop-i-test.true same holds
+    ∙ sym (slice_get-get_or elements c.loop-i.i (One 0) c.loop-i-test.true) ∙ ap (λ es. slice_get es c.loop-i.i) c.as_slice-elements.ensures

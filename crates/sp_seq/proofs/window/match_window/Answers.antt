@@ -42,7 +42,7 @@ loop-i-preserved c =
           let telling : (s : State) → Stands m s → list ≡ definitions.told q s (definitions.moves q s (now.i + 1, event)) =
           subst (λ (p : Plan). (s : State) → Stands m s → list ≡ definitions.told p s (definitions.moves p s (now.i + 1, event))) now.invariant.plan_is offered.told in
           let added : w.add_matches.new.matches.items ≡ now.matches.items ++ matches_told c.args.window.number (length now.matches.items + 1) (filter is_completion list) =
-          w.in_ok-add_matches.ensures ∙ ap (λ l. now.matches.items ++ matches_told c.args.window.number (length now.matches.items + 1) (filter is_completion (map seen l))) w.deref.ensures.value in
+          w.in_ok-add_matches.ensures ∙ ap (λ l. now.matches.items ++ matches_told c.args.window.number (length now.matches.items + 1) (filter is_completion (map seen l))) w.deref_mut.ensures.value in
           let next = gathered_offer now.invariant.gathered (omega arith) (omega arith) same w.index-seats-i.result event refl c.completions_are_matches.ensures c.runs_are_sound.ensures w.if-not-seats-i.true m' list w.add_matches.new.matches.items handled telling added in
           gathering_as (record { gathered = next; plan_is = offered.plan ∙ now.invariant.plan_is; below = offered.below; more = omega (arith, now.invariant.more, ap length added, length-append now.matches.items (matches_told c.args.window.number (length now.matches.items + 1) (filter is_completion list))) }) w.matcher-is (ap (λ v. v.items) w.matches-is)
       | then-not-seats-i+else-not-ignores w ↦
