@@ -5,6 +5,7 @@ ghost use Rattle.std.specs.List.{All, flat_map};
 ghost use Rattle.sp_emit.specs.Matches.{ArePlaces, Binds, IsLine};
 ghost use Rattle.sp_plan.specs.Lines.{line, commas, binding_text, name_text, used_text};
 
+use itoa::Buffer;
 use sp_plan::{Match, Memory, Places, Plan};
 use std::alloc::Global;
 use std::fmt::Write;
@@ -16,8 +17,7 @@ const ROOM: usize = 96;
 fn push_number(out: &mut String, number: u32) -> Result<(), Memory>
     ensures { OnOk result (string_bytes out.new ≡ string_bytes out.old ++ decimal number) }
 {
-    write!(out, "{number}")?;
-    Ok(())
+    out.push_str(Buffer::new().format(number))
 }
 
 // Adds numbers, each after a comma.
