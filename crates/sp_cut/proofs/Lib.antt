@@ -5,4 +5,5 @@ pub mod Going
 pub mod Growing
 pub mod Marks
 pub mod Parts
+pub mod Short
 pub mod Worked

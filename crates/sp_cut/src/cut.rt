@@ -1,12 +1,13 @@
 ghost use Rattle.std.specs.Prelude.{◌≡◌, ◌≤◌, ◌<◌, ◌+◌, ◌++◌, [], length, take, drop, true, false, IfOk, IfErr, OnOk, OnErr, vec_len};
 ghost use Rattle.sp_cut.specs.Answer.{Gives, GivesRow, IsFault, given_in};
+ghost use Rattle.sp_cut.specs.CutRows as cut;
 ghost use Rattle.sp_cut.specs.Ends.{IsFound};
 ghost use Rattle.sp_cut.specs.Part.{part_of, left_behind};
 ghost use Rattle.sp_cut.specs.Span.{Finds, LiesNext, bytes_at};
 
 use crate::ends::{Found, first_end};
 use crate::fault::{CutFault, Memory};
-use crate::part::{Rest, is_long, put_bytes, rest_of, without_cr, without_mark};
+use crate::part::{ROW, Rest, is_long, put_bytes, rest_of, without_cr, without_mark};
 use crate::span::Span;
 use std::alloc::Global;
 use std::marker::Model;
@@ -126,7 +127,7 @@ impl Cutter {
     {
         match self.find_end() {
             Found::End(size) => {
-                if is_long(self.part(size)) {
+                if self.is_too_long(size) {
                     return Err(CutFault::LongRow {
                         row: self.given + 1,
                     });
@@ -223,6 +224,15 @@ impl Cutter {
         } else {
             part
         }
+    }
+
+    // Whether so many of the first bytes left are too long for a row: mostly their number tells that
+    // they are not.
+    fn is_too_long(&self, size: usize) -> bool
+        requires { size ≤ length self.now.bytes }
+        ensures { result ≡ cut.is_long (part_of self.now size) }
+    {
+        size > ROW && is_long(self.part(size))
     }
 
     // The bytes of rows given are dropped where they are at least as many as those left,

@@ -5,8 +5,8 @@ ghost use Rattle.sp_cut.specs.Part.{rows_of_rest};
 
 use crate::fault::Memory;
 
-// The most bytes that a row may have.
-const ROW: usize = 65_536;
+/// The most bytes that a row may have.
+pub(crate) const ROW: usize = 65_536;
 
 // A byte order mark.
 const MARK: &[u8] = &[0xEF, 0xBB, 0xBF];

@@ -42,7 +42,9 @@ plan_common : IsSync plan.the_row
 plan_common = search (pred_common, listed.the_sync, text.the_sync, schema.the_field_sync, element.the_sync, select.the_field_sync, lengths.the_field_sync, sendable, crosses) depth 30
 
 reading_sent : IsSend reading.the_field.row
-reading_sent = struct_send (shape reading.the_type) (search (plan_sent, plan_common, sendable, crosses) depth 30, (search (sendable, crosses) depth 30, (search (sendable, crosses) depth 30, tt)))
+reading_sent =
+    struct_send (shape reading.the_type)
+    (search (plan_sent, plan_common, sendable, crosses) depth 30, (search (sendable, crosses) depth 30, (search (sendable, crosses) depth 30, (search (sendable, crosses) depth 30, tt))))
 
 rows_sent : IsSend rows.the_field.row
 rows_sent = struct_send (shape rows.the_type) (reading_sent, (search (sendable, crosses) depth 30, (search (sendable, crosses) depth 30, tt)))

@@ -65,6 +65,7 @@ impl EventReader {
     }
 
     /// Puts in the next event, or tells why there is none.
+    #[inline(always)]
     pub(crate) fn poll(&mut self, alloc: Global, event: &mut Option<Event>) -> Polled
         ensures gives { (source : SourceState) → Gives (standing source self.old) (polled_in result event.new) (standing source self.new) }
         ensures some { result ≡ Polled.Event → IsSome event.new }

@@ -2,15 +2,16 @@ ghost use Rattle.std.specs.Prelude.{◌≡◌, ◌<◌, List, [], true, false, I
 ghost use Rattle.std.specs.Arc.{arc_value};
 ghost use Rattle.sp_plan.specs.Compiled.{IsCompiled};
 ghost use Rattle.sp_intake.specs.Standing.{Gives, ReadsFrom, stop_in, is_whole, is_halted};
-ghost use Rattle.sp_intake.specs.Asked.{standing};
+ghost use Rattle.sp_intake.specs.Asked.{standing, IsAsking};
+ghost use Rattle.sp_intake.specs.ReadAll.{ReadsAll};
 
 use crate::events::EventReader;
-use crate::input::Stop;
+use crate::input::{Given, Stop};
 use crate::step::Polled;
 use sp_io::Source;
 use sp_plan::{Memory, Plan};
 use sp_ports::{Intake, Next};
-use std::alloc::Global;
+use std::alloc::{AllocError, Global};
 use std::sync::Arc;
 
 // How many bytes are asked for at a time.
@@ -58,6 +59,43 @@ impl<'a, S: Source> Input<'a, S> {
         ensures halted { 0 < self.now.events.stops → is_halted self.now.events.state ≡ true }
     {
         self.events.stop()
+    }
+
+    // Asks the source for a piece, which the events are read of next.
+    fn ask(&mut self)
+        requires asks { IsAsking self.old.events }
+        ensures gives { Gives (standing (S.state self.old.source.now) self.old.events) [] (standing (S.state self.new.source.now) self.new.events) }
+        ensures stops { self.new.events.stops ≡ self.old.events.stops }
+        ensures same { self.new.source.ghost_name ≡ self.old.source.ghost_name }
+    {
+        let read = self.source.read(&mut self.piece);
+        self.events.take(&self.piece, read);
+    }
+
+    /// All that it gives. Each event goes from the one room that rows are read into to the list's end.
+    pub(crate) fn read_all(&mut self, alloc: Global) -> Result<Given, Memory>
+        ensures same { self.new.source.ghost_name ≡ self.old.source.ghost_name }
+        ensures all { ReadsAll (standing (S.state self.old.source.now) self.old.events) (standing (S.state self.new.source.now) self.new.events) result }
+    {
+        let mut events = Vec::new(alloc);
+        let mut room = None;
+        for _ in 0..u64::MAX {
+            match self.events.poll(alloc, &mut room) {
+                Polled::Event => {
+                    if let Some(event) = room.take() {
+                        events.push(event)?;
+                    }
+                }
+                Polled::Ask => self.ask(),
+                Polled::End | Polled::Stop => {
+                    if let Some(stop) = self.stop() {
+                        return Ok(Given { events, stop });
+                    }
+                }
+                Polled::Memory => return Err(AllocError),
+            }
+        }
+        Err(AllocError)
     }
 
     /// The source, as it stands now.

@@ -3,15 +3,12 @@ ghost use Rattle.std.specs.Arc.{arc_value};
 ghost use Rattle.sp_plan.specs.Compiled.{IsCompiled};
 ghost use Rattle.sp_intake.specs.Intake.{ReadsInput};
 ghost use Rattle.sp_intake.specs.Reading;
-ghost use Rattle.sp_intake.specs.Asked.{standing};
-ghost use Rattle.sp_intake.specs.ReadAll.{ReadsAll};
 
 use crate::events::EventReader;
 use crate::giving::Input;
 use sp_io::Source;
 use sp_plan::{Event, Memory, Plan};
-use sp_ports::{Intake, Next};
-use std::alloc::{AllocError, Global};
+use std::alloc::Global;
 use std::sync::Arc;
 
 /// Why no later row of the input counts.
@@ -62,29 +59,9 @@ pub fn read_input<S: Source>(
     ensures { ReadsInput (arc_value plan.now) (S.state input.old) (S.state input.new) result }
 {
     let mut reading = Input::over(input, EventReader::new(alloc, plan)?);
-    let given = read_all(alloc, &mut reading);
+    let given = reading.read_all(alloc);
     take_back(reading.into_source());
     given
-}
-
-// All that an input gives.
-fn read_all<S: Source>(alloc: Global, input: &mut Input<'_, S>) -> Result<Given, Memory>
-    ensures same { input.new.source.ghost_name ≡ input.old.source.ghost_name }
-    ensures all { ReadsAll (standing (S.state input.old.source.now) input.old.events) (standing (S.state input.new.source.now) input.new.events) result }
-{
-    let mut events = Vec::new(alloc);
-    for _ in 0..u64::MAX {
-        match input.next(alloc) {
-            Next::Event(event) => events.push(event)?,
-            Next::Memory => return Err(AllocError),
-            Next::End | Next::Stop => {
-                if let Some(stop) = input.stop() {
-                    return Ok(Given { events, stop });
-                }
-            }
-        }
-    }
-    Err(AllocError)
 }
 
 // Does nothing: the use of a reference that came back ties it to the one that was lent.

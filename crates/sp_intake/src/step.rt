@@ -22,6 +22,7 @@ pub(crate) enum Step {
 }
 
 /// Takes rows, up to one that gives an event, to the stop, or to the end of what is there.
+#[inline(always)]
 pub(crate) fn take_step(
     alloc: Global,
     reader: &mut Reader,

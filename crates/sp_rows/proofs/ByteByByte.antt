@@ -1,7 +1,8 @@
 -- Rows read byte by byte: what one byte more makes of a reading, and its end.
-use Rattle.std.proofs.Common.{◌≡◌, ℕ, Bool, true, false, List, [], ◌∷◌, ◌++◌, Some, None, refl, ◌∙◌, ap, sym}
-use Rattle.std.specs.Prelude.{if◌then◌else◌}
-use Rattle.csv.specs.Machine.{next_record, step, is_end, fields_after, field_after, ends_at_end}
+use Rattle.std.proofs.Common.{◌≡◌, inl, inr, ℕ, Bool, true, false, List, [], ◌∷◌, ◌++◌, Some, None, refl, ◌∙◌, ap, sym}
+use Rattle.std.specs.Prelude.{if◌then◌else◌, is_some, Option}
+use Rattle.std.proofs.lemmas.Bool.{cases_Bool}
+use Rattle.csv.specs.Machine.{Read, next_record, step, is_end, fields_after, field_after, ends_at_end}
 use Rattle.csv.specs.declared.parser.Config.{Config}
 use Rattle.csv.specs.declared.parser.State.{State}
 use Rattle.csv.specs.declared.parser.State.TheVariants as st
@@ -38,3 +39,10 @@ no_record cfg s fields field none = rw none refl
 pub at_end : (cfg : Config) (s : State) (fields : List (List ℕ)) (field : List ℕ) → ends_at_end s ≡ true → next_record cfg s fields field [] ≡ Some (fields ++ field ∷ [], st.StartRecord, [])
 unfolding next_record
 at_end cfg s fields field ends = rw ends refl
+
+-- whether the end of the bytes ends a record
+pub ends_or_not : (cfg : Config) (s : State) (fields : List (List ℕ)) (field : List ℕ) → ends_at_end s ≡ is_some (next_record cfg s fields field [])
+ends_or_not cfg s fields field = elim (cases_Bool (ends_at_end s)) [
+  | inl ends ↦ ends ∙ sym (ap (λ (o : Option Read). is_some o) (at_end cfg s fields field ends))
+  | inr none ↦ none ∙ sym (ap (λ (o : Option Read). is_some o) (no_record cfg s fields field none))
+]

@@ -6,7 +6,6 @@ pub mod Parts
 pub mod Answered
 pub mod Numbered
 pub mod Utf8
-pub mod Fields
 pub mod Marks
 pub mod Walks
 pub mod PlacedColumns
@@ -16,6 +15,7 @@ pub mod PlainRows
 pub mod ByteByByte
 pub mod SmallNumbers
 pub mod FitEvents
+pub mod Holds
 pub mod Times
 pub mod Pieces
 pub mod Points

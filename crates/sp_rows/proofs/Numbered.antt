@@ -1,9 +1,12 @@
 -- Texts and their numbers, where a list has something for each text.
-use Rattle.std.proofs.Common.{◌≡◌, ℕ, ◌+◌, Bool, true, false, ◌||◌, not, cond, List, [], ◌∷◌, ◌++◌, length, map, Some, None, refl, sym, ◌∙◌, ap}
+use Rattle.std.proofs.Common.{◌≡◌, inl, inr, ℕ, zero, suc, ◌+◌, Bool, true, false, true≢false, ◌||◌, not, cond, List, [], ◌∷◌, ◌++◌, length, map, Some, None, refl, sym, ◌∙◌, ap, subst, arith}
 use Rattle.std.specs.Prelude.{if◌then◌else◌, nat_lt}
-use Rattle.std.specs.List.{list_any, position, position_or_len}
+use Rattle.std.specs.List.{list_any, position, position_or_len, slice_get, AllByRecursion, IsDistinct}
 use Rattle.std.specs.Str.{bytes_eq}
+use Rattle.std.proofs.lemmas.Bool.{cases_Bool}
 use Rattle.std.proofs.lemmas.List.{map-append}
+use Rattle.std.proofs.lemmas.Map.Keys.{IsDistinct-head, IsDistinct-tail}
+use Rattle.std.proofs.lemmas.Slice.Eq.{bytes_eq-Decides}
 use Rattle.sp_plan.specs.Texts.{symbol_of, with_text}
 
 module _ {X : Type 0} (f : X → List ℕ) where
@@ -42,3 +45,43 @@ module _ {X : Type 0} (f : X → List ℕ) where
   -- a text that was found is known
   pub found_known : (text : List ℕ) (xs : List X) → list_any (λ x. bytes_eq text (f x)) xs ≡ true → map f xs ≡ with_text (map f xs) text
   found_known text xs known = let any : list_any (bytes_eq text) (map f xs) ≡ true = sym (any_of_texts (bytes_eq text) xs) ∙ known in rw any refl
+
+  -- what is true of all is true of the one at a place
+  true_there : (P : X → Type 0) (xs : List X) (i : ℕ) (x : X) → AllByRecursion P xs → slice_get xs i ≡ Some x → P x
+  true_there P [] i x all is = absurd (cc is)
+  true_there P (y ∷ ys) zero x all is = let same : y ≡ x = cc in subst P same all.0
+  true_there P (y ∷ ys) (suc i) x all is = true_there P ys i x all.1 is
+
+  -- a text that stands at a place is known
+  any_there : (p : X → Bool) (xs : List X) (i : ℕ) (x : X) → slice_get xs i ≡ Some x → p x ≡ true → list_any p xs ≡ true
+  any_there p [] i x is passes = absurd (cc is)
+  any_there p (y ∷ ys) zero x is passes = let same : y ≡ x = cc in rw (ap p same ∙ passes) refl
+  any_there p (y ∷ ys) (suc i) x is passes = elim (cases_Bool (p y)) [
+    | inl first ↦ rw first refl
+    | inr other ↦ rw other (any_there p ys i x is passes)
+  ]
+
+  pub there_known : (text : List ℕ) (xs : List X) (i : ℕ) (x : X) → slice_get xs i ≡ Some x → bytes_eq text (f x) ≡ true → map f xs ≡ with_text (map f xs) text
+  there_known text xs i x is same = found_known text xs (any_there (λ y. bytes_eq text (f y)) xs i x is same)
+
+  -- where no text stands twice, one has the place as its number at which it stands
+  only_place : (e : X → X → Bool) → ((x y : X) → e x y ≡ bytes_eq (f x) (f y)) → (text : List ℕ) (xs : List X) (i : ℕ) (x : X) → IsDistinct e xs → slice_get xs i ≡ Some x → bytes_eq text (f x) ≡ true
+      → i ≡ position_or_len (λ y. bytes_eq text (f y)) xs
+  only_place e by text [] i x distinct is same = absurd (cc is)
+  only_place e by text (y ∷ ys) zero x distinct is same =
+      let first : y ≡ x = cc in
+      rw (ap (λ (z : X). bytes_eq text (f z)) first ∙ same) refl
+  only_place e by text (y ∷ ys) (suc i) x distinct is same = elim (cases_Bool (bytes_eq text (f y))) [
+    | inl twice ↦
+        let this : text ≡ f x = (bytes_eq-Decides text (f x)).0 same in
+        let that : text ≡ f y = (bytes_eq-Decides text (f y)).0 twice in
+        let equal : e y x ≡ true = by y x ∙ (bytes_eq-Decides (f y) (f x)).1 (sym that ∙ this) in
+        absurd (true≢false (sym equal ∙ true_there (λ z. e y z ≡ false) ys i x (IsDistinct-head e y ys distinct) is))
+    | inr other ↦
+        let next : suc i ≡ 1 + i = omega arith in
+        rw other (next ∙ ap (λ (n : ℕ). 1 + n) (only_place e by text ys i x (IsDistinct-tail e y ys distinct) is same))
+  ]
+
+  pub there_number : (e : X → X → Bool) → ((x y : X) → e x y ≡ bytes_eq (f x) (f y)) → (text : List ℕ) (xs : List X) (i : ℕ) (x : X) → IsDistinct e xs → slice_get xs i ≡ Some x → bytes_eq text (f x) ≡ true
+      → i ≡ symbol_of (map f xs) text
+  there_number e by text xs i x distinct is same = only_place e by text xs i x distinct is same ∙ place_of_texts (bytes_eq text) xs

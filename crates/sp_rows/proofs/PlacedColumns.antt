@@ -1,5 +1,9 @@
 -- The columns of the plan with their places.
-use Rattle.std.proofs.Common.{◌≡◌, ℕ, zero, suc, ◌+◌, ◌≤◌, List, [], ◌∷◌, length, Some, None, refl, ◌∙◌, ap, arith, map}
+use Rattle.std.proofs.Common.{◌≡◌, ℕ, zero, suc, ◌+◌, ◌<◌, ◌≤◌, List, [], ◌∷◌, length, get_or, Some, None, refl, sym, ◌∙◌, ap, arith, map}
+use Rattle.std.proofs.lemmas.List.{length-map}
+use Rattle.std.specs.Prelude.{Option}
+use Rattle.std.specs.Option.{option_map}
+use Rattle.std.proofs.lemmas.Option.{slice_get-map, slice_get-get_or, slice_get_past}
 use Rattle.std.specs.List.{slice_get, enumerate_from, zip}
 use Rattle.sp_plan.specs.declared.plan.Plan.{Plan}
 use Rattle.sp_plan.specs.declared.plan.Column.{Column}
@@ -50,3 +54,13 @@ columns_end q places i past = first_ends (column_by q) 0 i q.schema.columns plac
 -- past the places there is none
 pub places_end : (q : Plan) (places : List ℕ) (i : ℕ) → length places ≤ i → slice_get (columns_at q places) i ≡ None
 places_end q places i past = second_ends (column_by q) 0 i q.schema.columns places past
+
+module _ {X Y : Type 0} (f : X → Y) where
+  -- an item that was made of another stands where that stands
+  pub made_there : (all : List Y) (xs : List X) (i : ℕ) (x : X) → map f xs ≡ all → i < length xs → slice_get all i ≡ Some (f (get_or xs i x))
+  made_there all xs i x made within =
+      ap (λ (l : List Y). slice_get l i) (sym made) ∙ slice_get-map f xs i ∙ ap (λ (o : Option X). option_map f o) (slice_get-get_or xs i x within)
+
+  -- and past them all stands none
+  pub made_past : (all : List Y) (xs : List X) (i : ℕ) → map f xs ≡ all → length xs ≤ i → slice_get all i ≡ None
+  made_past all xs i made past = ap (λ (l : List Y). slice_get l i) (sym made) ∙ slice_get_past (map f xs) i (omega (arith, length-map xs f))

@@ -5,6 +5,8 @@ pub mod Rows
 pub mod Codes
 pub mod Capped
 pub mod Shapes
+pub mod Held
+pub mod Holding
 pub mod Progress
 pub mod Plain
 pub mod Given

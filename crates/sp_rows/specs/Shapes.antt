@@ -2,9 +2,9 @@
 use Rattle.std.specs.Prelude.{◌≡◌, ℕ, List, find, is_none, Some, None}
 use Rattle.std.specs.List.{filter_map}
 use Rattle.std.specs.Option.{option_map}
-use Rattle.csv.specs.Records.{fields_of}
 use Rattle.sp_rows.specs.declared.split.Fields.{Fields}
-use Rattle.sp_rows.specs.declared.split.Fields.TheVariants as given
+use Rattle.sp_rows.specs.declared.cells.Row.{Row}
+use Rattle.sp_rows.specs.declared.cells.Row.TheVariants as row
 use Rattle.sp_rows.specs.declared.quoted.Cells.{Cells}
 use Rattle.sp_rows.specs.declared.quoted.Cells.TheVariants as read
 use Rattle.sp_plan.specs.declared.plan.Column.{Column}
@@ -19,14 +19,19 @@ use Rattle.sp_rows.specs.Rows.{ColumnAt, Cell, number, text, fault, place_of}
 
 -- the cells of a row
 abbrev pub fields_in : Fields → List (List ℕ)
-fields_in (given.Cut row nexts) = pieces row.now 0 nexts.now
-fields_in (given.Read record_read) = fields_of record_read.now
+fields_in fields = pieces fields.row.now 0 fields.nexts.now
 
 -- what a row reads as, where these are the cells of one record
 abbrev pub shape_of : Cells → List (List ℕ) → RowCells
 shape_of read.Blank cells = blank
 shape_of read.One cells = one cells
 shape_of read.Several cells = several
+
+-- what a row reads as
+abbrev pub read_as : Row → RowCells
+read_as row.Blank = blank
+read_as (row.One fields) = one (fields_in fields)
+read_as row.Several = several
 
 -- what the header gives: the place of each column, or the name of the first column that it lacks
 abbrev pub HeaderIs : List (List ℕ) → List Column → Header → Type 0

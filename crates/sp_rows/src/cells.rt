@@ -1,14 +1,20 @@
 // The cells of a row, cut at its commas or read byte by byte.
 ghost use Rattle.std.specs.Prelude.{◌≡◌, ◌<◌, ◌≤◌, true, false, take, drop, length, IfOk, IfSome};
-ghost use Rattle.csv.specs.Records.{fields_of};
 ghost use Rattle.sp_rows.specs.Cells as rows;
 ghost use Rattle.sp_rows.specs.Plain.{pieces};
-ghost use Rattle.sp_rows.specs.Shapes.{shape_of};
+ghost use Rattle.sp_rows.specs.Shapes.{read_as, shape_of};
 
 use crate::quoted::{Cells, Record};
-use crate::split::find_cells;
+use crate::split::{Fields, find_cells};
 use sp_plan::Memory;
-use std::alloc::Global;
+
+/// What a row reads as.
+#[derive(Clone, Copy, Drop)]
+pub(crate) enum Row<'a> {
+    Blank,
+    One(Fields<'a>),
+    Several,
+}
 
 // The bytes of a byte order mark.
 const MARK: &[u8] = b"\xef\xbb\xbf";
@@ -42,16 +48,16 @@ fn without_marks(row: &[u8]) -> &[u8]
     rest
 }
 
-/// Reads the cells of any row, which are left in the room where they are one record.
-pub(crate) fn read_row(alloc: Global, row: &[u8], room: &mut Record) -> Result<Cells, Memory>
-    ensures { IfOk result (λ cells. shape_of cells (fields_of room.new.cells) ≡ rows.row_cells row.now) }
+// Reads the cells of any row, which are left in the room where they are one record.
+fn read_row(row: &[u8], room: &mut Record) -> Result<Cells, Memory>
+    ensures { IfOk result (λ cells. shape_of cells room.new.cells ≡ rows.row_cells row.now) }
 {
-    room.read_cells(alloc, without_marks(row))
+    room.read_cells(without_marks(row))
 }
 
-/// The bytes of a row that are cut at its commas, where that gives what the crate csv reads, and the
-/// places of its cells. If not, or where memory is wanted, any places may come.
-pub(crate) fn cut_row<'a>(row: &'a [u8], nexts: &mut Vec<usize>) -> Result<Option<&'a [u8]>, Memory>
+// The bytes of a row that are cut at its commas, where that gives what the crate csv reads, and the
+// places of its cells. If not, or where memory is wanted, any places may come.
+fn cut_row<'a>(row: &'a [u8], nexts: &mut Vec<usize>) -> Result<Option<&'a [u8]>, Memory>
     ensures { IfOk result (λ cut. IfSome cut (λ rest. rows.one (pieces rest.now 0 nexts.new.items) ≡ rows.row_cells row.now)) }
 {
     let rest = without_marks(row);
@@ -59,4 +65,25 @@ pub(crate) fn cut_row<'a>(row: &'a [u8], nexts: &mut Vec<usize>) -> Result<Optio
         return Ok(Some(rest));
     }
     Ok(None)
+}
+
+/// Reads a row, whose cells are left in the row and its places, or in the room for a row with quotes.
+pub(crate) fn read_cells<'a>(
+    row: &'a [u8],
+    nexts: &'a mut Vec<usize>,
+    record: &'a mut Record,
+) -> Result<Row<'a>, Memory>
+    ensures { IfOk result (λ read. read_as read ≡ rows.row_cells row.now) }
+{
+    if let Some(rest) = cut_row(row, nexts)? {
+        return Ok(Row::One(Fields {
+            row: rest,
+            nexts: nexts.as_slice(),
+        }));
+    }
+    match read_row(row, record)? {
+        Cells::Blank => Ok(Row::Blank),
+        Cells::One => Ok(Row::One(record.fields())),
+        Cells::Several => Ok(Row::Several),
+    }
 }

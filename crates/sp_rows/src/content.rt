@@ -7,7 +7,7 @@ ghost use Rattle.sp_rows.specs.Shapes.{column_of, cell_shape, fields_in};
 use crate::columns::Placed;
 use crate::fault::RowKind;
 use crate::numbers::{number_of, whole_number_of};
-use crate::split::{Fields, cell_at};
+use crate::split::Fields;
 use sp_plan::Kind;
 
 /// What a cell gives: a number in units of its column, a text, or the kind of its fault.
@@ -67,10 +67,10 @@ fn content_of(is_time: bool, kind: Kind, cell: &[u8]) -> Content<'_>
 }
 
 /// What a row gives in a column; further cells of the row are ignored.
-pub(crate) fn content_in<'a>(cells: &'a Fields<'_>, column: &Placed) -> Content<'a>
+pub(crate) fn content_in<'a>(cells: &Fields<'a>, column: &Placed) -> Content<'a>
     ensures { cell_shape result ≡ spec.cell_in (fields_in cells.now) (column_of column.now) }
 {
-    match cell_at(cells, column.place) {
+    match cells.get(column.place) {
         Some(cell) => content_of(column.is_time, column.kind, cell),
         None => Content::Fault(RowKind::MissingCell),
     }

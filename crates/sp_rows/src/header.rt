@@ -6,7 +6,7 @@ ghost use Rattle.sp_rows.specs.Numbers.{trimmed as trimmed_cell};
 ghost use Rattle.sp_rows.specs.Shapes.{HeaderIs, fields_in};
 
 use crate::numbers::trimmed;
-use crate::split::{Fields, cell_at};
+use crate::split::Fields;
 use sp_plan::{Column, Memory, Text};
 use std::alloc::Global;
 
@@ -24,7 +24,7 @@ fn is_named(cells: &Fields<'_>, place: usize, name: &[u8]) -> bool
     requires { place < length (fields_in cells.now) }
     ensures { result ≡ bytes_eq (trimmed_cell (slice_index_or (fields_in cells.now) place [])) name.now }
 {
-    match cell_at(cells, place) {
+    match cells.get(place) {
         Some(cell) => trimmed(cell) == name,
         None => false,
     }

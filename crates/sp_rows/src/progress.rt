@@ -4,7 +4,7 @@ ghost use Rattle.sp_rows.specs.Rows as spec;
 ghost use Rattle.sp_rows.specs.Shapes.{column_of, fields_in};
 ghost use Rattle.sp_rows.specs.Progress.{reading, ErrorIs, Gave};
 
-use crate::columns::{Placed, time_column};
+use crate::columns::{Layout, Placed, time_column};
 use crate::fault::{RowError, RowFault, RowKind};
 use crate::split::Fields;
 use crate::texts::Texts;
@@ -85,18 +85,17 @@ impl Progress {
         &mut self,
         alloc: Global,
         cells: &Fields<'_>,
-        plan: &Plan,
-        places: &[usize],
+        layout: &Layout<'_>,
         event: &mut Option<Event>,
     ) -> Result<(), RowError>
         requires { self.old.read + 1 < 2 ^ 32 }
-        ensures event { OnOk result (Gave (spec.event_row plan.now (reading (Some places.now) self.old) (fields_in cells.now) places.now) (reading (Some places.now) self.new) event.new) }
+        ensures event { OnOk result (Gave (spec.event_row layout.now.plan.now (reading (Some layout.now.places.now) self.old) (fields_in cells.now) layout.now.places.now) (reading (Some layout.now.places.now) self.new) event.new) }
         ensures read { OnOk result (self.new.read ≡ self.old.read + 1) }
-        ensures error { IfErr result (λ e. ErrorIs (spec.event_row plan.now (reading (Some places.now) self.old) (fields_in cells.now) places.now) e) }
+        ensures error { IfErr result (λ e. ErrorIs (spec.event_row layout.now.plan.now (reading (Some layout.now.places.now) self.old) (fields_in cells.now) layout.now.places.now) e) }
         ensures err { OnErr result (self.new ≡ self.old) }
     {
         let known = self.texts.len();
-        let read = self.read_event(alloc, cells, plan, places, event);
+        let read = self.read_event(alloc, cells, layout, event);
         if read.is_err() {
             self.texts.truncate(known);
         }
@@ -108,32 +107,32 @@ impl Progress {
         &mut self,
         alloc: Global,
         cells: &Fields<'_>,
-        plan: &Plan,
-        places: &[usize],
+        layout: &Layout<'_>,
         event: &mut Option<Event>,
     ) -> Result<(), RowError>
         requires { self.old.read + 1 < 2 ^ 32 }
-        ensures event { OnOk result (Gave (spec.event_row plan.now (reading (Some places.now) self.old) (fields_in cells.now) places.now) (reading (Some places.now) self.new) event.new) }
+        ensures event { OnOk result (Gave (spec.event_row layout.now.plan.now (reading (Some layout.now.places.now) self.old) (fields_in cells.now) layout.now.places.now) (reading (Some layout.now.places.now) self.new) event.new) }
         ensures read { OnOk result (self.new.read ≡ self.old.read + 1) }
-        ensures error { IfErr result (λ e. ErrorIs (spec.event_row plan.now (reading (Some places.now) self.old) (fields_in cells.now) places.now) e) }
+        ensures error { IfErr result (λ e. ErrorIs (spec.event_row layout.now.plan.now (reading (Some layout.now.places.now) self.old) (fields_in cells.now) layout.now.places.now) e) }
         ensures same { OnErr result (self.new.read ≡ self.old.read) }
         ensures last { OnErr result (self.new.last ≡ self.old.last) }
         ensures kept { take (length self.old.texts) self.new.texts ≡ self.old.texts }
     {
-        let Ok(mut values) = Values::with_capacity(alloc, places.len()) else {
+        let Ok(values) = Values::with_capacity(alloc, layout.columns.len()) else {
             return Err(RowError::Memory);
         };
-        match read_values(alloc, cells, plan, places, &mut self.texts, &mut values) {
+        let own = event.insert(Event { time: 0, values });
+        match read_values(alloc, cells, layout, &mut self.texts, &mut own.values) {
             Err(_) => Err(RowError::Memory),
             Ok(Given::Fault(kind, place)) => Err(self.refusal_at(kind, place)),
             Ok(Given::Whole) => {
-                let time = time_in(values.as_slice(), plan.schema.time);
+                let time = time_in(own.values.as_slice(), layout.plan.schema.time);
                 if time < self.last {
-                    return Err(self.back_in_time(time, &time_column(plan, places)));
+                    return Err(self.back_in_time(time, &time_column(layout.plan, layout.places)));
                 }
                 self.read += 1;
                 self.last = time;
-                *event = Some(Event { time, values });
+                own.time = time;
                 Ok(())
             }
         }

@@ -3,14 +3,15 @@ ghost use Rattle.std.specs.Prelude.{◌≡◌, ◌≤◌, ◌++◌, ◌∷◌, [
 ghost use Rattle.csv.specs.Machine as csv_machine;
 ghost use Rattle.csv.specs.Machine.{next_record, fields_after, field_after, ends_at_end};
 ghost use Rattle.csv.specs.Reading.{default_config};
-ghost use Rattle.csv.specs.Records.{fields_of, partial_of};
+ghost use Rattle.csv.specs.declared.parser.State.TheVariants as st;
 ghost use Rattle.sp_rows.specs.Cells.{record_cells};
 ghost use Rattle.sp_rows.specs.Quoted.{state_of, action_of, moved, read_to};
-ghost use Rattle.sp_rows.specs.Shapes.{shape_of};
+ghost use Rattle.sp_rows.specs.Shapes.{fields_in, shape_of};
 
-use csv::ByteRecord;
+use crate::split::Fields;
 use sp_plan::Memory;
 use std::alloc::Global;
+use std::marker::Model;
 
 /// What a row of bytes reads as.
 #[derive(Clone, Copy, Drop)]
@@ -136,69 +137,99 @@ fn is_end(act: Act) -> bool
     }
 }
 
-/// Room for the cells of a row, which is used again from row to row.
+/// Room for the cells of a row, which is used again from row to row. Contracts see the cells, and the
+/// cell at hand.
 #[derive(Drop)]
 pub(crate) struct Record {
-    pub(crate) cells: ByteRecord,
-    // The bytes of the cell at hand.
-    cell: Vec<u8>,
+    // The bytes of the cells with a comma behind each, and those of the cell at hand.
+    bytes: Vec<u8>,
+    // The place behind each of these commas.
+    nexts: Vec<usize>,
+    // Where the cell at hand begins.
+    start: usize,
+}
+
+impl Model for Record {
+    ghost use Rattle.sp_rows.specs.Held.{Held};
+
+    ghost Value = { Held };
+
+    ghost use Rattle.sp_rows.specs.Holding.{held_in, AreHeld};
+
+    ghost view = { held_in };
+
+    ghost invariant = { AreHeld };
 }
 
 impl Record {
     /// No cell. Takes no memory.
-    pub(crate) fn new(alloc: Global) -> Record {
+    pub(crate) fn new(alloc: Global) -> Record
+        ensures { result ≡ record { cells = []; cell = [] } }
+    {
         Record {
-            cells: ByteRecord::new(alloc),
-            cell: Vec::new(alloc),
+            bytes: Vec::new(alloc),
+            nexts: Vec::new(alloc),
+            start: 0,
+        }
+    }
+
+    /// The cells.
+    pub(crate) fn fields(&self) -> Fields<'_>
+        ensures { fields_in result ≡ self.now.cells }
+    {
+        Fields {
+            row: self.bytes.as_slice(),
+            nexts: self.nexts.as_slice(),
         }
     }
 
     // No cell, as at the start.
     fn clear(&mut self)
-        ensures cells { fields_of self.new.cells ≡ [] }
-        ensures cell { self.new.cell.items ≡ [] }
-        ensures whole { partial_of self.new.cells ≡ [] }
+        ensures { self.new ≡ record { cells = []; cell = [] } }
     {
-        self.cells.clear();
-        self.cell.clear();
+        self.bytes.clear();
+        self.nexts.clear();
+        self.start = 0;
+    }
+
+    // One byte more of the cell at hand.
+    fn keep(&mut self, byte: u8) -> Result<(), Memory>
+        ensures { OnOk result (self.new ≡ record { cells = self.old.cells; cell = self.old.cell ++ byte ∷ [] }) }
+    {
+        self.bytes.push(byte)?;
+        Ok(())
     }
 
     // The cell at hand is the last one.
     fn end_cell(&mut self) -> Result<(), Memory>
-        requires { partial_of self.old.cells ≡ [] }
-        ensures cells { OnOk result (fields_of self.new.cells ≡ fields_of self.old.cells ++ self.old.cell.items ∷ []) }
-        ensures cell { OnOk result (self.new.cell.items ≡ []) }
-        ensures whole { OnOk result (partial_of self.new.cells ≡ []) }
+        ensures { OnOk result (self.new ≡ record { cells = self.old.cells ++ self.old.cell ∷ []; cell = [] }) }
     {
-        self.cells.push_field(self.cell.as_slice())?;
-        self.cell.clear();
+        self.bytes.push(b',')?;
+        let behind = self.bytes.len();
+        self.nexts.push(behind)?;
+        self.start = behind;
         Ok(())
     }
 
     // Does with a byte what it does.
     fn take(&mut self, act: Act, byte: u8) -> Result<(), Memory>
-        requires { partial_of self.old.cells ≡ [] }
-        ensures cells { OnOk result (fields_of self.new.cells ≡ fields_after (action_of act) (fields_of self.old.cells) self.old.cell.items) }
-        ensures cell { OnOk result (self.new.cell.items ≡ field_after (action_of act) byte self.old.cell.items) }
-        ensures whole { OnOk result (partial_of self.new.cells ≡ []) }
+        ensures cells { OnOk result (self.new.cells ≡ fields_after (action_of act) self.old.cells self.old.cell) }
+        ensures cell { OnOk result (self.new.cell ≡ field_after (action_of act) byte self.old.cell) }
     {
         match act {
             Act::Skip => Ok(()),
-            Act::Keep => {
-                self.cell.push(byte)?;
-                Ok(())
-            }
+            Act::Keep => self.keep(byte),
             Act::EndCell | Act::EndRecord => self.end_cell(),
         }
     }
 
-    // Reads the next record of bytes: where the reading then stands, and behind how many of the bytes.
-    fn read(&mut self, bytes: &[u8], from: At) -> Result<Option<(At, usize)>, Memory>
-        ensures read { IfOk result (λ end. next_record default_config (state_of from) [] [] bytes.now ≡ read_to bytes.now (fields_of self.new.cells) end) }
+    // Reads the first record of bytes: where the reading then stands, and behind how many of the bytes.
+    fn read(&mut self, bytes: &[u8]) -> Result<Option<(At, usize)>, Memory>
+        ensures read { IfOk result (λ end. next_record default_config st.StartRecord [] [] bytes.now ≡ read_to bytes.now self.new.cells end) }
         ensures within { IfOk result (λ end. IfSome end (λ e. e.1 ≤ length bytes.now)) }
     {
         self.clear();
-        let mut at = from;
+        let mut at = At::Record;
         for (place, byte) in bytes.iter().enumerate() {
             let (next, act) = step(at, *byte);
             self.take(act, *byte)?;
@@ -215,13 +246,13 @@ impl Record {
     }
 
     /// Reads the cells of bytes, which are left here where they are one record.
-    pub(crate) fn read_cells(&mut self, alloc: Global, bytes: &[u8]) -> Result<Cells, Memory>
-        ensures { IfOk result (λ cells. shape_of cells (fields_of self.new.cells) ≡ record_cells bytes.now) }
+    pub(crate) fn read_cells(&mut self, bytes: &[u8]) -> Result<Cells, Memory>
+        ensures { IfOk result (λ cells. shape_of cells self.new.cells ≡ record_cells bytes.now) }
     {
-        match self.read(bytes, At::Record)? {
+        match self.read(bytes)? {
             None => Ok(Cells::Blank),
             Some((at, size)) => {
-                if has_record(alloc, &bytes[size..], at)? {
+                if has_record(&bytes[size..], at) {
                     Ok(Cells::Several)
                 } else {
                     Ok(Cells::One)
@@ -232,9 +263,16 @@ impl Record {
 }
 
 // Whether the bytes have a record.
-fn has_record(alloc: Global, bytes: &[u8], from: At) -> Result<bool, Memory>
-    ensures { IfOk result (λ more. more ≡ is_some (next_record default_config (state_of from) [] [] bytes.now)) }
+fn has_record(bytes: &[u8], from: At) -> bool
+    ensures { result ≡ is_some (next_record default_config (state_of from) [] [] bytes.now) }
 {
-    let mut record = Record::new(alloc);
-    Ok(record.read(bytes, from)?.is_some())
+    let mut at = from;
+    for byte in bytes {
+        let (next, act) = step(at, *byte);
+        if is_end(act) {
+            return true;
+        }
+        at = next;
+    }
+    ends_record(at)
 }

@@ -1,8 +1,10 @@
-ghost use Rattle.std.specs.Prelude.{◌≡◌, ◌<◌, ◌+◌, ◌^◌, None, if◌then◌else◌, is_ok, is_some, IfOk};
+ghost use Rattle.std.specs.Prelude.{◌≡◌, ◌<◌, ◌+◌, ◌^◌, None, if◌then◌else◌, is_ok, is_some, map, IfOk};
 ghost use Rattle.std.specs.Arc.{arc_value};
+ghost use Rattle.std.specs.Option.{ForSome};
 ghost use Rattle.sp_rows.specs.Rows as spec;
-ghost use Rattle.sp_rows.specs.Shapes.{fields_in};
+ghost use Rattle.sp_rows.specs.Shapes.{column_of, fields_in};
 
+use crate::columns::{Layout, Placed, place_columns};
 use crate::fault::{RowError, RowKind};
 use crate::header::{Header, read_header};
 use crate::progress::Progress;
@@ -16,7 +18,10 @@ use std::sync::Arc;
 pub(crate) struct Reading {
     plan: Arc<Plan>,
     places: Option<Vec<usize>>,
+    // The columns of the plan at these places, and none before the header.
+    columns: Vec<Placed>,
     progress: Progress,
+    ghost placed: { ForSome places (λ own. map column_of columns.items ≡ spec.columns_at (arc_value plan) own.items) },
 }
 
 impl Reading {
@@ -31,6 +36,7 @@ impl Reading {
         Ok(Reading {
             plan,
             places: None,
+            columns: Vec::new(alloc),
             progress,
         })
     }
@@ -72,7 +78,12 @@ impl Reading {
         ensures answers { Answers (spec.row_of_cells (plan_in self.old) (read_in self.old) (fields_in cells.now) (read_in self.old).places) (read_in self.old) (read_in self.new) (given_as result event.new) }
     {
         if let Some(places) = &self.places {
-            return self.progress.event(alloc, cells, &self.plan, places, event);
+            let layout = Layout {
+                plan: &self.plan,
+                places,
+                columns: self.columns.as_slice(),
+            };
+            return self.progress.event(alloc, cells, &layout, event);
         }
         *event = None;
         self.header(alloc, cells)
@@ -91,7 +102,11 @@ impl Reading {
                 Err(RowError::Fault(self.progress.refusal(RowKind::NoColumn(name), 0)))
             }
             Ok(Header::Places(places)) => {
+                let Ok(columns) = place_columns(alloc, &self.plan, places.as_slice()) else {
+                    return Err(RowError::Memory);
+                };
                 self.places = Some(places);
+                self.columns = columns;
                 self.progress.read += 1;
                 Ok(())
             }

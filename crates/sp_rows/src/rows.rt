@@ -2,11 +2,10 @@ ghost use Rattle.std.specs.Prelude.{◌≡◌, ◌<◌, ◌+◌, if◌then◌els
 ghost use Rattle.std.specs.Arc.{arc_value};
 ghost use Rattle.sp_rows.specs.Rows as spec;
 
-use crate::cells::{cut_row, read_row};
+use crate::cells::{Row, read_cells};
 use crate::fault::{RowError, RowFault, RowKind};
-use crate::quoted::{Cells, Record};
+use crate::quoted::Record;
 use crate::reading::Reading;
-use crate::split::Fields;
 use sp_plan::{Event, Memory, Plan};
 use std::alloc::Global;
 use std::sync::Arc;
@@ -65,13 +64,15 @@ impl Rows {
         ensures read { (read_of self.new).read ≡ (read_of self.old).read + (if is_ok result then 1 else 0) }
         ensures answers { Answers (spec.row_result (plan_of self.old) (read_of self.old) row.now) (read_of self.old) (read_of self.new) (given_as result event.new) }
     {
-        match cut_row(row, &mut self.nexts) {
+        match read_cells(row, &mut self.nexts, &mut self.record) {
             Err(_) => Err(RowError::Memory),
-            Ok(Some(rest)) => {
-                let cells = Fields::Cut(rest, self.nexts.as_slice());
-                self.reading.row_of(alloc, &cells, event)
+            Ok(Row::Blank) => {
+                self.reading.pass();
+                *event = None;
+                Ok(())
             }
-            Ok(None) => self.quoted_row(alloc, row, event),
+            Ok(Row::One(cells)) => self.reading.row_of(alloc, &cells, event),
+            Ok(Row::Several) => Err(self.reading.refuse(RowKind::TwoRows)),
         }
     }
 
@@ -89,31 +90,5 @@ impl Rows {
             row: 0,
             column: 0,
         })
-    }
-
-    // The same for a row that is read byte by byte.
-    fn quoted_row(
-        &mut self,
-        alloc: Global,
-        row: &[u8],
-        event: &mut Option<Event>,
-    ) -> Result<(), RowError>
-        requires { (read_of self.old).read < 2097153 }
-        ensures plan { plan_of self.new ≡ plan_of self.old }
-        ensures read { (read_of self.new).read ≡ (read_of self.old).read + (if is_ok result then 1 else 0) }
-        ensures answers { Answers (spec.row_result (plan_of self.old) (read_of self.old) row.now) (read_of self.old) (read_of self.new) (given_as result event.new) }
-    {
-        match read_row(alloc, row, &mut self.record) {
-            Err(_) => Err(RowError::Memory),
-            Ok(Cells::Blank) => {
-                self.reading.pass();
-                *event = None;
-                Ok(())
-            }
-            Ok(Cells::Several) => Err(self.reading.refuse(RowKind::TwoRows)),
-            Ok(Cells::One) => self
-                .reading
-                .row_of(alloc, &Fields::Read(&self.record.cells), event),
-        }
     }
 }

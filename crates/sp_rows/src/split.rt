@@ -1,21 +1,17 @@
-// The cells of a row, cut at its commas or read byte by byte.
+// The cells of a row, by the places of their commas.
 ghost use Rattle.std.specs.Prelude.{◌≡◌, ◌≢◌, ◌<◌, ◌+◌, ◌++◌, ◌∷◌, ◌==◌, ◌^◌, true, false, length, [], if◌then◌else◌, slice_index_or, OnOk, IfOk};
 ghost use Rattle.std.specs.List.{slice_get};
 ghost use Rattle.std.specs.Option.{option_map};
-ghost use Rattle.csv.specs.Records.{fields_of};
 ghost use Rattle.sp_rows.specs.Plain as plain;
 ghost use Rattle.sp_rows.specs.Shapes.{fields_in};
 
-use csv::ByteRecord;
 use sp_plan::Memory;
 
-/// The cells of a row.
-#[derive(Drop)]
-pub(crate) enum Fields<'a> {
-    /// Cut out of a row, with the place behind each cell's comma, as if one stood behind the last too.
-    Cut(&'a [u8], &'a [usize]),
-    /// Read byte by byte.
-    Read(&'a ByteRecord),
+/// The cells of a row: bytes, with the place behind each cell's comma, as if one stood behind the last too.
+#[derive(Clone, Copy, Drop)]
+pub(crate) struct Fields<'a> {
+    pub(crate) row: &'a [u8],
+    pub(crate) nexts: &'a [usize],
 }
 
 // Whether the byte is a quote or one of a line's end.
@@ -52,8 +48,8 @@ pub(crate) fn find_cells(row: &[u8], nexts: &mut Vec<usize>) -> Result<bool, Mem
     if row.is_empty() {
         return Ok(false);
     }
-    for (place, byte) in row.iter().enumerate() {
-        if !take_byte(*byte, place, nexts)? {
+    for place in 0..row.len() {
+        if !take_byte(row[place], place, nexts)? {
             return Ok(false);
         }
     }
@@ -65,6 +61,9 @@ pub(crate) fn find_cells(row: &[u8], nexts: &mut Vec<usize>) -> Result<bool, Mem
 fn piece(row: &[u8], start: usize, next: usize) -> &[u8]
     ensures { result.now ≡ plain.piece row.now start next }
 {
+    if start < next && next - 1 <= row.len() {
+        return &row[start..next - 1];
+    }
     let rest = &row[start.min(row.len())..];
     let count = next.saturating_sub(1).saturating_sub(start);
     &rest[..count.min(rest.len())]
@@ -93,31 +92,18 @@ fn piece_at<'a>(row: &'a [u8], nexts: &[usize], place: usize) -> Option<&'a [u8]
     }
 }
 
-impl Fields<'_> {
+impl<'a> Fields<'a> {
     /// How many cells there are.
     pub(crate) fn len(&self) -> usize
         ensures { result ≡ length (fields_in self.now) }
     {
-        match self {
-            Fields::Cut(_, nexts) => nexts.len(),
-            Fields::Read(record) => record.len(),
-        }
+        self.nexts.len()
     }
-}
 
-// The cell of a record at this place from 0.
-fn record_cell(read: &ByteRecord, place: usize) -> Option<&[u8]>
-    ensures { option_map (λ cell. cell.now) result ≡ slice_get (fields_of read.now) place }
-{
-    read.get(place)
-}
-
-/// The cell at this place from 0.
-pub(crate) fn cell_at<'a>(cells: &'a Fields<'_>, place: usize) -> Option<&'a [u8]>
-    ensures { option_map (λ cell. cell.now) result ≡ slice_get (fields_in cells.now) place }
-{
-    match cells {
-        Fields::Cut(row, nexts) => piece_at(row, nexts, place),
-        Fields::Read(record) => record_cell(record, place),
+    /// The cell at this place from 0.
+    pub(crate) fn get(&self, place: usize) -> Option<&'a [u8]>
+        ensures { option_map (λ cell. cell.now) result ≡ slice_get (fields_in self.now) place }
+    {
+        piece_at(self.row, self.nexts, place)
     }
 }

@@ -1,4 +1,4 @@
-ghost use Rattle.std.specs.Prelude.{◌≡◌, [], fold, length, take, IfOk, OnOk};
+ghost use Rattle.std.specs.Prelude.{◌≡◌, ◌<◌, [], true, fold, length, take, IfOk, OnOk};
 ghost use Rattle.sp_plan.specs.Texts.{symbol_of, with_text};
 
 use indexmap::IndexSet;
@@ -6,11 +6,17 @@ use sp_plan::{Memory, Text};
 use std::alloc::{AllocError, Global};
 use std::marker::Model;
 
+// How many marks there are.
+const MARKS: usize = 256;
+
 /// Texts by their numbers: each has its place in the order in which they came. Contracts see the list
 /// of their bytes.
 #[derive(Drop)]
 pub(crate) struct Texts {
     set: IndexSet<Vec<u8>>,
+    // For each mark the number that a text of this mark had last. It is only where a text is looked for
+    // first, so it may be out of date.
+    last: [u32; MARKS],
 }
 
 impl Model for Texts {
@@ -28,9 +34,10 @@ impl Texts {
     {
         let mut known = Texts {
             set: IndexSet::new(alloc),
+            last: [0; MARKS],
         };
         for text in texts {
-            known.number(alloc, text.as_str().as_bytes())?;
+            known.find(alloc, text.as_str().as_bytes())?;
         }
         Ok(known)
     }
@@ -56,12 +63,51 @@ impl Texts {
         ensures texts { OnOk result (self.new ≡ with_text self.old text.now) }
         ensures kept { take (length self.old) self.new ≡ self.old }
     {
+        let mark = mark_of(text);
+        let last = self.last[mark];
+        if self.is_at(last, text) {
+            return Ok(last);
+        }
+        let number = self.find(alloc, text)?;
+        self.last[mark] = number;
+        Ok(number)
+    }
+
+    // Whether this text has this number.
+    fn is_at(&self, number: u32, text: &[u8]) -> bool
+        ensures number { result ≡ true → number ≡ symbol_of self.now text.now }
+        ensures known { result ≡ true → self.now ≡ with_text self.now text.now }
+    {
+        match self.set.as_slice().get(number as usize) {
+            Some(known) => known.as_slice() == text,
+            None => false,
+        }
+    }
+
+    // The number of a text, which is looked for among all.
+    fn find(&mut self, alloc: Global, text: &[u8]) -> Result<u32, Memory>
+        ensures number { IfOk result (λ number. number ≡ symbol_of self.old text.now) }
+        ensures texts { OnOk result (self.new ≡ with_text self.old text.now) }
+        ensures kept { take (length self.old) self.new ≡ self.old }
+    {
         if let Some(place) = self.set.get_index_of(text) {
             return number_at(place);
         }
         let owned = Vec::from_slice(alloc, text)?;
         let (place, _) = self.set.insert_full(owned)?;
         number_at(place)
+    }
+}
+
+// A mark of a text, by its ends and its length: texts that come in turn mostly have marks of their own.
+fn mark_of(text: &[u8]) -> usize
+    ensures { result < 256 }
+{
+    match (text.first(), text.last()) {
+        (Some(first), Some(last)) => {
+            (usize::from(*first) * 6 + usize::from(*last) + text.len() % 64) % MARKS
+        }
+        _ => 0,
     }
 }
 

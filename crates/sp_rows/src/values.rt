@@ -4,12 +4,12 @@ ghost use Rattle.sp_rows.specs.Rows as spec;
 ghost use Rattle.sp_rows.specs.Shapes.{cell_shape, fields_in};
 ghost use Rattle.sp_rows.specs.Given.{GivenIs, TimeIs, fault_of, time_among};
 
-use crate::columns::column_at;
+use crate::columns::Layout;
 use crate::content::{Content, content_in};
 use crate::fault::RowKind;
 use crate::split::Fields;
 use crate::texts::Texts;
-use sp_plan::{Memory, Plan, Value, Values};
+use sp_plan::{Memory, Value, Values};
 use std::alloc::Global;
 
 /// What the cells of a row give.
@@ -48,25 +48,19 @@ fn push_content(
 pub(crate) fn read_values(
     alloc: Global,
     cells: &Fields<'_>,
-    plan: &Plan,
-    places: &[usize],
+    layout: &Layout<'_>,
     texts: &mut Texts,
     values: &mut Values,
 ) -> Result<Given, Memory>
     requires { values.old ≡ [] }
-    ensures given { IfOk result (λ given. GivenIs (spec.values_of texts.old (fields_in cells.now) (spec.columns_at plan.now places.now)) (spec.first_fault (fields_in cells.now) (spec.columns_at plan.now places.now)) values.new texts.new given) }
-    ensures time { IfOk result (λ given. TimeIs plan.now.schema.time (spec.time_of (fields_in cells.now) (spec.columns_at plan.now places.now)) values.new given) }
+    ensures given { IfOk result (λ given. GivenIs (spec.values_of texts.old (fields_in cells.now) (spec.columns_at layout.now.plan.now layout.now.places.now)) (spec.first_fault (fields_in cells.now) (spec.columns_at layout.now.plan.now layout.now.places.now)) values.new texts.new given) }
+    ensures time { IfOk result (λ given. TimeIs layout.now.plan.now.schema.time (spec.time_of (fields_in cells.now) (spec.columns_at layout.now.plan.now layout.now.places.now)) values.new given) }
     ensures kept { take (length texts.old) texts.new ≡ texts.old }
 {
-    for number in 0..places.len() {
-        match column_at(plan, places, number) {
-            None => return Ok(Given::Whole),
-            Some(column) => {
-                let content = content_in(cells, &column);
-                if let Some(kind) = push_content(alloc, values, texts, content)? {
-                    return Ok(Given::Fault(kind, column.place));
-                }
-            }
+    for column in layout.columns {
+        let content = content_in(cells, column);
+        if let Some(kind) = push_content(alloc, values, texts, content)? {
+            return Ok(Given::Fault(kind, column.place));
         }
     }
     Ok(Given::Whole)

@@ -3,7 +3,7 @@ use Rattle.std.proofs.lemmas.Grind.{common_steps}
 use Rattle.sp_plan.specs.Texts.{symbol_of, with_text}
 use Rattle.sp_rows.proofs.Answered.{on_ok}
 use Rattle.sp_rows.proofs.Numbered.{found_number, found_known, place_of_texts, added_text}
-use Rattle.sp_rows.proofs.texts.Texts.number.Goals as goal
+use Rattle.sp_rows.proofs.texts.Texts.find.Goals as goal
 
 -- the bytes of a text in the set
 abbrev bytes_of : Vec ℕ Global → List ℕ

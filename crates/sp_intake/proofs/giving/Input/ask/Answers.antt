@@ -1,0 +1,21 @@
+use Rattle.std.proofs.Common.{arith}
+use Rattle.sp_intake.specs.Standing.{WasRead}
+use Rattle.sp_intake.proofs.giving.Input.ask.Goals as goal
+
+pub returns-clause-gives : goal.returns-clause-gives
+returns-clause-gives g c =
+    let before = g.S.Source.state c.args.self.now.source.now in
+    let next = g.S.Source.state c.read-read.new.self in
+    let read = c.read-read.ensures in
+    let was : WasRead before c.read-read.new.into c.read-read.result next = record {
+      size = omega (arith, read.size);
+      bytes = read.bytes;
+      untaken = read.untaken;
+      ended = read.ended;
+      goes_on = read.goes_on;
+      failed_before_end = read.failed_before_end;
+      no_fault = read.no_fault;
+      fault = read.fault;
+      never_falls = read.never_falls;
+    } in
+    c.take.ensures.gives before next was
