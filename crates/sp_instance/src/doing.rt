@@ -1,11 +1,10 @@
-ghost use Rattle.std.specs.Prelude.{◌≡◌, OnOk};
-ghost use Rattle.sp_piece.specs.Pieced.{begun};
-ghost use Rattle.sp_instance.specs.Doing.{IsDone, IsWhole};
+ghost use Rattle.std.specs.Prelude.{◌≡◌};
+ghost use Rattle.sp_instance.specs.Doing.{IsDone};
 
-use crate::{Gate, Memory};
+use crate::Gate;
 use sp_hub::{Naming, Seat};
-use sp_piece::{Job, Piece, Stepped};
-use std::alloc::{AllocError, Global};
+use sp_piece::{Job, Piece};
+use std::alloc::Global;
 
 /// Does a job at a seat, inside the gate: reads all that it lends. Where memory is refused the piece is given
 /// up, with what it has read.
@@ -24,23 +23,9 @@ pub(crate) fn do_job_at<G: Gate>(alloc: Global, seat: u32, job: Job, gate: &G) -
     let ticket = job.ticket;
     gate.enter(seat, ticket);
     let mut piece = Piece::start(alloc, job);
-    if read_whole(alloc, &mut piece).is_err() {
+    if piece.read_whole(alloc).is_err() {
         piece.give_up();
     }
     gate.leave(seat, ticket);
     piece
-}
-
-// Reads all that the piece's job lends. After want of memory the piece stands for what it has read.
-fn read_whole(alloc: Global, piece: &mut Piece) -> Result<(), Memory>
-    requires { piece.old ≡ begun piece.old.job }
-    ensures job { piece.new.job ≡ piece.old.job }
-    ensures whole { OnOk result (IsWhole piece.new) }
-{
-    for _ in 0..u64::MAX {
-        if piece.step(alloc)? == Stepped::Finished {
-            return Ok(());
-        }
-    }
-    Err(AllocError)
 }

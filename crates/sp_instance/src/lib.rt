@@ -13,9 +13,5 @@ mod workplace;
 pub use doing::do_job;
 pub use gate::{Gate, OpenGate};
 pub use seated::Seated;
-use std::alloc::AllocError;
 pub use working::{work, work_all, work_at};
 pub use workplace::Workplace;
-
-/// Want of memory. Any call that allocates may answer it, and says what stands after it.
-pub type Memory = AllocError;

@@ -18,6 +18,7 @@ use Rattle.sp_plan.specs.contracts.plan.Expr as expr
 use Rattle.sp_plan.specs.contracts.plan.Pred as pred
 use Rattle.sp_plan.specs.contracts.plan.Plan as plan
 use Rattle.sp_match.proofs.run.Run.TheSendSync as run
+use Rattle.sp_match.proofs.stock.Stock.TheSendSync as stock
 use Rattle.sp_match.specs.contracts.matcher.Matcher as matcher
 use Rattle.sp_match.proofs.known.Known.TheSendSync as known
 use Rattle.sp_match.proofs.moves.Moves.TheSendSync as moves
@@ -44,7 +45,7 @@ plan_common : IsSync plan.the_row
 plan_common = search (pred_common, listed.the_sync, text.the_sync, schema.the_field_sync, element.the_sync, select.the_field_sync, lengths.the_field_sync, sendable, crosses) depth 30
 
 matcher_sent : IsSend matcher.the_row
-matcher_sent = search (plan_sent, plan_common, run.the_send, sendable, crosses) depth 30
+matcher_sent = search (plan_sent, plan_common, run.the_send, stock.the_send, sendable, crosses) depth 30
 
 job_kept : IsSend job.the_field.row
 job_kept = search (matcher_sent, listed.the_send, event.the_send, known.the_field_send, numbers.the_send, sendable, crosses) depth 30

@@ -36,7 +36,7 @@ told_skipped l s n skip =
     ∙ append-nil (accounts_on l s n)
 
 -- an event that is not passed over is handled, and told of behind the others
-on_handled : (l : Loan) (s : State) (n : ℕ) (e : Event) → skips l n ≡ false → slice_get l.events n ≡ Some e
+pub on_handled : (l : Loan) (s : State) (n : ℕ) (e : Event) → skips l n ≡ false → slice_get l.events n ≡ Some e
     → read_on l s (n + 1) ≡ handle l.plan (read_on l s n) (l.first + n, e)
 on_handled l s n e seen there =
     let next : n + 1 ≡ suc n = omega arith in
@@ -44,7 +44,7 @@ on_handled l s n e seen there =
     ∙ ap (λ (b : Bool). if b then read_on l s n else after_event l.plan (read_on l s n) (l.first + n) (slice_get l.events n)) seen
     ∙ ap (λ (o : Option Event). after_event l.plan (read_on l s n) (l.first + n) o) there
 
-told_handled : (l : Loan) (s : State) (n : ℕ) (e : Event) → skips l n ≡ false → slice_get l.events n ≡ Some e
+pub told_handled : (l : Loan) (s : State) (n : ℕ) (e : Event) → skips l n ≡ false → slice_get l.events n ≡ Some e
     → accounts_on l s (n + 1) ≡ accounts_on l s n ++ account l.plan (read_on l s n) (l.first + n, e) ∷ []
 told_handled l s n e seen there =
     let next : n + 1 ≡ suc n = omega arith in
@@ -53,7 +53,7 @@ told_handled l s n e seen there =
     ∙ ap (λ (o : Option Event). accounts_on l s n ++ event_accounts l.plan (read_on l s n) (l.first + n) o) there
 
 -- what is told by accounts behind others comes behind what those tell
-joined_both : (xs ys : List Account) → joined (xs ++ ys) ≡ (record { told = (joined xs).told ++ (joined ys).told; wanted = (joined xs).wanted ++ (joined ys).wanted })
+pub joined_both : (xs ys : List Account) → joined (xs ++ ys) ≡ (record { told = (joined xs).told ++ (joined ys).told; wanted = (joined xs).wanted ++ (joined ys).wanted })
 joined_both xs ys = λ i. record { told = flat_map-append (λ (a : Account). a.told) xs ys i; wanted = flat_map-append (λ (a : Account). a.wanted) xs ys i }
 
 pub joined_behind : (xs ys zs : List Account) → joined xs ≡ joined ys → joined (xs ++ zs) ≡ joined (ys ++ zs)
@@ -71,13 +71,13 @@ abbrev holds_below : ℕ → Started → Type 0
 holds_below n run = All (is_below n) run.1
 
 -- what is below a number is below the next one
-below_next : (n : ℕ) (s : State) → Below n s → Below (n + 1) s
+pub below_next : (n : ℕ) (s : State) → Below n s → Below (n + 1) s
 below_next n s below = record {
   events = All-weaker (holds_below n) (holds_below (n + 1)) (λ run all. All-weaker (is_below n) (is_below (n + 1)) (λ pair less. omega arith) run.1 all) s.open_runs below.events;
   started = let less = below.started in omega arith;
 }
 
-abbrev at : Job → ℕ → Bool → Bool → Pieced
+abbrev pub at : Job → ℕ → Bool → Bool → Pieced
 at job read closed short = record { job = job; read = read; closed = closed; short = short }
 
 -- the lent event of this number is passed over

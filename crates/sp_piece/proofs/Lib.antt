@@ -3,3 +3,6 @@ pub mod Alike
 pub mod Telling
 pub mod Crossing
 pub mod Wants
+pub mod Quiet
+pub mod Stepping
+pub mod Passing

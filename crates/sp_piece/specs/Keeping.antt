@@ -1,12 +1,15 @@
 -- What a piece keeps between two steps.
-use Rattle.std.specs.Prelude.{◌≡◌, ◌+◌, ◌≤◌, true, List, [], ◌∷◌, ◌++◌, Option, Some, None, length, map}
+use Rattle.std.specs.Prelude.{◌≡◌, ◌⊎◌, ℕ, zero, suc, ◌+◌, ◌<◌, ◌≤◌, true, false, List, [], ◌∷◌, ◌++◌, Option, Some, None, length, map}
 use Rattle.sp_plan.specs.Windows.{Numbered}
 use Rattle.sp_plan.specs.Runs.{State, handle}
+use Rattle.sp_match.specs.declared.known.Known.{Known}
+use Rattle.sp_match.specs.public.Known.{IsKnown}
 use Rattle.sp_match.specs.public.Laws.{Below}
-use Rattle.sp_match.specs.public.Matching.{Matching, Stands, runs_of}
+use Rattle.sp_match.specs.public.Matching.{IsAfter, Matching, Stands, TellsEvent, TellsWanted, runs_of, wanted_as_before}
 use Rattle.sp_match.specs.declared.moves.Moves.{Moves}
-use Rattle.sp_piece.specs.Reading.{Account, account, closing_account, joined, seen_moves}
-use Rattle.sp_piece.specs.Pieced.{Pieced, LedTo, Tells}
+use Rattle.sp_piece.specs.declared.job.Job.{Job}
+use Rattle.sp_piece.specs.Reading.{Account, account, closing_account, joined, seen_moves, skips}
+use Rattle.sp_piece.specs.Pieced.{Pieced, LedTo, Tells, loan}
 
 -- the matcher that has read: the one of the job until there is another
 abbrev pub current : Option Matching → Matching → Matching
@@ -42,3 +45,30 @@ pub record ClosedOff (m n : Matching) (list more : List Moves) : Type 0 where
   pub none : n.open_runs ≡ []
   pub count : n.started ≡ m.started
   pub told : (s : State) → Stands m s → TellsOn (closing_account m.plan s) list more
+
+-- a piece that has read so many of the lent events, and was neither closed nor given up
+abbrev pub going : Job → ℕ → Pieced
+going job read = record { job = job; read = read; closed = false; short = false }
+
+-- More of the lent events were read, and else nothing changed.
+abbrev pub HasReadOn : Pieced → Pieced → Type 0
+HasReadOn p later = (n : ℕ) × (p.read ≤ n) × (n ≤ length p.job.events) × (later ≡ record p { read = n })
+
+-- none of the lent events from one place on and in front of another one is to be skipped
+abbrev pub NoneSkipped : Job → ℕ → ℕ → Type 0
+NoneSkipped job from end = (i : ℕ) → from ≤ i → i < end → skips (loan job) i ≡ false
+
+-- The event of a number was read, or was not lent.
+abbrev pub IsPast : Job → ℕ → ℕ → Type 0
+IsPast job read number = (number < job.first + read) ⊎ (job.first + length job.events ≤ number)
+
+-- An event of which this is known changes nothing for a matcher, tells nothing, and leaves what the runs want.
+pub record PassesBy (m : Matching) (k : Known) : Type 0 where
+  pub stands : (x : Numbered) → IsKnown m.plan x.1 k → IsAfter x m m
+  pub told : (x : Numbered) → IsKnown m.plan x.1 k → TellsEvent x m []
+  pub wanted : (x : Numbered) → IsKnown m.plan x.1 k → TellsWanted x m (wanted_as_before m)
+
+-- the same list so many times, one after another
+abbrev pub repeated : {A : Type 0} → ℕ → List A → List A
+repeated zero l = []
+repeated (suc n) l = repeated n l ++ l

@@ -1,5 +1,5 @@
 -- A piece as its callers see it, and what a step does to it.
-use Rattle.std.specs.Prelude.{◌≡◌, ℕ, ◌+◌, Bool, true, false, ◌&&◌, not, length, nat_lt, List, map, if◌then◌else◌}
+use Rattle.std.specs.Prelude.{◌≡◌, ℕ, zero, suc, ◌+◌, Bool, true, false, ◌&&◌, not, length, nat_lt, List, map, if◌then◌else◌}
 use Rattle.sp_plan.specs.Runs.{State}
 use Rattle.sp_match.specs.public.Matching.{Matching, Stands}
 use Rattle.sp_match.specs.declared.moves.Moves.{Moves}
@@ -38,6 +38,19 @@ after_step p = record p {
   read = if has_event p then p.read + 1 else p.read;
   closed = if has_closing p then true else p.closed;
 }
+
+-- so many steps, one after another
+abbrev pub after_steps : ℕ → Pieced → Pieced
+after_steps zero p = p
+after_steps (suc n) p = after_step (after_steps n p)
+
+-- Steps lead from one to the other.
+abbrev pub StepsLead : Pieced → Pieced → Type 0
+StepsLead p later = (n : ℕ) × (later ≡ after_steps n p)
+
+-- all that was lent is read, and the closing where it was lent too; where the piece was given up nothing changes
+abbrev pub read_whole : Pieced → Pieced
+read_whole p = if p.short then p else record p { read = length p.job.events; closed = p.job.closes }
 
 -- memory was refused
 abbrev pub refused : Pieced → Pieced

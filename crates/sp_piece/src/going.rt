@@ -1,15 +1,15 @@
 // How a matcher and the list of its moves go on.
-ghost use Rattle.std.specs.Prelude.{◌≡◌, [], true, Some, OnOk, OnErr, map};
+ghost use Rattle.std.specs.Prelude.{◌≡◌, [], ◌++◌, true, Some, OnOk, OnErr, map};
 ghost use Rattle.sp_plan.specs.Events.{fits};
 ghost use Rattle.sp_match.specs.public.Known.{IsKnown};
 ghost use Rattle.sp_match.specs.public.Laws.{Below};
 ghost use Rattle.sp_match.specs.public.Matching.{runs_of, wanted_as_before};
-ghost use Rattle.sp_piece.specs.Keeping.{ClosedOff, HandledOn, TellsOn, TellsSame, current};
+ghost use Rattle.sp_piece.specs.Keeping.{ClosedOff, HandledOn, TellsOn, TellsSame, current, repeated};
 
 use crate::Memory;
 use sp_match::{Known, Matcher, Moves};
 use sp_plan::Event;
-use std::alloc::Global;
+use std::alloc::{AllocError, Global};
 
 /// A lent event that is to be read, with its number.
 #[derive(Clone, Copy, Drop)]
@@ -41,11 +41,35 @@ fn begin(alloc: Global, matcher: &mut Option<Matcher>, before: &Matcher) -> Resu
     Ok(())
 }
 
-// What the open runs want where an event changes nothing comes behind what the last entry tells. After want
-// of memory no more is told than before.
-fn add_wanted(alloc: Global, led: &Matcher, moves: &mut Vec<Moves>) -> Result<(), Memory>
+// Adds so many times what the open runs want where an event changes nothing. After want of memory the list is
+// as before.
+fn add_times(led: &Matcher, times: u32, wanted: &mut Vec<(u32, u32)>) -> Result<(), Memory>
+    ensures added { OnOk result
+        (wanted.new.items ≡ wanted.old.items ++ repeated times (wanted_as_before led.now)) }
+    ensures err { OnErr result (wanted.new.items ≡ wanted.old.items) }
+{
+    let before = wanted.len();
+    // Room for all of it is made once.
+    wanted.reserve(led.open_runs().len().saturating_mul(times as usize))?;
+    for _ in 0..times {
+        if led.add_wanted(wanted).is_err() {
+            wanted.truncate(before);
+            return Err(AllocError);
+        }
+    }
+    Ok(())
+}
+
+/// What the open runs want where so many events change nothing comes behind what the last entry tells. After
+/// want of memory no more is told than before.
+pub(crate) fn add_wanted(
+    alloc: Global,
+    led: &Matcher,
+    times: u32,
+    moves: &mut Vec<Moves>,
+) -> Result<(), Memory>
     ensures ok { OnOk result
-        (TellsOn (record { told = []; wanted = wanted_as_before led.now })
+        (TellsOn (record { told = []; wanted = repeated times (wanted_as_before led.now) })
         moves.old.items moves.new.items) }
     ensures err { OnErr result (TellsSame moves.old.items moves.new.items) }
 {
@@ -56,7 +80,7 @@ fn add_wanted(alloc: Global, led: &Matcher, moves: &mut Vec<Moves>) -> Result<()
         moves.push(Moves::new(alloc))?;
     }
     let last = moves.len() - 1;
-    led.add_wanted(&mut moves[last].wanted)
+    add_times(led, times, &mut moves[last].wanted)
 }
 
 // The matcher handles the event, and what is told of it comes behind the other moves. After want of memory
@@ -108,7 +132,7 @@ pub(crate) fn handle_event(
 {
     let so_far = led(matcher, before);
     if so_far.ignores(next.known) {
-        return add_wanted(alloc, so_far, moves);
+        return add_wanted(alloc, so_far, 1, moves);
     }
     offer_event(alloc, matcher, moves, before, next)
 }

@@ -1,11 +1,13 @@
-//! Jobs, which carry all that a reading of lent events needs, and pieces, which do the reading event by
-//! event. Where a reading leads, and what is told of it, stands in `specs/Reading.antt`.
+//! Jobs, which carry all that a reading of lent events needs, and pieces, which do the reading, event by
+//! event or all that is left at once. Where a reading leads, and what is told of it, stands in
+//! `specs/Reading.antt`.
 #![tactic(auto)]
 
 mod going;
 mod job;
 mod laws;
 mod piece;
+mod reading;
 mod stepped;
 
 pub use job::Job;

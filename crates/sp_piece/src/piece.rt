@@ -1,17 +1,20 @@
 ghost use Rattle.std.specs.Prelude.{◌≡◌, ◌≤◌, ◌+◌, true, false, length, OnOk, OnErr, IfOk};
 ghost use Rattle.sp_match.specs.public.Laws.{Below};
 ghost use Rattle.sp_match.specs.public.Matching.{runs_of};
-ghost use Rattle.sp_piece.specs.Pieced.{LedTo, Tells, after_step, answer, begun, has_closing, has_event, refused};
+ghost use Rattle.sp_piece.specs.Pieced.{LedTo, StepsLead, Tells, after_step, answer, begun, has_closing, has_event, read_whole, refused};
+ghost use Rattle.sp_piece.specs.Keeping.{HasReadOn};
+ghost use Rattle.sp_piece.specs.declared.stepped.Stepped.TheVariants as s;
 
-use crate::going::{Next, handle_closing, handle_event, led};
+use crate::going::{handle_closing, led};
+use crate::reading::{read_all, read_next};
 use crate::{Job, Memory, Stepped};
 use sp_hub::Named;
 use sp_match::{Matcher, Moves};
 use std::alloc::Global;
 use std::marker::Model;
 
-/// A reading of what a job lends, event by event. Contracts see the job, how many events were read,
-/// whether the closing was, and whether memory was refused.
+/// A reading of what a job lends, event by event or all that is left at once. Contracts see the job, how many
+/// events were read, whether the closing was, and whether memory was refused.
 #[derive(Drop)]
 pub struct Piece {
     job: Job,
@@ -77,6 +80,41 @@ impl Piece {
         self.read_closing(alloc)
     }
 
+    /// Reads all that is left: the lent events, passing over those of the snapshot, and then the window's
+    /// closing, where the job lends it; where the piece was given up, nothing. The piece is what steps lead to.
+    /// After want of memory it stands for what it has read, and can be read on.
+    pub fn read_whole(&mut self, alloc: Global) -> Result<(), Memory>
+        ensures steps { StepsLead self.old self.new }
+        ensures whole { OnOk result (self.new ≡ read_whole self.old) }
+        ensures end { OnOk result (answer self.new ≡ s.Finished) }
+        ensures job { self.new.job ≡ self.old.job }
+    {
+        if self.short || self.closed {
+            return Ok(());
+        }
+        self.read_events(alloc)?;
+        if self.job.closes {
+            self.read_closing(alloc)?;
+        }
+        Ok(())
+    }
+
+    // Reads all lent events that are left.
+    fn read_events(&mut self, alloc: Global) -> Result<(), Memory>
+        requires whole { self.old.short ≡ false }
+        requires going { self.old.closed ≡ false }
+        ensures on { HasReadOn self.old self.new }
+        ensures ok { OnOk result (self.new.read ≡ length self.old.job.events) }
+    {
+        read_all(
+            alloc,
+            &self.job,
+            &mut self.read,
+            &mut self.matcher,
+            &mut self.moves,
+        )
+    }
+
     // Reads the next lent event.
     fn read_event(&mut self, alloc: Global) -> Result<Stepped, Memory>
         requires { has_event self.old ≡ true }
@@ -92,21 +130,13 @@ impl Piece {
                 skipped: true,
             });
         }
-        let job = &self.job;
-        let place = self.read as usize;
-        let next = Next {
-            number,
-            event: &job.events.as_slice()[place],
-            known: job.known.as_slice()[place],
-        };
-        handle_event(
+        read_next(
             alloc,
+            &self.job,
+            &mut self.read,
             &mut self.matcher,
             &mut self.moves,
-            &job.before,
-            &next,
         )?;
-        self.read += 1;
         Ok(Stepped::Read {
             number,
             skipped: false,
