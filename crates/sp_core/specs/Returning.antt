@@ -62,13 +62,17 @@ IsCarried c job =
 abbrev pub CanComeHome : Running → Pieced → Type 0
 CanComeHome c p = IsCarried c p.job
 
+-- A piece has come home: it was out, and was read so far; the readings and the return stand in the journal.
+abbrev pub IsHome : Running → Running → Pieced → Type 0
+IsHome old new p =
+    (t : Ticket) × (v : Version) × IsOut old p t v × Carries old.plan old.machine t v p.job
+    × (new ≡ after_return old p.job.ticket (readings p.read p.closed))
+
 -- `NotOut` where the ticket is not out, and nothing changes then; `Stale` where it is, and its version is not live; `Differs` where that is
 -- live and the job is not what was lent; `Home` where it is. The readings stand in the journal before the return; those of a piece that
 -- does not come home are lost.
 abbrev pub IsGiven : Running → Running → Pieced → Given → Type 0
-IsGiven old new p g.Home =
-    (t : Ticket) × (v : Version) × IsOut old p t v × Carries old.plan old.machine t v p.job
-    × (new ≡ after_return old p.job.ticket (readings p.read p.closed))
+IsGiven old new p g.Home = IsHome old new p
 IsGiven old new p (g.Stale id) =
     (t : Ticket) × (ticket_at old.machine.tickets p.job.ticket ≡ Some t) × (t.version ≡ id) × (version_at old.machine.versions id ≡ None)
     × (new ≡ after old (s.Return p.job.ticket))

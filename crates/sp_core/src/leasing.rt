@@ -23,7 +23,7 @@ fn copies(alloc: Global, events: &[Event]) -> Result<Vec<Event>, Memory>
 {
     let mut list = Vec::with_capacity(alloc, events.len())?;
     for event in events {
-        list.push(event.copy(alloc)?)?;
+        list.push_reserved(event.copy(alloc)?);
     }
     Ok(list)
 }

@@ -5,7 +5,7 @@ ghost use Rattle.sp_group.specs.Machine.{Ticket, ticket_at, version_at};
 ghost use Rattle.sp_core.specs.Carrying.{ticket_of};
 ghost use Rattle.sp_rules.specs.Returning.{readings};
 ghost use Rattle.sp_tree.specs.Grown.{AreGrown};
-ghost use Rattle.sp_core.specs.Returning.{CanComeHome, HasValues, IsCarried, IsGiven, IsPlaceOf, reading_entries, with_none_out};
+ghost use Rattle.sp_core.specs.Returning.{CanComeHome, HasValues, IsCarried, IsGiven, IsHome, IsPlaceOf, reading_entries, with_none_out};
 ghost use Rattle.sp_core.specs.Rooms.{room};
 ghost use Rattle.sp_core.specs.Running.{after, once};
 ghost use Rattle.sp_core.specs.Settling.{CanBring, CanSettle, HomeLaws, IsFrom, IsSameTree, IsSettled, IsWithin};
@@ -201,10 +201,12 @@ impl Core {
         Ok(lent)
     }
 
-    // The version takes what its piece has read, which is what was lent to it.
-    fn come_home(&mut self, alloc: Global, piece: Piece) -> Result<Given, Piece>
+    /// A piece comes home whose job is what is out under its ticket, for a live version, as its caller knows: what
+    /// it read is the version's, and the ticket ends. Nothing is compared. After want of memory, which hands the
+    /// piece back, the ticket is still out and the core is as before.
+    pub fn come_home(&mut self, alloc: Global, piece: Piece) -> Result<(), Piece>
         requires { CanComeHome self.old piece }
-        ensures given { IfOk result (IsGiven self.old self.new piece) }
+        ensures home { OnOk result (IsHome self.old self.new piece) }
         ensures err { OnErr result (self.new ≡ self.old) }
         ensures back { IfErr result (λ back. back ≡ piece) }
     {
@@ -230,7 +232,7 @@ impl Core {
         settle(alloc, &mut self.tree, piece, brought)?;
         self.tickets.remove(place);
         enter_return(&mut self.journal, ticket, times);
-        Ok(Given::Home)
+        Ok(())
     }
 
     /// A piece is given back, and its ticket ends: what it read is its version's, where that is live and the
@@ -248,7 +250,8 @@ impl Core {
         };
         let version = self.tickets[place].version;
         if self.is_carried(piece.job()) {
-            return self.come_home(alloc, piece);
+            self.come_home(alloc, piece)?;
+            return Ok(Given::Home);
         }
         let live = self.tree.get(version).is_some();
         match self.end_ticket(ticket) {

@@ -11,7 +11,6 @@ mod handing;
 mod joining;
 mod lent;
 mod office;
-mod reading;
 mod serving;
 mod turning;
 mod working;

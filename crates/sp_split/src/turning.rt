@@ -7,9 +7,8 @@ ghost use Rattle.sp_split.specs.Stages.{AllFinished, CutOff, IsOutAlone, Turned}
 ghost use Rattle.sp_split.specs.declared.turning.Turn.TheVariants as t;
 
 use crate::Memory;
-use crate::reading::read_whole;
 use sp_chance::Predictor;
-use sp_core::{Core, CoreFault, Emitted, Given};
+use sp_core::{Core, CoreFault, Emitted};
 use sp_group::Label;
 use sp_piece::Piece;
 use sp_splitter::learn;
@@ -55,11 +54,8 @@ fn bring_home(alloc: Global, core: &mut Core, piece: Piece) -> Result<(), Memory
     ensures ok { OnOk result (Turned core.old core.new t.Worked) }
     ensures err { OnErr result (core.new ≡ core.old) }
 {
-    match core.give_back(alloc, piece) {
-        Ok(Given::Home) => Ok(()),
-        Ok(Given::Stale { version: _ }) => unreachable!(),
-        Ok(Given::NotOut { ticket: _ }) => unreachable!(),
-        Ok(Given::Differs { lent: _, piece: _ }) => unreachable!(),
+    match core.come_home(alloc, piece) {
+        Ok(()) => Ok(()),
         Err(_) => Err(AllocError),
     }
 }
@@ -107,7 +103,7 @@ fn read_on(
         Err(CoreFault::Memory) => return Err(AllocError),
     };
     let mut piece = Piece::start(alloc, job);
-    read_whole(alloc, &mut piece)?;
+    piece.read_whole(alloc)?;
     learn(predictor, piece.moves());
     bring_home(alloc, core, piece)?;
     Ok(Turn::Worked)

@@ -26,7 +26,7 @@ returns-in_err-read_whole-clause-err g c =
 
 pub bring_home-requires : goal.bring_home-requires
 bring_home-requires g c =
-    leased_alone c.args.core.now c.lease.new.self c.args.root 1024 c.in-Ok.ensures.done c.in-Ok.job c.read_whole.new.piece c.requires.none_out c.in-Ok.ensures.job
+    leased_alone c.args.core.now c.lease.new.self c.args.root 1024 c.in-Ok.ensures.done c.in-Ok.job c.read_whole.new.self c.requires.none_out c.in-Ok.ensures.job
     (c.read_whole.ensures.job ∙ ap (λ (p : Pieced). p.job) c.start-piece.ensures)
 
 pub returns-in_err-bring_home-clause-err : goal.returns-in_err-bring_home-clause-err

@@ -64,8 +64,8 @@ invariant_of-self-2 c =
     c.in-Some.place at c.remove.ensures.items made.ensures.emitted made.ensures.consumed journal
     (omega (arith, c.in-Ok-make_rooms_for.ensures.journal_room, c.enter_return.ensures.kept)) c.in-Ok-make_rooms_for.ensures.emitted_room c.in-Ok-make_rooms_for.ensures.consumed_room
 
-pub returns-clause-given : goal.returns-clause-given
-returns-clause-given c =
+pub returns-clause-home : goal.returns-clause-home
+returns-clause-home c =
     let h = holding c.self.inside in
     let p = c.args.piece in
     let n = p.job.ticket in
