@@ -116,6 +116,18 @@ impl<J: Named, P: Named, L: Naming> Hub<J, P, L> {
         answer
     }
 
+    /// Lists a job, and wakes no seat for it: the poster's thread does it, or a seat that is awake. `Err` is want of
+    /// memory.
+    pub fn post_quietly<R: Wait>(&self, rt: &R, by: &mut Poster<P, L>, job: J) -> Result<(), J>
+        requires ticket { by.old.last < J.ticket_of job }
+        requires room { by.old.waiting < by.old.room }
+        requires open { by.old.closed ≡ false }
+        ensures by { by.new ≡ (if is_ok result then posts by.old (J.ticket_of job) else by.old) }
+        ensures back { IfErr result (λ j. j ≡ job) }
+    {
+        self.shared.lock(rt).state.post(by, job)
+    }
+
     /// Gives the seat the oldest job.
     pub fn take<R: Wait>(&self, rt: &R, seat: &mut Seat<P, L>) -> Taken<J>
         requires { seat.old.holding ≡ None }

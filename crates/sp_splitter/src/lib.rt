@@ -17,10 +17,12 @@ mod posting;
 mod rolling;
 mod splitter;
 mod turning;
+mod unheard;
 
 pub use learning::learn;
 pub use splitter::Splitter;
 use std::alloc::AllocError;
+pub use unheard::Unheard;
 
 /// Want of memory. Any call that allocates may answer it, and says what stands after it.
 pub type Memory = AllocError;

@@ -1,21 +1,46 @@
 // Jobs are posted.
-ghost use Rattle.std.specs.Prelude.{◌≡◌, ◌≤◌, ◌+◌, ◌⊎◌, ℕ, length, [], false, OnOk};
+ghost use Rattle.std.specs.Prelude.{◌≡◌, ◌≤◌, ◌<◌, ◌+◌, ◌⊎◌, ℕ, length, [], false, IfErr, OnOk, if◌then◌else◌, is_ok};
+ghost use Rattle.sp_hub.specs.Calls.{posts};
 ghost use Rattle.sp_splitter.specs.Splitting.{IsBelowKept};
 
 use crate::Memory;
+use crate::unheard::Unheard;
 use sp_hub::{Hub, Naming, Poster};
 use sp_piece::{Job, Piece};
 use std::alloc::AllocError;
 use std::collections::VecDeque;
 use std::sync::Wait;
 
+// Posts a job, and wakes an instance for it or not.
+fn post_one<L: Naming, R: Wait>(
+    rt: &R,
+    hub: &Hub<Job, Piece, L>,
+    by: &mut Poster<Piece, L>,
+    job: Job,
+    wakes: bool,
+) -> Result<(), Job>
+    requires ticket { by.old.last < job.ticket }
+    requires room { by.old.waiting < by.old.room }
+    requires open { by.old.closed ≡ false }
+    ensures by { by.new ≡ (if is_ok result then posts by.old job.ticket else by.old) }
+    ensures back { IfErr result (λ back. back ≡ job) }
+{
+    if wakes {
+        hub.post(rt, by, job)
+    } else {
+        hub.post_quietly(rt, by, job)
+    }
+}
+
 /// Posts kept jobs, the oldest first, while the poster has room for them: a call for each job
-/// that is kept no more.
+/// that is kept no more. The first one the splitter is to do itself; for the others an instance is woken as their work
+/// adds up.
 pub(crate) fn post_kept<L: Naming, R: Wait>(
     rt: &R,
     hub: &Hub<Job, Piece, L>,
     by: &mut Poster<Piece, L>,
     kept: &mut VecDeque<Job>,
+    unheard: &mut Unheard,
 ) -> Result<(), Memory>
     requires open { by.old.closed ≡ false }
     requires last { (high : ℕ) × IsBelowKept by.old.last kept.old.items high }
@@ -27,11 +52,14 @@ pub(crate) fn post_kept<L: Naming, R: Wait>(
     ensures all { OnOk result ((kept.new.items ≡ []) ⊎ (by.new.room ≤ by.new.waiting)) }
     ensures last { OnOk result ((high : ℕ) → IsBelowKept by.old.last kept.old.items high → IsBelowKept by.new.last kept.new.items high) }
 {
+    let mut others = false;
     while by.waiting() < by.room() {
         let Some(job) = kept.pop_front() else {
             return Ok(());
         };
-        if let Err(job) = hub.post(rt, by, job) {
+        let wakes = others && unheard.adds_up(&job);
+        others = true;
+        if let Err(job) = post_one(rt, hub, by, job, wakes) {
             // There is room where it was.
             kept.push_front_reserved(job);
             return Err(AllocError);

@@ -13,6 +13,7 @@ use crate::gathering::gather;
 use crate::knowing::known;
 use crate::posting::post_kept;
 use crate::turning::{guess_and_send, tidy};
+use crate::unheard::Unheard;
 use sp_chance::{Chances, Predictor};
 use sp_core::{Core, CoreFault, Emitted};
 use sp_group::Refusal;
@@ -39,6 +40,8 @@ pub struct Splitter {
     pub chances: Chances,
     /// The jobs that were leased and not posted, since there was no room for them, the oldest first.
     pub kept: VecDeque<Job>,
+    /// What was posted since an instance was last woken.
+    pub unheard: Unheard,
 }
 
 impl Splitter {
@@ -68,6 +71,7 @@ impl Splitter {
             predictor,
             chances: Chances::new(alloc),
             kept: VecDeque::new(alloc),
+            unheard: Unheard::new(),
         })
     }
 
@@ -166,7 +170,7 @@ impl Splitter {
             self.batch,
             &mut self.kept,
         )?;
-        post_kept(rt, hub, by, &mut self.kept)?;
+        post_kept(rt, hub, by, &mut self.kept, &mut self.unheard)?;
         Ok(finished)
     }
 }
