@@ -62,12 +62,6 @@ quiet (inr full) = omega (arith, full)
 pub end_of : (Is : Ended → Type 0) (s : Status) (o : Option Ended) (e : Ended) → s ≡ Done → o ≡ Some e → WhereDone Is s o → Is e
 end_of Is s o e done some report = subst (λ (x : Option Ended). WhereDone Is Done x) some (subst (λ (t : Status). WhereDone Is t o) done report) refl
 
--- it was fed as many events as there are rows
-pub few_events : GeneratedRowsAreRead → DrillQueryHasPlan → (events seed : ℕ) (speed : Speed) (e : Ended) → events ≤ 1048576 → ReportsDrill events seed speed e → length e.core.machine.events ≤ 1048576
-few_events rows has events seed speed e few own =
-    let count : length e.core.machine.events ≡ events = ap length own.1.events ∙ (rows e.core.plan events seed (has.reads e.core.plan own.0) few).count in
-    subst (λ (n : ℕ). n ≤ 1048576) (sym count) few
-
 module _ (stay : RowsStay) (has : DrillQueryHasPlan) (rows : GeneratedRowsAreRead) (q : Plan) (is : IsPlanFor drill_query q) (events seed : ℕ) (few : events ≤ 1048576) (old new : Outside)
     (told : old.input.left ≡ Some (generated events seed)) (no_read : Rose old.input.faults new.input.faults → ⊥) (no_write : Rose old.out.faults new.out.faults → ⊥)
     (used_up : new.input.ended ≡ true → IsUsedUp new.input.left) (s : Status) (ran : Ran (IsPlanRun q) old new (ending s)) where
