@@ -1,5 +1,5 @@
 // An event that several bindings hold.
-ghost use Rattle.std.specs.Prelude.{◌≡◌, IfOk, IsTrue};
+ghost use Rattle.std.specs.Prelude.{◌≡◌, IfOk, OnErr, IsTrue, IsFalse};
 
 use crate::{Event, Memory};
 use std::alloc::Global;
@@ -35,9 +35,12 @@ impl SharedEvent {
     }
 
     /// Makes this the handle of another event, a copy of it that is written over the one at hand. Answers
-    /// whether it is so: where another handle is of the same copy, this one stays as it is.
+    /// whether it is so: where another handle is of the same copy, and where memory is wanting, this one stays as
+    /// it is.
     pub fn renew(&mut self, alloc: Global, event: &Event) -> Result<bool, Memory>
         ensures renewed { IfOk result (λ renewed. IsTrue renewed → self.new ≡ event.now) }
+        ensures kept { IfOk result (λ renewed. IsFalse renewed → self.new ≡ self.old) }
+        ensures err { OnErr result (self.new ≡ self.old) }
     {
         match Arc::get_mut(&mut self.event) {
             Some(place) => {
