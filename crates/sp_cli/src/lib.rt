@@ -10,6 +10,3 @@ mod values;
 pub use command::{Command, QuerySource, Speed, UsageFault};
 pub use law::{numbers_are_within, pairs_are_commands, pairs_are_found};
 pub use read::read_words;
-
-#[cfg(test)]
-mod tests;

@@ -8,8 +8,6 @@ mod outcome;
 mod refusal;
 mod state;
 mod step;
-#[cfg(test)]
-mod tests;
 
 pub use label::Label;
 pub use outcome::Outcome;

@@ -15,8 +15,6 @@ mod seat;
 mod shared;
 mod taken;
 mod tally;
-#[cfg(test)]
-mod tests;
 
 pub use entry::HubEntry;
 pub use exchange::{History, Hub, Unfinished};

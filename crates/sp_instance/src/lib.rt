@@ -5,8 +5,6 @@
 mod doing;
 mod gate;
 mod seated;
-#[cfg(test)]
-mod tests;
 mod working;
 mod workplace;
 

@@ -5,8 +5,6 @@
 mod fault;
 mod place;
 mod store;
-#[cfg(test)]
-mod tests;
 
 pub use fault::PutFault;
 use std::alloc::AllocError;

@@ -1,10 +1,11 @@
+// Three instances, each on a thread of its own.
 ghost use Rattle.std.specs.Prelude.{◌≡◌, IfOk};
 ghost use Rattle.std.specs.Arc.{arc_value};
 ghost use Rattle.sp_plan.specs.Compiled.{IsCompiled};
 
-use crate::{OpenGate, work_all};
 use sp_base::Numbers;
 use sp_hub::{Hub, Naming, Opened, Poster};
+use sp_instance::{OpenGate, work_all};
 use sp_match::Matcher;
 use sp_piece::{Job, Piece};
 use sp_plan::{Element, Length, Listed, Name, Opening, Plan, Pred, Schema, Select, Text};

@@ -1,6 +1,6 @@
 use denote.Param.Send.{sendable}
 use Rattle.sp_piece.proofs.Crossing.{job_sent, piece_sent}
-use Rattle.sp_instance.proofs.tests.post_all.Goals as goal
+use Rattle.sp_threads.proofs.instances.post_all.Goals as goal
 
 pub last-requires-send-P : goal.last-requires-send-P
 last-requires-send-P g c κs within = search (piece_sent, sendable) depth 20

@@ -4,7 +4,7 @@ use Rattle.std.specs.List.{All}
 use Rattle.sp_hub.specs.State.{Sitting}
 use Rattle.sp_hub.proofs.Seats.{all_free}
 use Rattle.sp_piece.proofs.Crossing.{job_sent, piece_sent}
-use Rattle.sp_instance.proofs.tests.by_instances.Goals as goal
+use Rattle.sp_threads.proofs.instances.by_instances.Goals as goal
 
 pub new-requires-2-send-J : goal.new-requires-2-send-J
 new-requires-2-send-J g c κs within = search (job_sent, sendable) depth 20
