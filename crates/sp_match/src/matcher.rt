@@ -97,7 +97,7 @@ impl Matcher {
         &self.runs
     }
 
-    /// Forgets all runs. Their rooms are kept for later ones, but for those for which memory is wanting.
+    /// Forgets all runs. Takes no memory: their rooms are kept for later ones where there is room for them.
     pub fn clear(&mut self)
         ensures plan { self.new.plan ≡ self.old.plan }
         ensures none { self.new.open_runs ≡ [] }

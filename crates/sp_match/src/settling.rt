@@ -24,12 +24,12 @@ pub(crate) fn undo(runs: &mut Vec<Run>, count: usize)
     }
 }
 
-/// All runs end, and leave their rooms to later ones. Takes no memory but for these.
+/// All runs end, and leave their rooms to later ones where there is room for them. Takes no memory.
 pub(crate) fn end_all(runs: &mut Vec<Run>, stock: &mut Stock)
     ensures { runs.new.items ≡ [] }
 {
     while let Some(run) = runs.pop() {
-        stock.take(run);
+        stock.keep(run);
     }
 }
 

@@ -93,7 +93,7 @@ pub(crate) fn open(
         (take (length runs.old.items) (all_kept runs.new.items)) }
 {
     let at = runs.len();
-    runs.push(shared.run(offer.alloc, count + 1))?;
+    runs.push(shared.run(offer.alloc, count + 1, at))?;
     list.push(Move::Opened { run: count + 1 })?;
     bind(offer, shared, runs, at, name, list)?;
     Ok(())

@@ -80,15 +80,18 @@ impl Stock {
         SharedEvent::of(alloc, event)
     }
 
-    // A run that has bound no event, in the rooms of one that ended where there is one. Takes no memory.
-    pub(crate) fn run(&mut self, alloc: Global, number: u32) -> Run
+    // A run that has bound no event, in the rooms of one that ended where there is one. Where there is none, room
+    // is made in which it and those that are open, so many, can be kept later; without memory for that they are
+    // dropped then.
+    pub(crate) fn run(&mut self, alloc: Global, number: u32, open: usize) -> Run
         ensures run { kept result ≡ empty number }
         ensures same { self.new ≡ self.old }
     {
-        match self.runs.pop() {
-            Some(run) => run.renewed(number),
-            None => Run::new(alloc, number),
+        if let Some(run) = self.runs.pop() {
+            return run.renewed(number);
         }
+        let _ = self.runs.reserve(open.saturating_add(1));
+        Run::new(alloc, number)
     }
 
     // Takes a run that ended. Where memory is wanting it is dropped.
@@ -101,5 +104,22 @@ impl Stock {
             run.events.clear();
         }
         let _ = self.runs.push(run);
+    }
+
+    // Takes a run that ended where there is room for it, and handles of its events where there is room for all of
+    // them; else drops them. Takes no memory.
+    pub(crate) fn keep(&mut self, mut run: Run)
+        ensures { self.new ≡ self.old }
+    {
+        if self.runs.len() >= self.runs.capacity() {
+            return;
+        }
+        let room = self.handles.capacity().saturating_sub(self.handles.len());
+        if run.bound.len() <= room {
+            run.events.release(&mut self.handles);
+        } else {
+            run.events.clear();
+        }
+        self.runs.push_reserved(run);
     }
 }
