@@ -81,7 +81,8 @@ fn earlier_value(bound: &Bound, name: u8, column: u16) -> i64
 // What a literal, a text of the query or a column of the event at hand comes to; None for anything else.
 #[inline(always)]
 fn near(expr: &Expr, event: &Event) -> Option<i64>
-    ensures { (bound : BoundEvents) → IfSome result (λ n. n ≡ Values.value expr.now event.now bound) }
+    ensures { (bound : BoundEvents)
+        → IfSome result (λ n. n ≡ Values.value expr.now event.now bound) }
 {
     match expr {
         Expr::Literal(n) => Some(*n),
@@ -285,24 +286,9 @@ pub fn value(expr: &Expr, event: &Event, bound: &Bound) -> i128
     }
 }
 
-// Whether two values compare so.
-#[inline]
-fn compares(by: Compare, left: i128, right: i128) -> bool
-    ensures { result ≡ Values.compares by left right }
-{
-    match by {
-        Compare::Equal => left == right,
-        Compare::Unequal => left != right,
-        Compare::Less => left < right,
-        Compare::AtMost => left <= right,
-        Compare::Greater => left > right,
-        Compare::AtLeast => left >= right,
-    }
-}
-
-// The same of two values of 64 bits.
+// Whether two values compare so. Where both are of 64 bits they are compared in 64.
 #[inline(always)]
-fn short_compares(by: Compare, left: i64, right: i64) -> bool
+fn compares(by: Compare, left: i128, right: i128) -> bool
     ensures { result ≡ Values.compares by left right }
 {
     match by {
@@ -338,7 +324,8 @@ fn long_sides_compare(by: Compare, left: &Expr, right: &Expr, event: &Event, bou
 fn earlier_compares(by: Compare, one: i64, name: u8, column: u16, bound: &Bound) -> bool
     ensures { result ≡ Values.compares by one (earlier_column (last_bound name bound.now) column) }
 {
-    short_compares(by, one, earlier_value(bound, name, column))
+    let other = earlier_value(bound, name, column);
+    compares(by, i128::from(one), i128::from(other))
 }
 
 // Whether what two sides come to compares so: a column of the event at hand is compared in place, and in
@@ -361,7 +348,7 @@ pub(crate) fn sides_compare(
     if let Expr::Column(column) = left {
         if let Some(other) = near(right, event) {
             let one = column_value(event, *column);
-            return short_compares(by, one, other);
+            return compares(by, i128::from(one), i128::from(other));
         }
         if let Expr::Earlier {
             name,
@@ -374,7 +361,7 @@ pub(crate) fn sides_compare(
     } else if let Some(one) = near(left, event)
         && let Some(other) = near(right, event)
     {
-        return short_compares(by, one, other);
+        return compares(by, i128::from(one), i128::from(other));
     }
     long_sides_compare(by, left, right, event, bound)
 }
