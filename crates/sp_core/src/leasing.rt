@@ -17,17 +17,6 @@ use sp_version::Version;
 use sp_window::{closed_come_first, windows_hold};
 use std::alloc::Global;
 
-// The same events once more.
-fn copies(alloc: Global, events: &[Event]) -> Result<Vec<Event>, Memory>
-    ensures { IfOk result (λ list. list.items ≡ events.now) }
-{
-    let mut list = Vec::with_capacity(alloc, events.len())?;
-    for event in events {
-        list.push_reserved(event.copy(alloc)?);
-    }
-    Ok(list)
-}
-
 // A ticket is out for a version from now on.
 fn put_out_for(tree: &mut Tree<Version>, version: u64, ticket: u64)
     ensures { tree.new ≡ with_out tree.old version ticket }
@@ -118,7 +107,7 @@ impl Core {
         };
         let place = lent.first as usize - 1;
         let end = place + lent.count as usize;
-        let events = copies(alloc, &self.events[place..end])?;
+        let events = Event::copies(alloc, &self.events[place..end])?;
         let known = self.known[place..end].to_vec(alloc)?;
         Ok(Job {
             ticket: lent.ticket,

@@ -26,21 +26,6 @@ use sp_version::Version;
 use sp_window::windows_hold;
 use std::alloc::{AllocError, Global};
 
-// Whether these are the same events.
-fn same_events(events: &[Event], others: &[Event]) -> bool
-    ensures { IsTrue result ↔ events.now ≡ others.now }
-{
-    if events.len() != others.len() {
-        return false;
-    }
-    for i in 0..events.len() {
-        if !events[i].same(&others[i]) {
-            return false;
-        }
-    }
-    true
-}
-
 // Whether a job has the values of what went out.
 fn has_values(job: &Job, lent: &Lent) -> bool
     ensures { IsTrue result ↔ HasValues job.now lent.now }
@@ -99,7 +84,8 @@ fn enter_readings(journal: &mut Vec<Entry>, ticket: u64, times: u32)
 // Enters so many readings of a ticket, and its return.
 fn enter_return(journal: &mut Vec<Entry>, ticket: u64, times: u32)
     requires { 1 < room journal.old }
-    ensures items { journal.new.items ≡ journal.old.items ++ reading_entries ticket times ++ once (s.Return ticket) ∷ [] }
+    ensures items { journal.new.items
+        ≡ journal.old.items ++ reading_entries ticket times ++ once (s.Return ticket) ∷ [] }
     ensures kept { room journal.old ≤ room journal.new + 2 }
 {
     enter_readings(journal, ticket, times);
@@ -179,14 +165,15 @@ impl Core {
         let from = lent.first as usize - 1;
         let events = &self.events[from..from + lent.count as usize];
         has_values(job, lent)
-            && same_events(job.events.as_slice(), events)
+            && Event::all_same(job.events.as_slice(), events)
             && held.matcher.same(&job.before)
     }
 
     // Ends a ticket that is out, with nothing read.
     fn end_ticket(&mut self, ticket: u64) -> Result<Lent, Memory>
         requires out { IsSome (ticket_at self.old.machine.tickets ticket) }
-        ensures lent { IfOk result (λ lent. ticket_at self.old.machine.tickets ticket ≡ Some (ticket_of lent)) }
+        ensures lent { IfOk result
+            (λ lent. ticket_at self.old.machine.tickets ticket ≡ Some (ticket_of lent)) }
         ensures ok { OnOk result (self.new ≡ after self.old (s.Return ticket)) }
         ensures err { OnErr result (self.new ≡ self.old) }
     {

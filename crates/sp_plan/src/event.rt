@@ -256,4 +256,28 @@ impl Event {
             values: self.values.copy(alloc)?,
         })
     }
+
+    /// The same events once more. Takes memory for the list, and for the values of events that have more than four.
+    pub fn copies(alloc: Global, events: &[Event]) -> Result<Vec<Event>, Memory>
+        ensures { IfOk result (λ list. list.items ≡ events.now) }
+    {
+        let mut list = Vec::with_capacity(alloc, events.len())?;
+        for event in events {
+            match &event.values.kept {
+                // It is copied from place to place.
+                Kept::Few { count, values } => list.push_reserved(Event {
+                    time: event.time,
+                    values: Values {
+                        alloc,
+                        kept: Kept::Few {
+                            count: *count,
+                            values: *values,
+                        },
+                    },
+                }),
+                Kept::Many(_) => list.push_reserved(event.copy(alloc)?),
+            }
+        }
+        Ok(list)
+    }
 }

@@ -153,9 +153,25 @@ impl Plan {
 
 impl Event {
     /// Whether two events are equal. Takes no memory.
+    #[inline]
     pub fn same(&self, other: &Event) -> bool
         ensures { IsTrue result ↔ (self.now ≡ other.now) }
     {
         self.time == other.time && self.values.same(&other.values)
+    }
+
+    /// Whether two lists have the same events. Takes no memory.
+    pub fn all_same(events: &[Event], others: &[Event]) -> bool
+        ensures { IsTrue result ↔ (events.now ≡ others.now) }
+    {
+        if events.len() != others.len() {
+            return false;
+        }
+        for i in 0..events.len() {
+            if !events[i].same(&others[i]) {
+                return false;
+            }
+        }
+        true
     }
 }

@@ -45,8 +45,8 @@ slice_bounds-events-end c =
     let most = high h n d f.entry f.is (c.windows_hold.ensures h.plan c.self.invariant.compiled.windowed) in
     omega (arith, most, ap length c.deref.ensures.value)
 
-pub returns-then-same_events : goal.returns-then-same_events
-returns-then-same_events c =
+pub returns-then-all_same : goal.returns-then-all_same
+returns-then-all_same c =
     let h = holding c.self.inside in
     let n = c.args.job.now.ticket in
     let job = c.args.job.now in
@@ -58,17 +58,17 @@ returns-then-same_events c =
     elim c.if-has_values.branch [
       | then-has_values w ↦
           let values = c.has_values.ensures.0 w.if-has_values.true in
-          let events = sym w.as_slice.ensures ∙ w.same_events.ensures.0 (sym w.value-is ∙ c.if-same_events.true) ∙ part in
+          let events = sym w.as_slice.ensures ∙ w.all_same.ensures.0 (sym w.value-is ∙ c.if-all_same.true) ∙ part in
           subst (λ (r : Running). IsTrue c.same.result ↔ IsCarried r job) c.self.view_is (
             (λ t. carried h n d f.entry f.is job refl values events
                 (subst (λ (v : Version). SameMatching v.matcher job.before) (sym f.value) (c.same.ensures.same.0 t))),
             (λ is. c.same.ensures.same.1 (subst (λ (v : Version). SameMatching v.matcher job.before) f.value (has_all h n d f.entry f.is job refl is).same)),
           )
-      | else-has_values w ↦ let shut = w.value-is in let open_ = c.if-same_events.true in absurd (cc)
+      | else-has_values w ↦ let shut = w.value-is in let open_ = c.if-all_same.true in absurd (cc)
     ]
 
-pub returns-else-same_events : goal.returns-else-same_events
-returns-else-same_events c =
+pub returns-else-all_same : goal.returns-else-all_same
+returns-else-all_same c =
     let h = holding c.self.inside in
     let n = c.args.job.now.ticket in
     let job = c.args.job.now in
@@ -79,13 +79,13 @@ returns-else-same_events c =
     let part = part_of c.deref.result.now h.events (d.first - 1) d.count c.deref.ensures.value in
     elim c.if-has_values.branch [
       | then-has_values w ↦
-          let out = c.if-same_events.false in
+          let out = c.if-all_same.false in
           subst (λ (r : Running). IsTrue c.if-has_values.value ↔ IsCarried r job) c.self.view_is (
             (λ t. absurd (cc)),
-            (λ is. w.value-is ∙ w.same_events.ensures.1 (w.as_slice.ensures ∙ (has_all h n d f.entry f.is job refl is).events ∙ sym part)),
+            (λ is. w.value-is ∙ w.all_same.ensures.1 (w.as_slice.ensures ∙ (has_all h n d f.entry f.is job refl is).events ∙ sym part)),
           )
       | else-has_values w ↦
-          let out = c.if-same_events.false in
+          let out = c.if-all_same.false in
           subst (λ (r : Running). IsTrue c.if-has_values.value ↔ IsCarried r job) c.self.view_is (
             (λ t. absurd (cc)),
             (λ is. let own = c.has_values.ensures.1 (has_all h n d f.entry f.is job refl is).values in let none = w.if-has_values.false in absurd (cc)),

@@ -1,7 +1,7 @@
 use Rattle.std.proofs.Common.{◌≡◌, List, ◌++◌, ◌∷◌, [], take, get_or, sym, ap, ◌∙◌, refl, arith}
 use Rattle.std.proofs.lemmas.List.{take_more, take_all}
 use Rattle.sp_plan.specs.declared.event.Event.{Event}
-use Rattle.sp_core.proofs.returning.same_events.Goals as goal
+use Rattle.sp_plan.proofs.event.Event.all_same.Goals as goal
 
 pub loop-i-init : goal.loop-i-init
 loop-i-init c = refl

@@ -1,5 +1,5 @@
 use Rattle.std.proofs.Common.{◌≡◌, length, take, vec_capacity, vec_len}
-use Rattle.sp_core.proofs.leasing.copies.Given as goal
+use Rattle.sp_plan.proofs.event.Event.copies.Given as goal
 
 -- those before the place were copied, and there is room for the others
 abbrev pub invariant-loop-event : goal.invariant-loop-event
