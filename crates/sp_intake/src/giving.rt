@@ -34,7 +34,9 @@ impl<'a, S: Source> Input<'a, S> {
         requires compiled { IsCompiled (arc_value plan.now) }
         requires not_ended { (S.state source.old).ended ≡ false }
         ensures same { IfOk result (λ input. input.source.ghost_name ≡ source.entry.ghost_name) }
-        ensures reads { IfOk result (λ input. ReadsFrom (arc_value plan.now) (S.state source.old) (standing (S.state input.source.now) input.events)) }
+        ensures reads { IfOk result
+            (λ input. ReadsFrom (arc_value plan.now) (S.state source.old)
+            (standing (S.state input.source.now) input.events)) }
     {
         let events = EventReader::new(alloc, plan)?;
         Ok(Input::over(source, events))
@@ -64,7 +66,8 @@ impl<'a, S: Source> Input<'a, S> {
     // Asks the source for a piece, which the events are read of next.
     fn ask(&mut self)
         requires asks { IsAsking self.old.events }
-        ensures gives { Gives (standing (S.state self.old.source.now) self.old.events) [] (standing (S.state self.new.source.now) self.new.events) }
+        ensures gives { Gives (standing (S.state self.old.source.now) self.old.events) []
+            (standing (S.state self.new.source.now) self.new.events) }
         ensures stops { self.new.events.stops ≡ self.old.events.stops }
         ensures same { self.new.source.ghost_name ≡ self.old.source.ghost_name }
     {
@@ -75,7 +78,8 @@ impl<'a, S: Source> Input<'a, S> {
     /// All that it gives. Each event goes from the one room that rows are read into to the list's end.
     pub(crate) fn read_all(&mut self, alloc: Global) -> Result<Given, Memory>
         ensures same { self.new.source.ghost_name ≡ self.old.source.ghost_name }
-        ensures all { ReadsAll (standing (S.state self.old.source.now) self.old.events) (standing (S.state self.new.source.now) self.new.events) result }
+        ensures all { ReadsAll (standing (S.state self.old.source.now) self.old.events)
+            (standing (S.state self.new.source.now) self.new.events) result }
     {
         let mut events = Vec::new(alloc);
         let mut room = None;
@@ -136,6 +140,7 @@ impl<'a, S: Source> Intake for Input<'a, S> {
                 Polled::Memory => return Next::Memory,
                 Polled::Ask => {}
             }
+            // As `ask` does, of which the prover takes no call here: an intake may go to another thread.
             let read = self.source.read(&mut self.piece);
             self.events.take(&self.piece, read);
         }

@@ -13,18 +13,19 @@ use std::alloc::Global;
 // What is known of the event at a place. Of those before place `first`, which no window to come has, nothing
 // is asked.
 fn known_at(
+    alloc: Global,
     plan: &Plan,
     events: &[Event],
     first: usize,
     place: usize,
     none: &Bound,
-    alloc: Global,
 ) -> Known
     requires compiled { IsCompiled plan.now }
     requires fit { AllFit plan.now events.now }
     requires within { place < length events.now }
     requires none { none.now ≡ [] }
-    ensures { (other : seen.Event) → IsKnown plan.now (slice_index_or events.now place other) result }
+    ensures { (other : seen.Event)
+        → IsKnown plan.now (slice_index_or events.now place other) result }
 {
     if place < first {
         Known::Any
@@ -51,7 +52,7 @@ pub(crate) fn learn(
 {
     let none = Bound::new(alloc);
     for place in known.len()..end {
-        known.push(known_at(plan, events, first, place, &none, alloc))?;
+        known.push(known_at(alloc, plan, events, first, place, &none))?;
     }
     Ok(())
 }
