@@ -10,7 +10,8 @@ use std::alloc::Global;
 
 // Writes a line, where it isn't empty. A fault is dropped.
 fn write_line<E: Sink>(line: &str, err: &mut E)
-    ensures line { (Rose (E.state err.old).faults (E.state err.new).faults → ⊥) → Grew (E.state err.old).held line.now (E.state err.new).held }
+    ensures line { (Rose (E.state err.old).faults (E.state err.new).faults → ⊥)
+        → Grew (E.state err.old).held line.now (E.state err.new).held }
     ensures front { GrewWithin (E.state err.old).held line.now (E.state err.new).held }
     ensures silent { line.now ≡ [] → E.state err.new ≡ E.state err.old }
 {

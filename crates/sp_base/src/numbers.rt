@@ -62,8 +62,10 @@ impl Numbers {
     /// wasn't there. After want of memory, which comes only where nothing is spare, the list is as before.
     pub fn insert(&mut self, n: u32) -> Result<bool, Memory>
         ensures added { IfOk result (λ added. added ≡ not (has self.old.list n)) }
-        ensures members { OnOk result ((m : ℕ) → has self.new.list m ≡ (m == n || has self.old.list m)) }
-        ensures last { OnOk result (All (λ m. m < n) self.old.list → self.new.list ≡ self.old.list ++ n ∷ []) }
+        ensures members { OnOk result
+            ((m : ℕ) → has self.new.list m ≡ (m == n || has self.old.list m)) }
+        ensures last { OnOk result
+            (All (λ m. m < n) self.old.list → self.new.list ≡ self.old.list ++ n ∷ []) }
         ensures there { IsTrue (has self.old.list n) → self.new.list ≡ self.old.list }
         ensures rising { IsStrictlyIncreasing self.new.list }
         ensures err { OnErr result (self.new.list ≡ self.old.list) }
@@ -110,7 +112,8 @@ impl Numbers {
     /// Takes in all of the other's numbers. Where the other has none nothing is taken; after want of
     /// memory the list is as before.
     pub fn union(&mut self, alloc: Global, other: &Numbers) -> Result<(), Memory>
-        ensures members { OnOk result ((n : ℕ) → has self.new.list n ≡ (has self.old.list n || has other.now.list n)) }
+        ensures members { OnOk result
+            ((n : ℕ) → has self.new.list n ≡ (has self.old.list n || has other.now.list n)) }
         ensures rising { IsStrictlyIncreasing self.new.list }
         ensures err { OnErr result (self.new.list ≡ self.old.list) }
         ensures empty_ok { other.now.list ≡ [] → IsOk result }

@@ -60,7 +60,8 @@ fn sum_up(left: &[u32], right: &[u32], row: usize, sums: &mut [u64; STATES])
 fn add_row(times: u64, matrix: &[u32], row: usize, sums: &mut [u64; STATES])
     requires matrix { HasRows (row + 1) matrix.now }
     requires row { row < 33 }
-    requires room { (j : ℕ) → j < 33 → slice_index sums.old j + times * at matrix.now row j < 2 ^ 64 }
+    requires room { (j : ℕ) → j < 33
+        → slice_index sums.old j + times * at matrix.now row j < 2 ^ 64 }
     ensures { (j : ℕ) → j < 33 →
         slice_index sums.new j ≡ slice_index sums.old j + times * at matrix.now row j }
 {

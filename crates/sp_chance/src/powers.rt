@@ -201,8 +201,10 @@ fn keep_column(matrix: &[u32], rows: usize, power: usize, columns: &mut [u32])
     requires rows { rows ≤ 33 }
     requires columns { length columns.old ≡ 528 }
     requires power { power < 16 }
-    ensures kept { (i : ℕ) → i < rows → slice_index columns.new (power * 33 + i) ≡ at matrix.now i 0 }
-    ensures before { (n : ℕ) → n < power * 33 → slice_index columns.new n ≡ slice_index columns.old n }
+    ensures kept { (i : ℕ) → i < rows
+        → slice_index columns.new (power * 33 + i) ≡ at matrix.now i 0 }
+    ensures before { (n : ℕ) → n < power * 33
+        → slice_index columns.new n ≡ slice_index columns.old n }
 {
     for state in 0..rows {
         columns[power * STATES + state] = matrix[state * STATES];

@@ -48,7 +48,8 @@ impl Recent {
         requires { IsMove (from, to) }
         ensures ring { self.new.ring ≡ with_pair self.old.ring from to }
         ensures turn { result ≡ (self.old.since + 1 == 1024) }
-        ensures since { self.new.since ≡ (if self.old.since + 1 == 1024 then 0 else self.old.since + 1) }
+        ensures since { self.new.since
+            ≡ (if self.old.since + 1 == 1024 then 0 else self.old.since + 1) }
     {
         self.codes[self.since as usize % RECENT] = encode(from, to);
         if self.since + 1 < TURN {

@@ -33,7 +33,8 @@ fn with_option<'a>(
     option: Arg<'a>,
 ) -> Result<clap::Command<'a>, AllocError>
     requires { option.global ≡ false }
-    ensures { IfOk result (λ more. app_of more ≡ with_rule (app_of command.entry) (rule_of option.entry)) }
+    ensures { IfOk result
+        (λ more. app_of more ≡ with_rule (app_of command.entry) (rule_of option.entry)) }
 {
     command.arg(option)
 }
@@ -44,7 +45,8 @@ fn with_text<'a>(
     command: clap::Command<'a>,
     name: &'a str,
 ) -> Result<clap::Command<'a>, AllocError>
-    ensures { IfOk result (λ more. app_of more ≡ with_rule (app_of command.entry) (option name.entry.now)) }
+    ensures { IfOk result
+        (λ more. app_of more ≡ with_rule (app_of command.entry) (option name.entry.now)) }
 {
     with_option(command, one_text(alloc, name))
 }

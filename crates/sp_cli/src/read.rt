@@ -21,7 +21,8 @@ const SEED: Limits = Limits {
 // What stands behind `run`.
 fn read_run(alloc: Global, words: &[String]) -> Result<Command, UsageFault>
     ensures command { IfOk result (λ read. run_at (map string_bytes words.now) ≡ Some (seen read)) }
-    ensures usage { IfErr result (λ e. e ≡ UsageFault.Usage → run_at (map string_bytes words.now) ≡ None) }
+    ensures usage { IfErr result
+        (λ e. e ≡ UsageFault.Usage → run_at (map string_bytes words.now) ≡ None) }
 {
     let matches = find_options(run_options(alloc)?, words)?;
     let query = source_in(alloc, &matches)?;
@@ -31,8 +32,10 @@ fn read_run(alloc: Global, words: &[String]) -> Result<Command, UsageFault>
 
 // What stands behind `plain`.
 fn read_plain(alloc: Global, words: &[String]) -> Result<Command, UsageFault>
-    ensures command { IfOk result (λ read. plain_at (map string_bytes words.now) ≡ Some (seen read)) }
-    ensures usage { IfErr result (λ e. e ≡ UsageFault.Usage → plain_at (map string_bytes words.now) ≡ None) }
+    ensures command { IfOk result
+        (λ read. plain_at (map string_bytes words.now) ≡ Some (seen read)) }
+    ensures usage { IfErr result
+        (λ e. e ≡ UsageFault.Usage → plain_at (map string_bytes words.now) ≡ None) }
 {
     let matches = find_options(plain_options(alloc)?, words)?;
     let query = source_in(alloc, &matches)?;
@@ -41,8 +44,10 @@ fn read_plain(alloc: Global, words: &[String]) -> Result<Command, UsageFault>
 
 // What stands behind `trace`.
 fn read_trace(alloc: Global, words: &[String]) -> Result<Command, UsageFault>
-    ensures command { IfOk result (λ read. trace_at (map string_bytes words.now) ≡ Some (seen read)) }
-    ensures usage { IfErr result (λ e. e ≡ UsageFault.Usage → trace_at (map string_bytes words.now) ≡ None) }
+    ensures command { IfOk result
+        (λ read. trace_at (map string_bytes words.now) ≡ Some (seen read)) }
+    ensures usage { IfErr result
+        (λ e. e ≡ UsageFault.Usage → trace_at (map string_bytes words.now) ≡ None) }
 {
     let matches = find_options(trace_options(alloc)?, words)?;
     let query = source_in(alloc, &matches)?;
@@ -60,8 +65,10 @@ fn read_trace(alloc: Global, words: &[String]) -> Result<Command, UsageFault>
 
 // What stands behind `drill`: its events and its seed by their places, and then options.
 fn read_drill(alloc: Global, words: &[String]) -> Result<Command, UsageFault>
-    ensures command { IfOk result (λ read. drill_at (map string_bytes words.now) ≡ Some (seen read)) }
-    ensures usage { IfErr result (λ e. e ≡ UsageFault.Usage → drill_at (map string_bytes words.now) ≡ None) }
+    ensures command { IfOk result
+        (λ read. drill_at (map string_bytes words.now) ≡ Some (seen read)) }
+    ensures usage { IfErr result
+        (λ e. e ≡ UsageFault.Usage → drill_at (map string_bytes words.now) ≡ None) }
 {
     let [events, seed, rest @ ..] = words else {
         return Err(UsageFault::Usage);
@@ -80,7 +87,8 @@ fn read_drill(alloc: Global, words: &[String]) -> Result<Command, UsageFault>
 /// The command that the words are: the first is its name. `Usage` comes only where they are none; want of
 /// memory may come at any words that are read.
 pub fn read_words(alloc: Global, words: &[String]) -> Result<Command, UsageFault>
-    ensures command { IfOk result (λ read. command_of (map string_bytes words.now) ≡ Some (seen read)) }
+    ensures command { IfOk result
+        (λ read. command_of (map string_bytes words.now) ≡ Some (seen read)) }
     ensures usage { result ≡ Err UsageFault.Usage → command_of (map string_bytes words.now) ≡ None }
 {
     let [name, rest @ ..] = words else {

@@ -87,8 +87,10 @@ pub(crate) fn live_in(matches: &ArgMatches<'_>) -> Result<u32, UsageFault>
 
 /// Where the query stands: just one of its two options says it.
 pub(crate) fn source_in(alloc: Global, matches: &ArgMatches<'_>) -> Result<QuerySource, UsageFault>
-    ensures ok { IfOk result (λ read. specs.source_in (rows_in matches.now) ≡ Some (source_seen read)) }
-    ensures usage { IfErr result (λ e. e ≡ UsageFault.Usage → specs.source_in (rows_in matches.now) ≡ None) }
+    ensures ok { IfOk result
+        (λ read. specs.source_in (rows_in matches.now) ≡ Some (source_seen read)) }
+    ensures usage { IfErr result
+        (λ e. e ≡ UsageFault.Usage → specs.source_in (rows_in matches.now) ≡ None) }
 {
     match (value_of(matches, "query"), value_of(matches, "file")) {
         (Some(text), None) => Ok(QuerySource::Text(String::from_str(alloc, text)?)),
@@ -99,8 +101,10 @@ pub(crate) fn source_in(alloc: Global, matches: &ArgMatches<'_>) -> Result<Query
 
 /// How a run works.
 pub(crate) fn speed_in(alloc: Global, matches: &ArgMatches<'_>) -> Result<Speed, UsageFault>
-    ensures ok { IfOk result (λ read. specs.speed_in (rows_in matches.now) ≡ Some (speed_seen read)) }
-    ensures usage { IfErr result (λ e. e ≡ UsageFault.Usage → specs.speed_in (rows_in matches.now) ≡ None) }
+    ensures ok { IfOk result
+        (λ read. specs.speed_in (rows_in matches.now) ≡ Some (speed_seen read)) }
+    ensures usage { IfErr result
+        (λ e. e ≡ UsageFault.Usage → specs.speed_in (rows_in matches.now) ≡ None) }
 {
     let instances = number_at(matches, "instances", INSTANCES, 2)?;
     let live = live_in(matches)?;

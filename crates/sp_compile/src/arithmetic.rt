@@ -136,7 +136,8 @@ struct Alignment {
 fn alignment_of(span: Span, left: Sort, right: Sort) -> Result<Alignment, CompileFault>
     requires left { IsScaled left }
     requires right { IsScaled right }
-    ensures sort { MatchResult result (λ a. sum_sort span left right ≡ Ok a.sort) (λ fault. sum_sort span left right ≡ Err fault) }
+    ensures sort { MatchResult result (λ a. sum_sort span left right ≡ Ok a.sort)
+        (λ fault. sum_sort span left right ≡ Err fault) }
     ensures raises { IfOk result (λ a. (a.left, a.right) ≡ raises left right) }
 {
     let (

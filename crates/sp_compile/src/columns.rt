@@ -20,14 +20,17 @@ const MOST_DIGITS: u64 = 6;
 
 // Whether the kind has digits behind it that it may not have.
 fn has_wrong_digits(column: &QueryColumn) -> bool
-    ensures { result ≡ (checks.is_decimal column.now.kind && not (nat_le 1 column.now.digits && nat_le column.now.digits 6)) }
+    ensures { result
+        ≡ (checks.is_decimal column.now.kind
+        && not (nat_le 1 column.now.digits && nat_le column.now.digits 6)) }
 {
     column.kind == Word::Dec && !(1..=MOST_DIGITS).contains(&column.digits)
 }
 
 // What is wrong in a column behind these.
 fn column_fault(before: &[QueryColumn], column: &QueryColumn) -> Option<CompileFault>
-    ensures { result ≡ checks.column_fault (map (λ column. column.name.text) before.now) column.now }
+    ensures { result
+        ≡ checks.column_fault (map (λ column. column.name.text) before.now) column.now }
 {
     if before.len() >= MOST_COLUMNS {
         Some(CompileFault::TooMany(column.name.span))
@@ -113,8 +116,10 @@ fn time_place(columns: &[QueryColumn], time: &Option<Ident>) -> Option<u16>
 /// The columns of the plan, and which of them is the time's.
 pub(crate) fn schema(alloc: Global, query: &Query) -> Result<Schema, AllocError>
     requires { IsNamed query.now }
-    ensures columns { IfOk result (λ schema. schema.columns ≡ map stands.plan_column query.now.columns) }
-    ensures time { IfOk result (λ schema. schema.time ≡ stands.time_place query.now.columns query.now.time) }
+    ensures columns { IfOk result
+        (λ schema. schema.columns ≡ map stands.plan_column query.now.columns) }
+    ensures time { IfOk result
+        (λ schema. schema.time ≡ stands.time_place query.now.columns query.now.time) }
 {
     let columns = query.columns.as_slice();
     let planned = plan_columns(alloc, columns)?;

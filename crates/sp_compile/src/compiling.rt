@@ -52,7 +52,9 @@ fn plan_select(select: Word) -> Select
 // The columns of the plan, and its elements.
 fn shape(alloc: Global, query: &Query) -> Result<(Schema, Listed<Element>), AllocError>
     requires { IsNamed query.now }
-    ensures { IfOk result (λ shape. (shape.0 ≡ plan_schema query.now) × (shape.1 ≡ stands.plan_elements 0 query.now.elements)) }
+    ensures { IfOk result
+        (λ shape. (shape.0 ≡ plan_schema query.now)
+        × (shape.1 ≡ stands.plan_elements 0 query.now.elements)) }
 {
     let schema = schema(alloc, query)?;
     let elements = plan_elements(alloc, query.elements.as_slice())?;
@@ -68,7 +70,8 @@ fn joined(
     texts: Vec<Text>,
 ) -> Plan
     requires length { checks.length_fault query.now ≡ None }
-    requires shape { (shape.0 ≡ plan_schema query.now) × (shape.1 ≡ stands.plan_elements 0 query.now.elements) }
+    requires shape { (shape.0 ≡ plan_schema query.now)
+        × (shape.1 ≡ stands.plan_elements 0 query.now.elements) }
     ensures { result ≡ plan_of query.now names opening texts.items }
 {
     let (schema, elements) = shape;

@@ -22,7 +22,8 @@ fn is_among(names: &[Ident], text: &Text) -> bool
 
 // What is wrong with a name behind these: the pattern has none such, or it stands twice.
 fn consumed_fault(names: &[Named], before: &[Ident], name: &Ident) -> Option<CompileFault>
-    ensures { (query : Query) → names.now ≡ scopes.pattern_names query → result ≡ checks.consumed_fault query (map (λ name. name.text) before.now) name.now }
+    ensures { (query : Query) → names.now ≡ scopes.pattern_names query
+        → result ≡ checks.consumed_fault query (map (λ name. name.text) before.now) name.now }
 {
     given_place(names, name, is_among(before, &name.text)).err()
 }

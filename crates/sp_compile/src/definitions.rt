@@ -43,7 +43,14 @@ fn defined_place(
 
 // A name of the plan without a definition.
 fn undefined_name(alloc: Global, query: &Query, name: &Ident) -> Result<Name, Memory>
-    ensures { IfOk result (λ planned. planned ≡ record { text = name.now.text; pred = Always; consumed = stands.is_consumed query.now.consume name.now.text }) }
+    ensures { IfOk result
+        (λ planned. planned
+        ≡ record {
+          text = name.now.text;
+          pred = Always;
+          consumed = stands.is_consumed
+              query.now.consume name.now.text;
+        }) }
 {
     Ok(Name {
         text: name.text.copy(alloc)?,
@@ -54,7 +61,9 @@ fn undefined_name(alloc: Global, query: &Query, name: &Ident) -> Result<Name, Me
 
 // The names of the plan, none of which has a definition so far.
 fn undefined_names(alloc: Global, query: &Query, names: &[Named]) -> Result<Vec<Name>, Memory>
-    ensures stand { IfOk result (λ planned. (texts : List (List ℕ)) → StandSoFar query.now texts [] names.now planned.items) }
+    ensures stand { IfOk result
+        (λ planned. (texts : List (List ℕ))
+        → StandSoFar query.now texts [] names.now planned.items) }
     ensures within { IfOk result (λ planned. All (λ name. PredWithin name.pred) planned.items) }
 {
     let mut planned = Vec::with_capacity(alloc, names.len())?;
@@ -88,7 +97,14 @@ fn defined_pred(
 // Gives the name of this place its predicate.
 fn set_pred(planned: &mut Vec<Name>, place: usize, pred: Pred)
     requires { place < length planned.old.items }
-    ensures { (other : Name) → planned.new.items ≡ slice_set planned.old.items place (record { text = (slice_index_or planned.old.items place other).text; pred = pred; consumed = (slice_index_or planned.old.items place other).consumed }) }
+    ensures { (other : Name)
+        → planned.new.items
+        ≡ slice_set planned.old.items place
+        (record {
+          text = (slice_index_or planned.old.items place other).text;
+          pred = pred;
+          consumed = (slice_index_or planned.old.items place other).consumed;
+        }) }
 {
     planned[place].pred = pred;
 }

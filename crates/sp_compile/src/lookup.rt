@@ -58,7 +58,8 @@ pub(crate) fn given_place(
     name: &Ident,
     is_given: bool,
 ) -> Result<usize, CompileFault>
-    ensures { (before : List (List ℕ)) → is_given ≡ is_among before name.now.text → PlaceAnswer names.now before name.now result }
+    ensures { (before : List (List ℕ)) → is_given ≡ is_among before name.now.text
+        → PlaceAnswer names.now before name.now result }
 {
     match name_place(names, &name.text) {
         None => Err(CompileFault::Unknown(name.span)),

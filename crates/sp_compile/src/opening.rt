@@ -19,9 +19,13 @@ use std::alloc::Global;
 
 // The plan's step between windows, or its fault.
 fn stepped(query: &Query, step: u64, unit: Word, span: Span) -> Result<Opening, CompileFault>
-    ensures fine { IfOk result (λ _. checks.step_is_fine query.now.length.0 query.now.length.1 step unit ≡ true) }
+    ensures fine { IfOk result
+        (λ _. checks.step_is_fine query.now.length.0 query.now.length.1 step unit ≡ true) }
     ensures opening { IfOk result (λ opening. opening ≡ stands.plan_step step unit) }
-    ensures refused { IfErr result (λ fault. (if checks.step_is_fine query.now.length.0 query.now.length.1 step unit then None else Some (f.BadWindow span)) ≡ Some fault) }
+    ensures refused { IfErr result
+        (λ fault.
+        (if checks.step_is_fine query.now.length.0 query.now.length.1 step unit then None else Some
+        (f.BadWindow span)) ≡ Some fault) }
 {
     pass(step_fault(query, step, unit, span))?;
     Ok(plan_step(step, unit))

@@ -73,7 +73,9 @@ fn step_is_fine(size: u64, of: Word, step: u64, unit: Word) -> bool
 
 /// What is wrong with a step between windows.
 pub(crate) fn step_fault(query: &Query, step: u64, unit: Word, span: Span) -> Option<CompileFault>
-    ensures { result ≡ (if checks.step_is_fine query.now.length.0 query.now.length.1 step unit then None else Some (f.BadWindow span)) }
+    ensures { result
+        ≡ (if checks.step_is_fine query.now.length.0 query.now.length.1 step unit then None
+        else Some (f.BadWindow span)) }
 {
     if step_is_fine(query.length.0, query.length.1, step, unit) {
         None

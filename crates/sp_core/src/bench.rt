@@ -41,7 +41,8 @@ impl Model for Bench {
 
 // The lines of tickets with how far their pieces are read. The oldest line stands first, and the newest piece.
 fn with_readings(tickets: Listed<TicketLine>, pieces: &[Piece]) -> Listed<TicketLine>
-    requires { map seen_ticket tickets ≡ reverse (map ticket_seen (map unread (map ticket_in pieces.now))) }
+    requires { map seen_ticket tickets
+        ≡ reverse (map ticket_seen (map unread (map ticket_in pieces.now))) }
     ensures { map seen_ticket result ≡ reverse (map ticket_seen (map ticket_in pieces.now)) }
 {
     let mut lines = tickets.into_vec();

@@ -37,7 +37,8 @@ impl Core {
         skipped: &Numbers,
     ) -> Option<u32>
         requires live { IsSome (version_at self.now.machine.versions version) }
-        ensures { result ≡ least_suppressed self.now.plan self.now.machine version first count skipped.now.list }
+        ensures { result
+            ≡ least_suppressed self.now.plan self.now.machine version first count skipped.now.list }
     {
         let mut found = None;
         let mut below = version;
@@ -63,7 +64,9 @@ impl Core {
         count: u32,
     ) -> Result<Numbers, Memory>
         requires live { IsSome (version_at self.now.machine.versions version) }
-        ensures { IfOk result (λ numbers. numbers.list ≡ suppressed_within self.now.plan self.now.machine version first count) }
+        ensures { IfOk result
+            (λ numbers. numbers.list
+            ≡ suppressed_within self.now.plan self.now.machine version first count) }
     {
         rising_same();
         let mut numbers = Numbers::new(alloc);
@@ -98,7 +101,8 @@ impl Core {
     /// and not in its ticket's snapshot, although the event is suppressed for it; None exactly where there is none.
     pub fn conflict(&self, version: u64) -> Result<Option<u32>, Memory>
         requires live { IsSome (version_at self.now.machine.versions version) }
-        ensures { IfOk result (λ event. event ≡ conflict_at self.now.plan self.now.machine version) }
+        ensures { IfOk result
+            (λ event. event ≡ conflict_at self.now.plan self.now.machine version) }
     {
         Ok(self.conflict_of(version))
     }
@@ -112,7 +116,8 @@ impl Core {
 
     /// The versions that `lease` would not refuse, by rising id.
     pub fn ready(&self, alloc: Global) -> Result<Vec<u64>, Memory>
-        ensures { IfOk result (λ ids. ids.items ≡ ready_ids self.now.plan self.now.bound self.now.machine) }
+        ensures { IfOk result
+            (λ ids. ids.items ≡ ready_ids self.now.plan self.now.bound self.now.machine) }
     {
         let mut ids = self.tree.walk(alloc)?;
         ids.retain(|id| self.is_ready(*id));

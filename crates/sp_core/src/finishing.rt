@@ -38,7 +38,8 @@ fn number_from(matches: &mut Vec<Match>, first: u64)
 fn consume(consumed: &mut Numbers, used: &Numbers)
     requires spare { length used.now.list ≤ consumed.old.spare }
     requires rising { IsStrictlyIncreasing consumed.old.list }
-    ensures members { (i : ℕ) → has consumed.new.list i ≡ (has consumed.old.list i || has used.now.list i) }
+    ensures members { (i : ℕ)
+        → has consumed.new.list i ≡ (has consumed.old.list i || has used.now.list i) }
     ensures rising { IsStrictlyIncreasing consumed.new.list }
     ensures spare { consumed.old.spare ≤ consumed.new.spare + length used.now.list }
 {
@@ -78,7 +79,8 @@ fn pop(
     requires rising { IsStrictlyIncreasing consumed.old.list }
     ensures tree { tree.new ≡ pruned (promoted root) tree.old }
     ensures grown { AreGrown tree.new }
-    ensures handed { IfSome (held_at tree.old root) (λ v. IsHandedOut v emitted.old emitted.new consumed.old consumed.new result.items) }
+    ensures handed { IfSome (held_at tree.old root)
+        (λ v. IsHandedOut v emitted.old emitted.new consumed.old consumed.new result.items) }
 {
     let Some(held) = tree.get_mut(root) else {
         unreachable!()
@@ -123,8 +125,11 @@ impl Core {
     // The conflict of the root's child, with what the root's matches used consumed. The root is done, so that
     // it has no open group, and its child the empty label.
     fn heir_conflict(&self, root: u64) -> Option<u32>
-        requires { (window : ℕ) × (done_root (machine.root_in self.now.machine.versions) ≡ Some (root, window)) }
-        ensures { result ≡ heir_conflict self.now.plan self.now.machine (machine.root_in self.now.machine.versions) }
+        requires { (window : ℕ)
+            × (done_root (machine.root_in self.now.machine.versions) ≡ Some (root, window)) }
+        ensures { result
+            ≡ heir_conflict self.now.plan self.now.machine
+            (machine.root_in self.now.machine.versions) }
     {
         every_schedule();
         let label = Label::empty(*self.journal.allocator());

@@ -51,7 +51,8 @@ fn add_matches(
 
 // The matches of the runs that completed, which are not numbered yet.
 fn matches_of(alloc: Global, window: u32, moves: &[Moves]) -> Result<Vec<Match>, Memory>
-    ensures { IfOk result (λ matches. matches.items ≡ map (unnumbered_told window) (completions moves.now)) }
+    ensures { IfOk result
+        (λ matches. matches.items ≡ map (unnumbered_told window) (completions moves.now)) }
 {
     let mut matches = Vec::new(alloc);
     for told in moves {
@@ -103,7 +104,8 @@ fn add_used(alloc: Global, moves: &[Move], numbers: &mut Numbers) -> Result<(), 
 
 // The numbers that the runs used which completed.
 fn used_of(alloc: Global, moves: &[Moves]) -> Result<Numbers, Memory>
-    ensures { IfOk result (λ numbers. numbers.list ≡ with_numbers [] (flat_map used_told (completions moves.now))) }
+    ensures { IfOk result
+        (λ numbers. numbers.list ≡ with_numbers [] (flat_map used_told (completions moves.now))) }
 {
     let mut numbers = Numbers::new(alloc);
     for told in moves {

@@ -42,7 +42,8 @@ impl Lent {
 
 // What went out under the ticket of a number; None exactly where it is not out.
 pub(crate) fn lent_under(tickets: &[Lent], ticket: u64) -> Option<&Lent>
-    ensures { option_map ticket_of (option_copied result) ≡ ticket_at (map ticket_of tickets.now) ticket }
+    ensures { option_map ticket_of (option_copied result)
+        ≡ ticket_at (map ticket_of tickets.now) ticket }
 {
     tickets.iter().find(|lent| lent.ticket == ticket)
 }

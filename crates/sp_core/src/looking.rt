@@ -70,7 +70,8 @@ impl Core {
     /// The matches of the finished windows, in their order: those of the windows processed one after another.
     pub fn emitted(&self) -> &[Match]
         ensures matches { result.now ≡ self.now.machine.emitted }
-        ensures sequential { result.now ≡ (seq self.now.plan self.now.machine.events self.now.machine.finished).matches }
+        ensures sequential { result.now
+            ≡ (seq self.now.plan self.now.machine.events self.now.machine.finished).matches }
     {
         every_schedule();
         &self.emitted
@@ -79,7 +80,9 @@ impl Core {
     /// The numbers of the events that they used: what processing the windows one after another consumes.
     pub fn consumed(&self) -> &Numbers
         ensures numbers { result.now.list ≡ self.now.machine.consumed }
-        ensures sequential { result.now.list ≡ with_numbers [] (seq self.now.plan self.now.machine.events self.now.machine.finished).consumed }
+        ensures sequential { result.now.list
+            ≡ with_numbers []
+            (seq self.now.plan self.now.machine.events self.now.machine.finished).consumed }
     {
         every_schedule();
         &self.consumed

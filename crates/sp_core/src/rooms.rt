@@ -27,7 +27,8 @@ pub(crate) fn make_room(journal: &mut Vec<Entry>, live: u32) -> Result<(), Memor
 // Enters a step that was done so many times, for which there is room.
 pub(crate) fn enter(journal: &mut Vec<Entry>, step: Step, times: u32)
     requires { 0 < room journal.old }
-    ensures items { journal.new.items ≡ journal.old.items ++ record { step = step; times = times } ∷ [] }
+    ensures items { journal.new.items
+        ≡ journal.old.items ++ record { step = step; times = times } ∷ [] }
     ensures kept { room journal.old ≤ room journal.new + 1 }
 {
     let _ = journal.push(Entry { step, times });
@@ -76,10 +77,12 @@ pub(crate) fn make_rooms_for(
     ensures journal_room { OnOk result (2 * length tree.now.entries + 5 ≤ room journal.new) }
     ensures emitted { emitted.new.items ≡ emitted.old.items }
     ensures emitted_kept { room emitted.old ≤ room emitted.new }
-    ensures emitted_room { OnOk result (matches_held tree.now.entries + length brought.now.copies.items ≤ room emitted.new) }
+    ensures emitted_room { OnOk result
+        (matches_held tree.now.entries + length brought.now.copies.items ≤ room emitted.new) }
     ensures consumed { consumed.new.list ≡ consumed.old.list }
     ensures consumed_kept { consumed.old.spare ≤ consumed.new.spare }
-    ensures consumed_room { OnOk result (numbers_held tree.now.entries + length brought.now.used.list ≤ consumed.new.spare) }
+    ensures consumed_room { OnOk result
+        (numbers_held tree.now.entries + length brought.now.used.list ≤ consumed.new.spare) }
 {
     make_room(journal, tree.live())?;
     let (matches, numbers) = held_by(alloc, tree)?;

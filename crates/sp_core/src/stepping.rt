@@ -29,7 +29,8 @@ fn read_on(alloc: Global, piece: &mut Piece) -> Result<Answer, CoreFault>
     requires whole { piece.old.short ≡ false }
     ensures done { OnOk result (IsReadable piece.old) }
     ensures next { OnOk result (piece.new ≡ after_step piece.old) }
-    ensures answer { IfOk result (λ given. answered given ≡ event_answer (Some (ticket_in piece.old))) }
+    ensures answer { IfOk result
+        (λ given. answered given ≡ event_answer (Some (ticket_in piece.old))) }
     ensures err { OnErr result (piece.new ≡ piece.old) }
     ensures fault { IfErr result (IsReadFault piece.old) }
 {

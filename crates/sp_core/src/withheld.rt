@@ -40,7 +40,10 @@ pub(crate) fn withheld_within(
     count: u32,
     numbers: &mut Numbers,
 ) -> Result<(), Memory>
-    ensures { OnOk result ((i : ℕ) → has numbers.new.list i ≡ (has numbers.old.list i || is_kept_within parent.now label.now first count i)) }
+    ensures { OnOk result
+        ((i : ℕ)
+        → has numbers.new.list i
+        ≡ (has numbers.old.list i || is_kept_within parent.now label.now first count i)) }
 {
     numbers.union(alloc, &parent.used.cut_to(alloc, first, count)?)?;
     for run in parent.matcher.open_runs() {

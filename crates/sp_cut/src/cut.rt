@@ -58,7 +58,8 @@ impl Cutter {
     /// The next bytes of an input that has not ended. Where memory runs out the cutter is as before.
     pub fn feed(&mut self, piece: &[u8]) -> Result<(), Memory>
         requires { self.old.ended ≡ false }
-        ensures fed { OnOk result (self.new ≡ record self.old { bytes = self.old.bytes ++ piece.now }) }
+        ensures fed { OnOk result
+            (self.new ≡ record self.old { bytes = self.old.bytes ++ piece.now }) }
         ensures unchanged { OnErr result (self.new ≡ self.old) }
     {
         self.forget();

@@ -9,7 +9,9 @@ use std::alloc::Global;
 
 // What is behind a blank, the name and `=`.
 fn behind_name<'a>(text: &'a [u8], name: &[u8]) -> Option<&'a [u8]>
-    ensures { MatchOption result ((rest : List ℕ) → text.now ≢ codes " " ++ (name.now ++ (codes "=" ++ rest))) (λ rest. text.now ≡ codes " " ++ (name.now ++ (codes "=" ++ rest.now))) }
+    ensures { MatchOption result
+        ((rest : List ℕ) → text.now ≢ codes " " ++ (name.now ++ (codes "=" ++ rest)))
+        (λ rest. text.now ≡ codes " " ++ (name.now ++ (codes "=" ++ rest.now))) }
 {
     behind(behind(behind(text, b" ")?, name)?, b"=")
 }

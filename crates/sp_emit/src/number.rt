@@ -36,7 +36,8 @@ fn is_plain(digits: &[u8]) -> bool
 
 // The number with one digit more; None exactly where it is past 64 bits.
 fn with_digit(value: u64, digit: u8) -> Option<u64>
-    ensures { MatchOption result (2 ^ 64 ≤ r.with_digit value digit) (λ n. n ≡ r.with_digit value digit) }
+    ensures { MatchOption result (2 ^ 64 ≤ r.with_digit value digit)
+        (λ n. n ≡ r.with_digit value digit) }
 {
     value
         .checked_mul(10)?
@@ -45,7 +46,8 @@ fn with_digit(value: u64, digit: u8) -> Option<u64>
 
 // The number that digits write; None exactly where it is past 64 bits.
 fn value(digits: &[u8]) -> Option<u64>
-    ensures { MatchOption result (2 ^ 64 ≤ r.digits_value digits.now) (λ n. n ≡ r.digits_value digits.now) }
+    ensures { MatchOption result (2 ^ 64 ≤ r.digits_value digits.now)
+        (λ n. n ≡ r.digits_value digits.now) }
 {
     let mut value = 0u64;
     for digit in digits {
@@ -79,7 +81,8 @@ pub(crate) fn short_number_at(text: &[u8]) -> Option<(u32, &[u8])>
 
 /// The number behind a label, and the rest.
 pub(crate) fn labelled_at<'a>(text: &'a [u8], label: &[u8]) -> Option<(u64, &'a [u8])>
-    ensures { Answers (LabelledAt label.now 18446744073709551615 text.now) (λ p. (p.0, p.1.now)) result }
+    ensures { Answers (LabelledAt label.now 18446744073709551615 text.now)
+        (λ p. (p.0, p.1.now)) result }
 {
     number_at(behind(text, label)?, u64::MAX)
 }

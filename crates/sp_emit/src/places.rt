@@ -44,7 +44,8 @@ pub(crate) fn places_at<'a>(
 
 /// The consumed numbers, where the text is these, or a dash for none, and one line feed.
 pub(crate) fn used(alloc: Global, text: &[u8]) -> Result<Option<Places>, Memory>
-    ensures { IfOk result (λ used. MatchOption used ((ns : List ℕ) → UsedIs text.now ns → ⊥) (UsedIs text.now)) }
+    ensures { IfOk result
+        (λ used. MatchOption used ((ns : List ℕ) → UsedIs text.now ns → ⊥) (UsedIs text.now)) }
 {
     if text == b"-\n".as_slice() {
         return Places::new(alloc, &[]);

@@ -14,8 +14,11 @@ use std::alloc::Global;
 /// events are numbers of 32 bits, the match's own of 64, decimal and without leading zeros; lists rise
 /// strictly; a dash stands where nothing is consumed, and one line feed at the end.
 pub fn read_match_line(alloc: Global, plan: &Plan, line: &str) -> Result<Option<Match>, Memory>
-    ensures line { IfOk result (λ found. MatchOption found ((m : Match) → IsLine plan.now m line.now → ⊥) (λ m. IsLine plan.now m line.now)) }
-    ensures only { IfOk result (λ found. (m : Match) → IsLine plan.now m line.now → found ≡ Some m) }
+    ensures line { IfOk result
+        (λ found. MatchOption found ((m : Match) → IsLine plan.now m line.now → ⊥)
+        (λ m. IsLine plan.now m line.now)) }
+    ensures only { IfOk result
+        (λ found. (m : Match) → IsLine plan.now m line.now → found ≡ Some m) }
 {
     let Some((window, rest)) = short_labelled_at(line.as_bytes(), b"w=") else {
         return Ok(None);

@@ -35,7 +35,8 @@ pub fn push_truth(out: &mut String, truth: bool) -> Result<(), Memory>
 
 /// Adds numbers joined by commas, or a dash where there are none.
 pub fn push_numbers(out: &mut String, numbers: &Numbers) -> Result<(), Memory>
-    ensures { OnOk result (string_bytes out.new ≡ string_bytes out.old ++ list_text numbers.now.list) }
+    ensures { OnOk result
+        (string_bytes out.new ≡ string_bytes out.old ++ list_text numbers.now.list) }
 {
     push_list(out, numbers.list())
 }
@@ -49,7 +50,8 @@ fn push_label(out: &mut String, label: &Label) -> Result<(), Memory>
 
 // Adds an open group.
 fn push_group(out: &mut String, group: &(u32, Numbers)) -> Result<(), Memory>
-    ensures { OnOk result (string_bytes out.new ≡ string_bytes out.old ++ group_text (seen_group group.now)) }
+    ensures { OnOk result
+        (string_bytes out.new ≡ string_bytes out.old ++ group_text (seen_group group.now)) }
 {
     let (run, numbers) = group;
     write!(out, "{run}:")?;
@@ -59,7 +61,8 @@ fn push_group(out: &mut String, group: &(u32, Numbers)) -> Result<(), Memory>
 // Adds open groups, each after a semicolon.
 fn push_more_groups(out: &mut String, groups: &[(u32, Numbers)]) -> Result<(), Memory>
     ensures { OnOk result (string_bytes out.new
-        ≡ string_bytes out.old ++ flat_map (λ group. codes ";" ++ group_text group) (map seen_group groups.now)) }
+        ≡ string_bytes out.old
+        ++ flat_map (λ group. codes ";" ++ group_text group) (map seen_group groups.now)) }
 {
     for group in groups {
         out.push_str(";")?;
@@ -85,8 +88,8 @@ fn push_groups(out: &mut String, groups: &Listed<(u32, Numbers)>) -> Result<(), 
 // Adds how many windows have begun, how many are finished, and how many versions are live.
 fn push_counts(out: &mut String, state: &State) -> Result<(), Memory>
     ensures { OnOk result (string_bytes out.new
-        ≡ string_bytes out.old ++ (codes " windows=" ++ decimal state.now.windows ++ codes " finished="
-        ++ decimal state.now.finished ++ codes " live=" ++ decimal (length state.now.versions))) }
+        ≡ string_bytes out.old ++ (codes " windows=" ++ decimal state.now.windows
+        ++ codes " finished=" ++ decimal state.now.finished ++ codes " live=" ++ decimal (length state.now.versions))) }
 {
     let (windows, finished) = (state.windows, state.finished);
     let live = state.versions.as_slice().len();
@@ -178,7 +181,8 @@ fn add_tickets(alloc: Global, tickets: &[TicketLine], lines: &mut Vec<String>) -
 /// The lines of a state, each with its line feed: of the state itself; of the live versions; of the tickets that
 /// are out. docs/formats.md says what they hold.
 pub fn state_lines(alloc: Global, state: &State) -> Result<Vec<String>, Memory>
-    ensures { IfOk result (λ lines. map string_bytes lines.items ≡ lines_of_state (seen state.now)) }
+    ensures { IfOk result
+        (λ lines. map string_bytes lines.items ≡ lines_of_state (seen state.now)) }
 {
     let versions = state.versions.as_slice();
     let tickets = state.tickets.as_slice();

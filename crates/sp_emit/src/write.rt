@@ -22,7 +22,9 @@ fn push_number(out: &mut String, number: u32) -> Result<(), Memory>
 
 // Adds numbers, each after a comma.
 fn push_more(out: &mut String, numbers: &[u32]) -> Result<(), Memory>
-    ensures { OnOk result (string_bytes out.new ≡ string_bytes out.old ++ flat_map (λ n. codes "," ++ decimal n) numbers.now) }
+    ensures { OnOk result
+        (string_bytes out.new
+        ≡ string_bytes out.old ++ flat_map (λ n. codes "," ++ decimal n) numbers.now) }
 {
     for number in numbers {
         out.push_str(",")?;
@@ -53,7 +55,8 @@ fn push_places(out: &mut String, places: &Places) -> Result<(), Memory>
 
 // Adds the text of a name.
 fn push_name(out: &mut String, plan: &Plan, name: u8) -> Result<(), Memory>
-    ensures { OnOk result (string_bytes out.new ≡ string_bytes out.old ++ name_text (slice_get plan.now.names name)) }
+    ensures { OnOk result
+        (string_bytes out.new ≡ string_bytes out.old ++ name_text (slice_get plan.now.names name)) }
 {
     match plan.names.as_slice().get(name as usize) {
         Some(own) => Ok(out.push_str(own.text.as_str())?),
@@ -63,7 +66,8 @@ fn push_name(out: &mut String, plan: &Plan, name: u8) -> Result<(), Memory>
 
 // Adds a name with its events.
 fn push_binding(out: &mut String, plan: &Plan, name: u8, places: &Places) -> Result<(), Memory>
-    ensures text { OnOk result (string_bytes out.new ≡ string_bytes out.old ++ binding_text plan.now (name, places.now)) }
+    ensures text { OnOk result
+        (string_bytes out.new ≡ string_bytes out.old ++ binding_text plan.now (name, places.now)) }
     ensures byte { OnOk result (name < 2 ^ 8) }
     ensures are { OnOk result (ArePlaces places.now) }
 {
@@ -75,7 +79,9 @@ fn push_binding(out: &mut String, plan: &Plan, name: u8, places: &Places) -> Res
 
 // Adds each name with its events.
 fn push_bindings(out: &mut String, plan: &Plan, bound: &[(u8, Places)]) -> Result<(), Memory>
-    ensures text { OnOk result (string_bytes out.new ≡ string_bytes out.old ++ flat_map (binding_text plan.now) bound.now) }
+    ensures text { OnOk result
+        (string_bytes out.new
+        ≡ string_bytes out.old ++ flat_map (binding_text plan.now) bound.now) }
     ensures names { OnOk result (All (λ pair. pair.0 < 2 ^ 8) bound.now) }
     ensures are { OnOk result (All (λ pair. ArePlaces pair.1) bound.now) }
 {
@@ -87,7 +93,8 @@ fn push_bindings(out: &mut String, plan: &Plan, bound: &[(u8, Places)]) -> Resul
 
 // Adds numbers joined by commas, or a dash where there are none.
 pub(crate) fn push_list(out: &mut String, numbers: &[u32]) -> Result<(), Memory>
-    ensures text { OnOk result (string_bytes out.new ≡ string_bytes out.old ++ used_text numbers.now) }
+    ensures text { OnOk result
+        (string_bytes out.new ≡ string_bytes out.old ++ used_text numbers.now) }
     ensures small { All (λ n. n < 2 ^ 32) numbers.now }
 {
     if numbers.is_empty() {
@@ -111,7 +118,8 @@ fn push_used(out: &mut String, used: &Places) -> Result<(), Memory>
 /// one event, `read_match_line` gives the match back.
 pub fn match_line(alloc: Global, plan: &Plan, found: &Match) -> Result<String, Memory>
     ensures line { IfOk result (λ text. string_bytes text ≡ line plan.now found.now) }
-    ensures back { Binds plan.now found.now → IfOk result (λ text. IsLine plan.now found.now (string_bytes text)) }
+    ensures back { Binds plan.now found.now
+        → IfOk result (λ text. IsLine plan.now found.now (string_bytes text)) }
 {
     let window = found.window;
     let number = found.number;

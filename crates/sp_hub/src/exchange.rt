@@ -198,7 +198,8 @@ impl<J: Named, P: Named, L: Naming> Hub<J, P, L> {
     ) -> Result<History, Unfinished<J, P, L>>
         ensures variant { IsOk result ↔ (vec_len seats ≡ self.seats) }
         ensures legal { IfOk result (λ h. IsLegal h.entries) }
-        ensures counted { IfOk result (λ h. count_by is_call h.entries ≡ by.calls + sum_by (λ s. s.calls) seats.items) }
+        ensures counted { IfOk result
+            (λ h. count_by is_call h.entries ≡ by.calls + sum_by (λ s. s.calls) seats.items) }
         ensures takes { IfOk result (λ h. h.takes ≡ by_seat is_take_by self.seats h.entries) }
         ensures puts { IfOk result (λ h. h.puts ≡ by_seat is_put_by self.seats h.entries) }
         ensures back { IfErr result (λ u. (u.hub ≡ self) × (u.by ≡ by) × (u.seats ≡ seats)) }

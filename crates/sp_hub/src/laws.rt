@@ -44,7 +44,8 @@ impl<J: Named, P: Named, L: Naming> Locked<J, P, L> {
     /// An empty state, with room for Close.
     pub(crate) fn new(alloc: Global, book: Book<L>) -> Result<Locked<J, P, L>, Memory>
         requires { book.total ≡ 0 }
-        ensures { IfOk result (λ s. s ≡ record { jobs = []; home = []; closed = false; entries = [] }) }
+        ensures { IfOk result
+            (λ s. s ≡ record { jobs = []; home = []; closed = false; entries = [] }) }
     {
         let history = Vec::with_capacity(alloc, 1)?;
         Ok(Locked {
@@ -100,7 +101,8 @@ impl<J: Named, P: Named, L: Naming> Locked<J, P, L> {
         requires ticket { by.old.last < J.ticket_of job }
         requires room { by.old.waiting < by.old.room }
         requires open { by.old.closed ≡ false }
-        ensures state { self.new ≡ (if is_ok result then after_post self.old job (J.ticket_of job) else self.old) }
+        ensures state { self.new
+            ≡ (if is_ok result then after_post self.old job (J.ticket_of job) else self.old) }
         ensures by { by.new ≡ (if is_ok result then posts by.old (J.ticket_of job) else by.old) }
         ensures back { IfErr result (λ j. j ≡ job) }
     {
@@ -150,7 +152,9 @@ impl<J: Named, P: Named, L: Naming> Locked<J, P, L> {
     /// Brings a piece home. `Err` is want of memory, and all is as before.
     pub fn put(&mut self, seat: &mut Seat<P, L>, piece: P) -> Result<(), P>
         requires { seat.old.holding ≡ Some (P.ticket_of piece) }
-        ensures state { self.new ≡ (if is_ok result then after_put self.old seat.old.number piece (P.ticket_of piece) else self.old) }
+        ensures state { self.new
+            ≡ (if is_ok result then after_put self.old seat.old.number piece
+            (P.ticket_of piece) else self.old) }
         ensures seat { seat.new ≡ (if is_ok result then puts seat.old else seat.old) }
         ensures back { IfErr result (λ p. p ≡ piece) }
     {

@@ -67,7 +67,9 @@ impl EventReader {
     /// Puts in the next event, or tells why there is none.
     #[inline(always)]
     pub(crate) fn poll(&mut self, alloc: Global, event: &mut Option<Event>) -> Polled
-        ensures gives { (source : SourceState) → Gives (standing source self.old) (polled_in result event.new) (standing source self.new) }
+        ensures gives { (source : SourceState)
+            → Gives (standing source self.old) (polled_in result event.new)
+            (standing source self.new) }
         ensures some { result ≡ Polled.Event → IsSome event.new }
         ensures asks { result ≡ Polled.Ask → IsAsking self.new }
         ensures end { result ≡ Polled.End → stop_in self.new.state ≡ Some Stop.End }
@@ -99,7 +101,8 @@ impl EventReader {
     pub(crate) fn take(&mut self, buffer: &[u8], read: Result<usize, Failed>)
         requires asks { IsAsking self.old }
         requires count { IfOk read (λ n. n ≤ length buffer.now) }
-        ensures gives { (before next : SourceState) → WasRead before buffer.now read next → Gives (standing before self.old) [] (standing next self.new) }
+        ensures gives { (before next : SourceState) → WasRead before buffer.now read next
+            → Gives (standing before self.old) [] (standing next self.new) }
         ensures stops { self.new.stops ≡ self.old.stops }
     {
         match read {

@@ -65,13 +65,16 @@ impl Kept {
         requires going { self.old.stopped ≡ None }
         requires counted { IsCounted self.old }
         requires suits { SuitsPlan self.old }
-        ensures reading { OnOk result (TakesRow (CutRows.row row.now) (event_in event.new) self.old self.new) }
-        ensures next { ComeNext (plan_in self.old) (last_in self.old) (answered result event.new) (last_in self.new) }
+        ensures reading { OnOk result
+            (TakesRow (CutRows.row row.now) (event_in event.new) self.old self.new) }
+        ensures next { ComeNext (plan_in self.old) (last_in self.old) (answered result event.new)
+            (last_in self.new) }
         ensures counted { IsCounted self.new }
         ensures suits { SuitsPlan self.new }
         ensures plan { plan_in self.new ≡ plan_in self.old }
         ensures given { self.new.given ≡ self.old.given + length (answered result event.new) }
-        ensures count { OnOk result (self.new.stopped ≡ None → self.new.count ≡ self.old.count + 1) }
+        ensures count { OnOk result
+            (self.new.stopped ≡ None → self.new.count ≡ self.old.count + 1) }
     {
         if self.count == ROWS {
             self.stopped = Some(Failure::Limit { limit: ROWS });
@@ -99,8 +102,10 @@ impl Kept {
     fn give(&mut self, event: &mut Option<Event>)
         requires going { self.old.stopped ≡ None }
         requires few { self.old.given ≤ 1048576 }
-        ensures reading { (before : List events.Event) (e : events.Event) → event.old ≡ Some e → length before ≡ self.old.given
-            → reading_of (before ++ event_in event.new) self.new ≡ with_event (reading_of before self.old) e (reading_of before self.old).so_far }
+        ensures reading { (before : List events.Event) (e : events.Event) → event.old ≡ Some e
+            → length before ≡ self.old.given
+            → reading_of (before ++ event_in event.new) self.new
+            ≡ with_event (reading_of before self.old) e (reading_of before self.old).so_far }
         ensures rows { self.new.rows ≡ self.old.rows }
         ensures count { self.new.count ≡ self.old.count }
         ensures given { self.new.given ≡ self.old.given + length (event_in event.new) }
@@ -140,7 +145,8 @@ impl Kept {
 
     /// Why there are no more events, where no row follows.
     pub(crate) fn stop(&self, ended: bool) -> Stop
-        ensures { (before : List events.Event) → result ≡ stop_of (reading_of before self.now) ended }
+        ensures { (before : List events.Event)
+            → result ≡ stop_of (reading_of before self.now) ended }
     {
         if let Some(failure) = self.stopped {
             return Stop::Failed(failure);

@@ -33,7 +33,9 @@ fn skip_events<S: Source>(
 ) -> Result<Option<Stop>, Memory>
     requires compiled { IsCompiled (arc_value plan.now) }
     requires not_ended { (S.state source.old).ended ≡ false }
-    ensures { IfOk result (λ why. (events : List event.Event) × ReadSoFar (arc_value plan.now) (S.state source.old) (S.state source.new) events why) }
+    ensures { IfOk result
+        (λ why. (events : List event.Event)
+        × ReadSoFar (arc_value plan.now) (S.state source.old) (S.state source.new) events why) }
 {
     let mut input = Input::over(source, EventReader::new(alloc, plan)?);
     skip(alloc, &mut input, count);

@@ -26,7 +26,9 @@ impl Reader {
     /// Nothing was read yet.
     pub(crate) fn new(alloc: Global, plan: Arc<Plan>) -> Result<Reader, Memory>
         requires { IsTimeOf (arc_value plan).schema.columns (arc_value plan).schema.time }
-        ensures leads { IfOk result (λ reader. (more : List ℕ) (ended : Bool) → comes_to [] reader more ended ≡ read (arc_value plan) more ended) }
+        ensures leads { IfOk result
+            (λ reader. (more : List ℕ) (ended : Bool)
+            → comes_to [] reader more ended ≡ read (arc_value plan) more ended) }
         ensures ready { IfOk result (λ reader. IsReady reader) }
         ensures open { IfOk result (λ reader. reader.cutter.ended ≡ false) }
         ensures given { IfOk result (λ reader. reader.kept.given ≡ 0) }
@@ -49,7 +51,10 @@ impl Reader {
     pub(crate) fn feed(&mut self, piece: &[u8]) -> Result<(), Memory>
         requires open { self.old.cutter.ended ≡ false }
         requires ready { IsReady self.old }
-        ensures leads { OnOk result ((events : List events.Event) (more : List ℕ) (ended : Bool) → comes_to events self.new more ended ≡ comes_to events self.old (piece.now ++ more) ended) }
+        ensures leads { OnOk result
+            ((events : List events.Event) (more : List ℕ) (ended : Bool)
+            → comes_to events self.new more ended
+            ≡ comes_to events self.old (piece.now ++ more) ended) }
         ensures ready { OnOk result (IsReady self.new) }
         ensures open { OnOk result (self.new.cutter.ended ≡ false) }
         ensures kept { self.new.kept ≡ self.old.kept }
@@ -61,7 +66,8 @@ impl Reader {
     pub(crate) fn end(&mut self)
         requires open { self.old.cutter.ended ≡ false }
         requires ready { IsReady self.old }
-        ensures ends { (events : List events.Event) → ends_as events self.new ≡ comes_to events self.old [] true }
+        ensures ends { (events : List events.Event)
+            → ends_as events self.new ≡ comes_to events self.old [] true }
         ensures ready { IsReady self.new }
         ensures ended { self.new.cutter.ended ≡ true }
         ensures kept { self.new.kept ≡ self.old.kept }
@@ -80,8 +86,10 @@ impl Reader {
         ensures ready { OnOk result (IsReady self.new) }
         ensures settled { OnOk result (event.new ≡ None → IsSettled self.new) }
         ensures plan { plan_in self.new.kept ≡ plan_in self.old.kept }
-        ensures next { ComeNext (plan_in self.old.kept) (last_in self.old.kept) (answered result event.new) (last_in self.new.kept) }
-        ensures given { self.new.kept.given ≡ self.old.kept.given + length (answered result event.new) }
+        ensures next { ComeNext (plan_in self.old.kept) (last_in self.old.kept)
+            (answered result event.new) (last_in self.new.kept) }
+        ensures given { self.new.kept.given
+            ≡ self.old.kept.given + length (answered result event.new) }
         ensures few { self.new.kept.given ≤ 1048576 }
     {
         for _ in 0..u64::MAX {
@@ -101,8 +109,11 @@ impl Reader {
         ensures settled { IfOk result (λ taken. taken ≡ false → IsSettled self.new) }
         ensures nothing { IfOk result (λ taken. taken ≡ false → event.new ≡ None) }
         ensures plan { plan_in self.new.kept ≡ plan_in self.old.kept }
-        ensures next { IfOk result (λ taken. ComeNext (plan_in self.old.kept) (last_in self.old.kept) (event_in event.new) (last_in self.new.kept)) }
-        ensures none { OnErr result (ComeNext (plan_in self.old.kept) (last_in self.old.kept) [] (last_in self.new.kept)) }
+        ensures next { IfOk result
+            (λ taken. ComeNext (plan_in self.old.kept) (last_in self.old.kept) (event_in event.new)
+            (last_in self.new.kept)) }
+        ensures none { OnErr result
+            (ComeNext (plan_in self.old.kept) (last_in self.old.kept) [] (last_in self.new.kept)) }
         ensures given { OnErr result (self.new.kept.given ≡ self.old.kept.given) }
         ensures few { self.new.kept.given ≤ 1048576 }
     {
@@ -145,7 +156,8 @@ impl Reader {
 
     /// Why there are no more events, where no row follows.
     pub(crate) fn stop(&self, ended: bool) -> Stop
-        ensures { (before : List events.Event) → result ≡ stop_of (reading_of before self.now.kept) ended }
+        ensures { (before : List events.Event)
+            → result ≡ stop_of (reading_of before self.now.kept) ended }
     {
         self.kept.stop(ended)
     }

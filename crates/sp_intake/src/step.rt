@@ -29,7 +29,9 @@ pub(crate) fn take_step(
     event: &mut Option<Event>,
 ) -> Result<Step, Memory>
     requires ready { IsReady reader.old }
-    ensures gives { (source : SourceState) → Gives (record { source = source; state = Going; reader = reader.old }) (given_in result event.new)
+    ensures gives { (source : SourceState)
+        → Gives (record { source = source; state = Going; reader = reader.old })
+        (given_in result event.new)
         (record { source = source; state = state_after result; reader = reader.new }) }
     ensures some { result ≡ Ok Step.Event → IsSome event.new }
     ensures ready { OnOk result (IsReady reader.new) }

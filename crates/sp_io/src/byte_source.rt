@@ -16,7 +16,8 @@ impl ByteSource {
 
     /// A source of these bytes, which are moved into it.
     pub fn new(bytes: Vec<u8>) -> ByteSource
-        ensures { source_state result ≡ record { left = Some bytes.items; faults = 0; ended = false } }
+        ensures { source_state result
+            ≡ record { left = Some bytes.items; faults = 0; ended = false } }
     {
         ByteSource {
             bytes,

@@ -48,7 +48,9 @@ pub trait Files {
         ensures within { IfBytes result (λ bytes. length bytes ≤ limit) }
         ensures too_long { OnTooLong result (HoldsLonger (held self.old) name.now limit) }
 
-        ensures no_fault { OnNoFault result ((other : List ℕ) → faults self.new other ≡ faults self.old other) }
-        ensures fault { OnFault result (Rose (faults self.old name.now) (faults self.new name.now)) }
+        ensures no_fault { OnNoFault result
+            ((other : List ℕ) → faults self.new other ≡ faults self.old other) }
+        ensures fault { OnFault result
+            (Rose (faults self.old name.now) (faults self.new name.now)) }
         ensures never_falls { (other : List ℕ) → faults self.old other ≤ faults self.new other };
 }

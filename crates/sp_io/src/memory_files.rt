@@ -66,9 +66,12 @@ impl Files for MemFiles {
         ensures bytes { IfBytes result (HoldsFile (held_files self.old) name.now) }
         ensures within { IfBytes result (λ bytes. length bytes ≤ limit) }
         ensures too_long { OnTooLong result (HoldsLonger (held_files self.old) name.now limit) }
-        ensures no_fault { OnNoFault result ((other : List ℕ) → faults_of self.new other ≡ faults_of self.old other) }
-        ensures fault { OnFault result (Rose (faults_of self.old name.now) (faults_of self.new name.now)) }
-        ensures never_falls { (other : List ℕ) → faults_of self.old other ≤ faults_of self.new other }
+        ensures no_fault { OnNoFault result
+            ((other : List ℕ) → faults_of self.new other ≡ faults_of self.old other) }
+        ensures fault { OnFault result
+            (Rose (faults_of self.old name.now) (faults_of self.new name.now)) }
+        ensures never_falls { (other : List ℕ)
+            → faults_of self.old other ≤ faults_of self.new other }
 
         ensures fails { IsErrOf result LoadFault.Failed
             ↔ (Contains (told_faults self.old) (next_call self.old) ⊎ IsMissing self.old name.now) }

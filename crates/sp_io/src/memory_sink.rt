@@ -24,7 +24,8 @@ impl MemSink {
     /// one call the first counts. A call that would append more than the free room appends what fits
     /// and fails. No other call fails.
     pub fn new(alloc: Global, fails: Vec<(u32, u32)>, room: u32) -> Result<MemSink, AllocError>
-        ensures state { IfOk result (λ sink. sink_state sink ≡ record { held = Some []; faults = 0 }) }
+        ensures state { IfOk result
+            (λ sink. sink_state sink ≡ record { held = Some []; faults = 0 }) }
         ensures room { IfOk result (λ sink. free_room sink ≡ room) }
         ensures fails { IfOk result (λ sink. told_faults sink ≡ fails.items) }
         ensures calls { IfOk result (λ sink. next_call sink ≡ 1) }
@@ -64,16 +65,23 @@ impl Sink for MemSink {
 
     // The first five clauses are the trait's.
     fn write_all(&mut self, piece: &[u8]) -> Result<(), Failed>
-        ensures ok { OnOk result (Grew (sink_state self.old).held piece.now (sink_state self.new).held) }
-        ensures err { OnErr result (GrewWithin (sink_state self.old).held piece.now (sink_state self.new).held) }
-        ensures no_fault { OnOk result ((sink_state self.new).faults ≡ (sink_state self.old).faults) }
-        ensures fault { OnErr result (Rose (sink_state self.old).faults (sink_state self.new).faults) }
+        ensures ok { OnOk result
+            (Grew (sink_state self.old).held piece.now (sink_state self.new).held) }
+        ensures err { OnErr result
+            (GrewWithin (sink_state self.old).held piece.now (sink_state self.new).held) }
+        ensures no_fault { OnOk result
+            ((sink_state self.new).faults ≡ (sink_state self.old).faults) }
+        ensures fault { OnErr result
+            (Rose (sink_state self.old).faults (sink_state self.new).faults) }
         ensures never_falls { (sink_state self.old).faults ≤ (sink_state self.new).faults }
 
-        ensures keeps { Grew (sink_state self.old).held (kept_front self.old piece.now) (sink_state self.new).held }
-        ensures succeeds { kept_at (told_faults self.old) (next_call self.old) ≡ None → length piece.now ≤ free_room self.old → IsOk result }
+        ensures keeps { Grew (sink_state self.old).held (kept_front self.old piece.now)
+            (sink_state self.new).held }
+        ensures succeeds { kept_at (told_faults self.old) (next_call self.old) ≡ None
+            → length piece.now ≤ free_room self.old → IsOk result }
         ensures told { IsSome (kept_at (told_faults self.old) (next_call self.old)) → IsErr result }
-        ensures room { free_room self.new + length (kept_front self.old piece.now) ≡ free_room self.old }
+        ensures room { free_room self.new + length (kept_front self.old piece.now)
+            ≡ free_room self.old }
         ensures call { next_call self.new ≡ min (next_call self.old + 1) (2 ^ 64 - 1) }
         ensures fails { told_faults self.new ≡ told_faults self.old }
     {

@@ -24,7 +24,8 @@ impl MemSource {
     /// byte past the first `fail_after`, and once these were given each call fails.
     pub fn new(bytes: Vec<u8>, piece: u32, fail_after: Option<u64>) -> MemSource
         requires { 0 < piece }
-        ensures state { source_state result ≡ record { left = Some bytes.items; faults = 0; ended = false } }
+        ensures state { source_state result
+            ≡ record { left = Some bytes.items; faults = 0; ended = false } }
         ensures piece { piece_of result ≡ piece }
         ensures fails { until_fault result ≡ fail_after }
     {
@@ -52,21 +53,29 @@ impl Source for MemSource {
 
         ensures size { length into.new ≡ length into.old }
         ensures count { IfOk result (λ n. n ≤ length into.old) }
-        ensures bytes { IfOk result (λ n. Gave (source_state self.old).left (take n into.new) (source_state self.new).left) }
+        ensures bytes { IfOk result
+            (λ n. Gave (source_state self.old).left (take n into.new)
+            (source_state self.new).left) }
         ensures nothing_left { IfOk result (λ n. n ≡ 0 → IsUsedUp (source_state self.old).left) }
-        ensures untaken { OnErr result (Gave (source_state self.old).left [] (source_state self.new).left) }
+        ensures untaken { OnErr result
+            (Gave (source_state self.old).left [] (source_state self.new).left) }
         ensures ended { IfOk result (λ n. n ≡ 0 → (source_state self.new).ended ≡ true) }
-        ensures goes_on { IfOk result (λ n. 0 < n → (source_state self.new).ended ≡ (source_state self.old).ended) }
-        ensures failed_before_end { OnErr result ((source_state self.new).ended ≡ (source_state self.old).ended) }
-        ensures no_fault { OnOk result ((source_state self.new).faults ≡ (source_state self.old).faults) }
-        ensures fault { OnErr result (Rose (source_state self.old).faults (source_state self.new).faults) }
+        ensures goes_on { IfOk result
+            (λ n. 0 < n → (source_state self.new).ended ≡ (source_state self.old).ended) }
+        ensures failed_before_end { OnErr result
+            ((source_state self.new).ended ≡ (source_state self.old).ended) }
+        ensures no_fault { OnOk result
+            ((source_state self.new).faults ≡ (source_state self.old).faults) }
+        ensures fault { OnErr result
+            (Rose (source_state self.old).faults (source_state self.new).faults) }
         ensures never_falls { (source_state self.old).faults ≤ (source_state self.new).faults }
 
         ensures fails { IsErr result ↔ (until_fault self.old ≡ Some 0) }
         ensures at_most { IfOk result (λ n. n ≤ piece_of self.old) }
         ensures before_fault { IfOk result (λ n. IfSome (until_fault self.old) (λ k. n ≤ k)) }
         ensures piece { piece_of self.new ≡ piece_of self.old }
-        ensures until_fault { IfOk result (λ n. until_fault self.new ≡ less (until_fault self.old) n) }
+        ensures until_fault { IfOk result
+            (λ n. until_fault self.new ≡ less (until_fault self.old) n) }
         ensures fault_stays { OnErr result (until_fault self.new ≡ until_fault self.old) }
     {
         let mut room = into.len().min(self.piece as usize);

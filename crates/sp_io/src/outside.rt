@@ -20,12 +20,14 @@ pub trait Source: Send {
 
         ensures size { length into.new ≡ length into.old }
         ensures count { IfOk result (λ n. n ≤ length into.old) }
-        ensures bytes { IfOk result (λ n. Gave (state self.old).left (take n into.new) (state self.new).left) }
+        ensures bytes { IfOk result
+            (λ n. Gave (state self.old).left (take n into.new) (state self.new).left) }
         ensures nothing_left { IfOk result (λ n. n ≡ 0 → IsUsedUp (state self.old).left) }
         ensures untaken { OnErr result (Gave (state self.old).left [] (state self.new).left) }
 
         ensures ended { IfOk result (λ n. n ≡ 0 → (state self.new).ended ≡ true) }
-        ensures goes_on { IfOk result (λ n. 0 < n → (state self.new).ended ≡ (state self.old).ended) }
+        ensures goes_on { IfOk result
+            (λ n. 0 < n → (state self.new).ended ≡ (state self.old).ended) }
         ensures failed_before_end { OnErr result ((state self.new).ended ≡ (state self.old).ended) }
 
         ensures no_fault { OnOk result ((state self.new).faults ≡ (state self.old).faults) }
@@ -44,7 +46,8 @@ pub trait Sink: Send {
     /// Appends the piece. After `Failed` a prefix of the piece was appended.
     fn write_all(&mut self, piece: &[u8]) -> Result<(), Failed>
         ensures ok { OnOk result (Grew (state self.old).held piece.now (state self.new).held) }
-        ensures err { OnErr result (GrewWithin (state self.old).held piece.now (state self.new).held) }
+        ensures err { OnErr result
+            (GrewWithin (state self.old).held piece.now (state self.new).held) }
 
         ensures no_fault { OnOk result ((state self.new).faults ≡ (state self.old).faults) }
         ensures fault { OnErr result (Rose (state self.old).faults (state self.new).faults) }

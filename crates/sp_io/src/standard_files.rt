@@ -50,10 +50,14 @@ fn asked(limit: u32) -> u64
 
 // What a file comes to of which these are the bytes, or whose call failed. A fault that isn't want of memory is counted.
 fn loaded(read: io::Result<Vec<u8>>, limit: u32, failed: &mut u64) -> Result<Loaded, LoadFault>
-    ensures bytes { IfOk read (λ bytes. length bytes.items ≤ limit → result ≡ Ok (Loaded.Bytes bytes)) }
-    ensures too_long { IfOk read (λ bytes. limit < length bytes.items → result ≡ Ok Loaded.TooLong) }
-    ensures memory { IfErr read (λ error. error_kind error ≡ ErrorKind.OutOfMemory → result ≡ Err LoadFault.Memory) }
-    ensures failed { IfErr read (λ error. error_kind error ≢ ErrorKind.OutOfMemory → result ≡ Err LoadFault.Failed) }
+    ensures bytes { IfOk read
+        (λ bytes. length bytes.items ≤ limit → result ≡ Ok (Loaded.Bytes bytes)) }
+    ensures too_long { IfOk read
+        (λ bytes. limit < length bytes.items → result ≡ Ok Loaded.TooLong) }
+    ensures memory { IfErr read
+        (λ error. error_kind error ≡ ErrorKind.OutOfMemory → result ≡ Err LoadFault.Memory) }
+    ensures failed { IfErr read
+        (λ error. error_kind error ≢ ErrorKind.OutOfMemory → result ≡ Err LoadFault.Failed) }
     ensures counted { OnFault result (failed.new ≡ min (failed.old + 1) (2 ^ 64 - 1)) }
     ensures never_falls { failed.old ≤ failed.new }
     ensures uncounted { OnNoFault result (failed.new ≡ failed.old) }

@@ -29,7 +29,8 @@ fn is_name_byte(b: u8) -> bool
 
 // What is behind the blanks.
 pub(crate) fn skip(text: &[u8]) -> &[u8]
-    ensures { (blanks : List ℕ) × (text.now ≡ blanks ++ result.now) × IsRun s.is_blank blanks result.now }
+    ensures { (blanks : List ℕ) × (text.now ≡ blanks ++ result.now)
+        × IsRun s.is_blank blanks result.now }
 {
     for (i, b) in text.iter().enumerate() {
         if !is_blank(*b) {

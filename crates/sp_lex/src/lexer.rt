@@ -62,9 +62,11 @@ fn token_at<'a>(alloc: Global, text: &'a str, here: &'a [u8]) -> Result<(Kernel,
 pub fn lex(alloc: Global, text: &str) -> Result<Vec<Token>, LexFault>
     requires { length text.now < 2 ^ 32 }
     ensures found { IfOk result (λ tokens. s.Tokens 0 text.now tokens.items) }
-    ensures only { (ts : List Token) → s.Tokens 0 text.now ts → MatchResult result (λ tokens. ts ≡ tokens.items) (λ e. e ≡ LexFault.Memory) }
+    ensures only { (ts : List Token) → s.Tokens 0 text.now ts
+        → MatchResult result (λ tokens. ts ≡ tokens.items) (λ e. e ≡ LexFault.Memory) }
     ensures refused { IfErr result (λ e. s.Refuses text.now e) }
-    ensures faults { (fault : LexFault) → s.Refuses text.now fault → fault ≢ LexFault.Memory → MatchResult result (λ tokens. ⊥) (λ e. (e ≡ fault) ⊎ (e ≡ LexFault.Memory)) }
+    ensures faults { (fault : LexFault) → s.Refuses text.now fault → fault ≢ LexFault.Memory
+        → MatchResult result (λ tokens. ⊥) (λ e. (e ≡ fault) ⊎ (e ≡ LexFault.Memory)) }
 {
     let mut tokens = Vec::new(alloc);
     let mut rest = text.as_bytes();

@@ -10,7 +10,8 @@ use std::alloc::{AllocError, Global};
 /// end.
 pub(crate) fn literal(alloc: Global, text: &str) -> Result<Option<(Text, &str)>, AllocError>
     ensures found { IfOk result (λ o. IfSome o (λ p. Inside text.now p.0 p.1.now)) }
-    ensures none { IfOk result (λ o. IfNone o ((value rest : List ℕ) → Inside text.now value rest → ⊥)) }
+    ensures none { IfOk result
+        (λ o. IfNone o ((value rest : List ℕ) → Inside text.now value rest → ⊥)) }
 {
     let mut value = String::new(alloc);
     let mut rest = text;

@@ -8,7 +8,8 @@ use crate::Kernel;
 
 // The mark that is this byte.
 fn single(first: u8) -> Option<Kernel>
-    ensures { MatchOption result (is_mark_byte first ≡ false) (λ kernel. s.mark kernel ≡ Some (first ∷ [])) }
+    ensures { MatchOption result (is_mark_byte first ≡ false)
+        (λ kernel. s.mark kernel ≡ Some (first ∷ [])) }
 {
     match first {
         b'(' => Some(Kernel::LeftRound),
@@ -29,7 +30,8 @@ fn single(first: u8) -> Option<Kernel>
 
 // The mark that is these two bytes.
 fn double(first: u8, second: u8) -> Option<Kernel>
-    ensures { MatchOption result ((kernel : Kernel) → s.mark kernel ≢ Some (first ∷ second ∷ [])) (λ kernel. s.mark kernel ≡ Some (first ∷ second ∷ [])) }
+    ensures { MatchOption result ((kernel : Kernel) → s.mark kernel ≢ Some (first ∷ second ∷ []))
+        (λ kernel. s.mark kernel ≡ Some (first ∷ second ∷ [])) }
 {
     match (first, second) {
         (b'<', b'>') => Some(Kernel::Unequal),
@@ -41,7 +43,10 @@ fn double(first: u8, second: u8) -> Option<Kernel>
 
 // The mark of two bytes in front of a text, and what is behind it.
 fn double_at(text: &[u8]) -> Option<(Kernel, &[u8])>
-    ensures { MatchOption result ((kernel : Kernel) (front rest : List ℕ) → text.now ≡ front ++ rest → s.mark kernel ≡ Some front → length front ≤ 1) (λ p. (b : ℕ) × (c : ℕ) × (text.now ≡ b ∷ c ∷ p.1.now) × (s.mark p.0 ≡ Some (b ∷ c ∷ []))) }
+    ensures { MatchOption result
+        ((kernel : Kernel) (front rest : List ℕ) → text.now ≡ front ++ rest
+        → s.mark kernel ≡ Some front → length front ≤ 1)
+        (λ p. (b : ℕ) × (c : ℕ) × (text.now ≡ b ∷ c ∷ p.1.now) × (s.mark p.0 ≡ Some (b ∷ c ∷ []))) }
 {
     match text {
         [first, second, rest @ ..] => match double(*first, *second) {
@@ -54,7 +59,8 @@ fn double_at(text: &[u8]) -> Option<(Kernel, &[u8])>
 
 /// The mark in front of a text, the longest that fits, and what is behind it.
 pub(crate) fn mark_at(text: &[u8]) -> Option<(Kernel, &[u8])>
-    ensures { MatchOption result (s.heads is_mark_byte text.now ≡ false) (λ p. Reads text.now p.0 p.1.now) }
+    ensures { MatchOption result (s.heads is_mark_byte text.now ≡ false)
+        (λ p. Reads text.now p.0 p.1.now) }
 {
     if let Some(token) = double_at(text) {
         return Some(token);

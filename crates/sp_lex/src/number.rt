@@ -31,7 +31,8 @@ fn with_more(number: u64, digits: &[u8]) -> u64
 
 // What follows a point.
 fn behind_point(text: &[u8]) -> Option<&[u8]>
-    ensures { MatchOption result (s.heads is_point text.now ≡ false) (λ rest. text.now ≡ 46 ∷ rest.now) }
+    ensures { MatchOption result (s.heads is_point text.now ≡ false)
+        (λ rest. text.now ≡ 46 ∷ rest.now) }
 {
     match text {
         [b'.', rest @ ..] => Some(rest),

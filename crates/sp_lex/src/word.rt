@@ -39,7 +39,8 @@ const WORDS: [Word; 24] = [
 
 // The word that is written so.
 fn word_of(bytes: &[u8]) -> Option<Word>
-    ensures { MatchOption result ((word : Word) → bytes.now ≢ s.spelling word) (λ word. bytes.now ≡ s.spelling word) }
+    ensures { MatchOption result ((word : Word) → bytes.now ≢ s.spelling word)
+        (λ word. bytes.now ≡ s.spelling word) }
 {
     for word in WORDS {
         if bytes == word.spelling().as_bytes() {

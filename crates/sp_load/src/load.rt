@@ -20,8 +20,10 @@ pub fn load_file<F: Files>(
     ensures within { IfOk result (λ bytes. length bytes.items ≤ limit) }
     ensures refused { IfErr result (RefusesLoad (F.held files.old) limit (file name.now)) }
     ensures held { F.held files.new ≡ F.held files.old }
-    ensures fault { result ≡ Err Refusal.Read → Rose (F.faults files.old name.now) (F.faults files.new name.now) }
-    ensures no_fault { result ≢ Err Refusal.Read → (other : List ℕ) → F.faults files.new other ≡ F.faults files.old other }
+    ensures fault { result ≡ Err Refusal.Read
+        → Rose (F.faults files.old name.now) (F.faults files.new name.now) }
+    ensures no_fault { result ≢ Err Refusal.Read → (other : List ℕ)
+        → F.faults files.new other ≡ F.faults files.old other }
 {
     match files.load(alloc, name, limit) {
         Ok(Loaded::Bytes(bytes)) => Ok(bytes),

@@ -63,12 +63,16 @@ pub fn text_at<'a, F: Files>(
     place: Place<'a>,
     files: &mut F,
 ) -> Result<QueryText<'a>, Refusal>
-    ensures text { IfOk result (λ found. HasText (F.held files.old) (place_of place.entry) (text_of found)) }
+    ensures text { IfOk result
+        (λ found. HasText (F.held files.old) (place_of place.entry) (text_of found)) }
     ensures short { IfOk result (λ found. length (text_of found) ≤ longest_query) }
-    ensures refused { IfErr result (RefusesLoad (F.held files.old) longest_query (place_of place.entry)) }
+    ensures refused { IfErr result
+        (RefusesLoad (F.held files.old) longest_query (place_of place.entry)) }
     ensures held { F.held files.new ≡ F.held files.old }
-    ensures fault { result ≡ Err Refusal.Read → IsUnread (place_of place.entry) (F.faults files.old) (F.faults files.new) }
-    ensures no_fault { result ≢ Err Refusal.Read → (name : List ℕ) → F.faults files.new name ≡ F.faults files.old name }
+    ensures fault { result ≡ Err Refusal.Read
+        → IsUnread (place_of place.entry) (F.faults files.old) (F.faults files.new) }
+    ensures no_fault { result ≢ Err Refusal.Read → (name : List ℕ)
+        → F.faults files.new name ≡ F.faults files.old name }
 {
     match place {
         Place::Word(text) => {
@@ -101,8 +105,10 @@ pub fn plan_at<F: Files>(alloc: Global, place: Place, files: &mut F) -> Result<P
     ensures plan { IfOk result (IsPlanAt (F.held files.old) (place_of place.entry)) }
     ensures refused { IfErr result (RefusesPlace (F.held files.old) (place_of place.entry)) }
     ensures held { F.held files.new ≡ F.held files.old }
-    ensures fault { result ≡ Err Refusal.Read → IsUnread (place_of place.entry) (F.faults files.old) (F.faults files.new) }
-    ensures no_fault { result ≢ Err Refusal.Read → (name : List ℕ) → F.faults files.new name ≡ F.faults files.old name }
+    ensures fault { result ≡ Err Refusal.Read
+        → IsUnread (place_of place.entry) (F.faults files.old) (F.faults files.new) }
+    ensures no_fault { result ≢ Err Refusal.Read → (name : List ℕ)
+        → F.faults files.new name ≡ F.faults files.old name }
 {
     match text_at(alloc, place, files) {
         Ok(text) => plan_of_text(alloc, &text),

@@ -19,7 +19,8 @@ use std::alloc::Global;
 // Why a text is no query.
 fn no_query(fault: &ParseFault) -> Refusal
     ensures memory { fault.now ≡ ParseFault.Memory → result ≡ Refusal.Memory }
-    ensures other { fault.now ≢ ParseFault.Memory → result ≡ Refusal.Query (parse_codes.code_of fault.now) (parse_codes.place_of fault.now) }
+    ensures other { fault.now ≢ ParseFault.Memory
+        → result ≡ Refusal.Query (parse_codes.code_of fault.now) (parse_codes.place_of fault.now) }
 {
     match fault {
         ParseFault::Memory => Refusal::Memory,
@@ -33,7 +34,9 @@ fn no_query(fault: &ParseFault) -> Refusal
 // Why a query has no plan.
 fn no_plan(fault: &CompileFault) -> Refusal
     ensures memory { fault.now ≡ CompileFault.Memory → result ≡ Refusal.Memory }
-    ensures other { fault.now ≢ CompileFault.Memory → result ≡ Refusal.Query (compile_codes.code_of fault.now) (compile_codes.place_of fault.now) }
+    ensures other { fault.now ≢ CompileFault.Memory
+        → result
+        ≡ Refusal.Query (compile_codes.code_of fault.now) (compile_codes.place_of fault.now) }
 {
     match fault {
         CompileFault::Memory => Refusal::Memory,

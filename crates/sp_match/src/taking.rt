@@ -93,7 +93,8 @@ pub(crate) fn filled_front(plan: &Plan, run: &Run) -> usize
     ensures within { result ≤ length plan.now.elements }
     ensures filled { list_all (Runs.is_filled (pairs (kept run.now)))
         (take result plan.now.elements) ≡ true }
-    ensures next { next_element plan.now (pairs (kept run.now)) ≡ slice_get plan.now.elements result }
+    ensures next { next_element plan.now (pairs (kept run.now))
+        ≡ slice_get plan.now.elements result }
 {
     let elements = plan.elements.as_slice();
     for i in run.filled..elements.len() {
@@ -230,7 +231,8 @@ pub(crate) fn look_ahead(plan: &Plan, run: &Run) -> Ahead
 pub(crate) fn look_ahead_at(plan: &Plan, run: &Run, filled: usize) -> Ahead
     requires compiled { IsCompiled plan.now }
     requires good { Good plan.now (kept run.now) }
-    requires next { next_element plan.now (pairs (kept run.now)) ≡ slice_get plan.now.elements filled }
+    requires next { next_element plan.now (pairs (kept run.now))
+        ≡ slice_get plan.now.elements filled }
     ensures ahead { IsAhead plan.now (pairs (kept run.now)) result }
 {
     Ahead {

@@ -28,7 +28,8 @@ fn unit<'a>(tokens: &'a [Token]) -> Result<(Word, &'a [Token]), Stop>
 
 // whole ( EVENTS | TIME )
 pub(crate) fn amount<'a>(tokens: &'a [Token]) -> Result<((u64, Word), &'a [Token]), Stop>
-    ensures { (room : ℕ) → Answers (λ _. g.Amount) never room tokens.now (λ p. (p.0, p.1.now)) result }
+    ensures { (room : ℕ)
+        → Answers (λ _. g.Amount) never room tokens.now (λ p. (p.0, p.1.now)) result }
 {
     let (count, rest) = whole(tokens)?;
     let (word, rest) = unit(rest)?;
@@ -40,7 +41,8 @@ pub(crate) fn within<'a>(
     alloc: Global,
     tokens: &'a [Token],
 ) -> Result<((u64, Word, Span), &'a [Token]), Stop>
-    ensures { (room : ℕ) → Answers (λ _. g.Within) never room tokens.now (λ p. (p.0, p.1.now)) result }
+    ensures { (room : ℕ)
+        → Answers (λ _. g.Within) never room tokens.now (λ p. (p.0, p.1.now)) result }
 {
     let length = expect(tokens, Mark::Within)?;
     let ((count, word), rest) = amount(length)?;
@@ -65,7 +67,8 @@ fn chosen<'a>(tokens: &'a [Token]) -> Result<(Word, &'a [Token]), Stop>
 
 // SELECT ( FIRST | LAST | EACH )
 pub(crate) fn policy<'a>(alloc: Global, tokens: &'a [Token]) -> Result<(Word, &'a [Token]), Stop>
-    ensures { (room : ℕ) → Answers (λ _. g.Policy) never room tokens.now (λ p. (p.0, p.1.now)) result }
+    ensures { (room : ℕ)
+        → Answers (λ _. g.Policy) never room tokens.now (λ p. (p.0, p.1.now)) result }
 {
     let rest = expect(tokens, Mark::Select)?;
     chosen(rest)
@@ -87,7 +90,10 @@ fn all_or_none<'a>(tokens: &'a [Token]) -> Result<(QueryConsume, &'a [Token]), S
 
 // name { "," name }
 fn name_list<'a>(alloc: Global, tokens: &'a [Token]) -> Result<(Items<Ident>, &'a [Token]), Stop>
-    ensures { (room : ℕ) → Answers (λ _. g.ListOf g.Name) (among never (reads_as (g.kernel (g.mark m.Comma)))) room tokens.now (λ p. (p.0, p.1.now)) result }
+    ensures { (room : ℕ)
+        → Answers (λ _. g.ListOf g.Name)
+        (among never (reads_as (g.kernel (g.mark m.Comma)))) room tokens.now
+        (λ p. (p.0, p.1.now)) result }
 {
     let (mut list, mut rest) = added(Items::new(alloc), ident(alloc, tokens))?;
     'each: while let Some(next) = behind(rest, Mark::Comma) {
@@ -98,7 +104,9 @@ fn name_list<'a>(alloc: Global, tokens: &'a [Token]) -> Result<(Items<Ident>, &'
 
 // "(" name { "," name } ")"
 fn consumed<'a>(alloc: Global, tokens: &'a [Token]) -> Result<(Items<Ident>, &'a [Token]), Stop>
-    ensures { (room : ℕ) → Answers (λ _. g.Between m.LeftRound (g.ListOf g.Name) m.RightRound) never room tokens.now (λ p. (p.0, p.1.now)) result }
+    ensures { (room : ℕ)
+        → Answers (λ _. g.Between m.LeftRound (g.ListOf g.Name) m.RightRound) never room tokens.now
+        (λ p. (p.0, p.1.now)) result }
 {
     let rest = expect(tokens, Mark::LeftRound)?;
     closed(name_list(alloc, rest), Mark::RightRound)
@@ -109,7 +117,8 @@ pub(crate) fn consume<'a>(
     alloc: Global,
     tokens: &'a [Token],
 ) -> Result<(QueryConsume, &'a [Token]), Stop>
-    ensures { (room : ℕ) → Answers (λ _. g.Consume) never room tokens.now (λ p. (p.0, p.1.now)) result }
+    ensures { (room : ℕ)
+        → Answers (λ _. g.Consume) never room tokens.now (λ p. (p.0, p.1.now)) result }
 {
     let rest = expect(tokens, Mark::Consume)?;
     if begins(rest, Mark::LeftRound) {

@@ -14,7 +14,8 @@ use std::alloc::Global;
 
 // name
 pub(crate) fn ident<'a>(alloc: Global, tokens: &'a [Token]) -> Result<(Ident, &'a [Token]), Stop>
-    ensures { (room : ℕ) → Answers (λ _. g.Name) never room tokens.now (λ p. (p.0, p.1.now)) result }
+    ensures { (room : ℕ)
+        → Answers (λ _. g.Name) never room tokens.now (λ p. (p.0, p.1.now)) result }
 {
     let (text, rest) = name(alloc, tokens)?;
     let span = span_of(tokens, rest);
@@ -37,7 +38,9 @@ fn plain_kind<'a>(tokens: &'a [Token]) -> Result<(Word, &'a [Token]), Stop>
 
 // DEC whole
 fn digits<'a>(tokens: &'a [Token]) -> Result<(u64, &'a [Token]), Stop>
-    ensures { (room : ℕ) → Answers (λ _. g.After m.Dec (One (g.kernel g.whole))) never room tokens.now (λ p. (p.0, p.1.now)) result }
+    ensures { (room : ℕ)
+        → Answers (λ _. g.After m.Dec (One (g.kernel g.whole))) never room tokens.now
+        (λ p. (p.0, p.1.now)) result }
 {
     let rest = expect(tokens, Mark::Dec)?;
     whole(rest)
@@ -45,7 +48,8 @@ fn digits<'a>(tokens: &'a [Token]) -> Result<(u64, &'a [Token]), Stop>
 
 // INT | TEXT | DEC whole
 fn kind<'a>(tokens: &'a [Token]) -> Result<((Word, u64), &'a [Token]), Stop>
-    ensures { (room : ℕ) → Answers (λ _. g.KindOf) never room tokens.now (λ p. (p.0, p.1.now)) result }
+    ensures { (room : ℕ)
+        → Answers (λ _. g.KindOf) never room tokens.now (λ p. (p.0, p.1.now)) result }
 {
     if begins(tokens, Mark::Dec) {
         let (count, rest) = digits(tokens)?;
@@ -57,7 +61,8 @@ fn kind<'a>(tokens: &'a [Token]) -> Result<((Word, u64), &'a [Token]), Stop>
 
 // name ( INT | DEC whole | TEXT )
 fn column<'a>(alloc: Global, tokens: &'a [Token]) -> Result<(QueryColumn, &'a [Token]), Stop>
-    ensures { (room : ℕ) → Answers (λ _. g.Column) never room tokens.now (λ p. (p.0, p.1.now)) result }
+    ensures { (room : ℕ)
+        → Answers (λ _. g.Column) never room tokens.now (λ p. (p.0, p.1.now)) result }
 {
     let (name, rest) = ident(alloc, tokens)?;
     let ((kind, digits), rest) = kind(rest)?;
@@ -76,7 +81,10 @@ fn column_list<'a>(
     alloc: Global,
     tokens: &'a [Token],
 ) -> Result<(Items<QueryColumn>, &'a [Token]), Stop>
-    ensures { (room : ℕ) → Answers (λ _. g.ListOf g.Column) (among never (reads_as (g.kernel (g.mark m.Comma)))) room tokens.now (λ p. (p.0, p.1.now)) result }
+    ensures { (room : ℕ)
+        → Answers (λ _. g.ListOf g.Column)
+        (among never (reads_as (g.kernel (g.mark m.Comma)))) room tokens.now
+        (λ p. (p.0, p.1.now)) result }
 {
     let (mut list, mut rest) = added(Items::new(alloc), column(alloc, tokens))?;
     'each: while let Some(next) = behind(rest, Mark::Comma) {
@@ -90,7 +98,8 @@ pub(crate) fn columns<'a>(
     alloc: Global,
     tokens: &'a [Token],
 ) -> Result<(Items<QueryColumn>, &'a [Token]), Stop>
-    ensures { (room : ℕ) → Answers (λ _. g.Columns) never room tokens.now (λ p. (p.0, p.1.now)) result }
+    ensures { (room : ℕ)
+        → Answers (λ _. g.Columns) never room tokens.now (λ p. (p.0, p.1.now)) result }
 {
     let rest = expect(tokens, Mark::Event)?;
     let rest = expect(rest, Mark::LeftRound)?;
@@ -99,7 +108,8 @@ pub(crate) fn columns<'a>(
 
 // TIME name
 pub(crate) fn timed<'a>(alloc: Global, tokens: &'a [Token]) -> Result<(Ident, &'a [Token]), Stop>
-    ensures { (room : ℕ) → Answers (λ _. g.Timed) never room tokens.now (λ p. (p.0, p.1.now)) result }
+    ensures { (room : ℕ)
+        → Answers (λ _. g.Timed) never room tokens.now (λ p. (p.0, p.1.now)) result }
 {
     let rest = expect(tokens, Mark::Time)?;
     ident(alloc, rest)

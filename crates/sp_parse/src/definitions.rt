@@ -37,7 +37,8 @@ fn definition_list<'a>(
     tokens: &'a [Token],
     room: usize,
 ) -> Result<(Items<(Ident, Tree)>, &'a [Token]), Stop>
-    ensures { Answers (λ n. g.ListOf (g.Definition n)) after_definitions room tokens.now (λ p. (p.0, p.1.now)) result }
+    ensures { Answers (λ n. g.ListOf (g.Definition n)) after_definitions room tokens.now
+        (λ p. (p.0, p.1.now)) result }
 {
     let (mut list, mut rest) = added(Items::new(alloc), definition(alloc, tokens, room))?;
     'each: while let Some(next) = behind(rest, Mark::Comma) {
@@ -60,7 +61,8 @@ pub(crate) fn definitions<'a>(
 
 // EVERY whole ( EVENTS | TIME )
 fn every<'a>(tokens: &'a [Token]) -> Result<(QueryOpening, &'a [Token]), Stop>
-    ensures { (room : ℕ) → Answers (λ _. g.Every) never room tokens.now (λ p. (p.0, p.1.now)) result }
+    ensures { (room : ℕ)
+        → Answers (λ _. g.Every) never room tokens.now (λ p. (p.0, p.1.now)) result }
 {
     let rest = expect(tokens, Mark::Every)?;
     let ((number, unit), rest) = amount(rest)?;
@@ -74,7 +76,9 @@ fn when<'a>(
     tokens: &'a [Token],
     room: usize,
 ) -> Result<(QueryOpening, &'a [Token]), Stop>
-    ensures { Answers (λ n. Built (λ tokens p. o.When p) (g.After m.When (g.Pred n))) after_pred room tokens.now (λ p. (p.0, p.1.now)) result }
+    ensures { Answers
+        (λ n. Built (λ tokens p. o.When p) (g.After m.When (g.Pred n))) after_pred room tokens.now
+        (λ p. (p.0, p.1.now)) result }
 {
     let rest = expect(tokens, Mark::When)?;
     let (tree, rest) = pred(alloc, rest, room)?;
@@ -87,7 +91,9 @@ fn every_or_when<'a>(
     tokens: &'a [Token],
     room: usize,
 ) -> Result<(QueryOpening, &'a [Token]), Stop>
-    ensures { Answers (λ n. Either g.Every (Built (λ tokens p. o.When p) (g.After m.When (g.Pred n)))) after_pred room tokens.now (λ p. (p.0, p.1.now)) result }
+    ensures { Answers
+        (λ n. Either g.Every (Built (λ tokens p. o.When p) (g.After m.When (g.Pred n)))) after_pred
+        room tokens.now (λ p. (p.0, p.1.now)) result }
 {
     if begins(tokens, Mark::Every) {
         return every(tokens);

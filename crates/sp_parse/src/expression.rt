@@ -37,7 +37,8 @@ fn constant_node<'a>(alloc: Global, tokens: &'a [Token]) -> Result<(Node, &'a [T
 
 // whole | decimal | literal
 fn constant<'a>(alloc: Global, tokens: &'a [Token]) -> Result<(Tree, &'a [Token]), Stop>
-    ensures { (room : ℕ) → Answers (λ _. g.Constant) never room tokens.now (λ p. (p.0, p.1.now)) result }
+    ensures { (room : ℕ)
+        → Answers (λ _. g.Constant) never room tokens.now (λ p. (p.0, p.1.now)) result }
 {
     let (node, rest) = constant_node(alloc, tokens)?;
     Ok((leaf(alloc, node, span_of(tokens, rest)), rest))
@@ -45,7 +46,8 @@ fn constant<'a>(alloc: Global, tokens: &'a [Token]) -> Result<(Tree, &'a [Token]
 
 // "." name
 fn dotted<'a>(alloc: Global, tokens: &'a [Token]) -> Result<(Text, &'a [Token]), Stop>
-    ensures { (room : ℕ) → Answers (λ _. g.Dotted) never room tokens.now (λ p. (p.0, p.1.now)) result }
+    ensures { (room : ℕ)
+        → Answers (λ _. g.Dotted) never room tokens.now (λ p. (p.0, p.1.now)) result }
 {
     let rest = expect(tokens, Mark::Dot)?;
     name(alloc, rest)
@@ -53,7 +55,8 @@ fn dotted<'a>(alloc: Global, tokens: &'a [Token]) -> Result<(Text, &'a [Token]),
 
 // name [ "." name ]
 fn named<'a>(alloc: Global, tokens: &'a [Token]) -> Result<(Tree, &'a [Token]), Stop>
-    ensures { (room : ℕ) → Answers (λ _. g.Named) after_factor room tokens.now (λ p. (p.0, p.1.now)) result }
+    ensures { (room : ℕ)
+        → Answers (λ _. g.Named) after_factor room tokens.now (λ p. (p.0, p.1.now)) result }
 {
     let (first, rest) = name(alloc, tokens)?;
     if !begins(rest, Mark::Dot) {
@@ -68,7 +71,8 @@ fn named<'a>(alloc: Global, tokens: &'a [Token]) -> Result<(Tree, &'a [Token]), 
 
 // whole | decimal | literal | name [ "." name ]
 fn operand<'a>(alloc: Global, tokens: &'a [Token]) -> Result<(Tree, &'a [Token]), Stop>
-    ensures { (room : ℕ) → Answers (λ _. g.Operand) after_factor room tokens.now (λ p. (p.0, p.1.now)) result }
+    ensures { (room : ℕ)
+        → Answers (λ _. g.Operand) after_factor room tokens.now (λ p. (p.0, p.1.now)) result }
 {
     if begins_name(tokens) {
         return named(alloc, tokens);
@@ -99,7 +103,9 @@ fn factor<'a>(alloc: Global, tokens: &'a [Token], room: usize) -> Result<(Tree, 
 // "-" factor
 #[cycle(factor)]
 fn negated<'a>(alloc: Global, tokens: &'a [Token], room: usize) -> Result<(Tree, &'a [Token]), Stop>
-    ensures { Answers (λ n. g.Applied Mark.Minus Node.Minus (g.Factor n)) after_factor room tokens.now (λ p. (p.0, p.1.now)) result }
+    ensures { Answers
+        (λ n. g.Applied Mark.Minus Node.Minus (g.Factor n)) after_factor room tokens.now
+        (λ p. (p.0, p.1.now)) result }
 {
     let rest = expect(tokens, Mark::Minus)?;
     let (part, rest) = factor(alloc, rest, room)?;
@@ -114,7 +120,9 @@ fn enclosed<'a>(
     tokens: &'a [Token],
     room: usize,
 ) -> Result<(Tree, &'a [Token]), Stop>
-    ensures { Answers (λ n. g.Between Mark.LeftRound (g.Sum n) Mark.RightRound) never room tokens.now (λ p. (p.0, p.1.now)) result }
+    ensures { Answers
+        (λ n. g.Between Mark.LeftRound (g.Sum n) Mark.RightRound) never room tokens.now
+        (λ p. (p.0, p.1.now)) result }
 {
     let rest = expect(tokens, Mark::LeftRound)?;
     closed(sum(alloc, rest, room), Mark::RightRound)
@@ -146,7 +154,8 @@ fn plus(tokens: &[Token]) -> Option<(Node, &[Token])>
 // factor { "*" factor }
 #[cycle(factor)]
 fn term<'a>(alloc: Global, tokens: &'a [Token], room: usize) -> Result<(Tree, &'a [Token]), Stop>
-    ensures { Answers (λ n. g.TermOf (g.Factor n)) after_term room tokens.now (λ p. (p.0, p.1.now)) result }
+    ensures { Answers (λ n. g.TermOf (g.Factor n)) after_term room tokens.now
+        (λ p. (p.0, p.1.now)) result }
 {
     let (mut tree, mut rest) = factor(alloc, tokens, room)?;
     while let Some((node, behind)) = times(rest) {

@@ -28,7 +28,8 @@ fn without_tokens(fault: LexFault) -> ParseFault
 fn place_of(text: &str, tokens: &[Token], left: usize) -> u32
     requires text { length text.now < 2 ^ 32 }
     requires left { left ≤ length tokens.now }
-    ensures { (front rest : List Token) → tokens.now ≡ front ++ rest → length rest ≡ left → result ≡ place text.now rest }
+    ensures { (front rest : List Token) → tokens.now ≡ front ++ rest → length rest ≡ left
+        → result ≡ place text.now rest }
 {
     if left == 0 {
         return text.len() as u32;
@@ -44,7 +45,8 @@ pub fn parse(alloc: Global, text: &str) -> Result<Query, ParseFault>
     ensures found { IfOk result (λ query. IsQuery text.now query) }
     ensures only { (query : Query) → IsQuery text.now query → IsAll query result }
     ensures refused { IfErr result (λ fault. Refuses text.now fault) }
-    ensures faults { (fault : ParseFault) → Refuses text.now fault → fault ≢ ParseFault.Memory → MatchResult result (λ query. ⊥) (λ e. (e ≡ fault) ⊎ (e ≡ ParseFault.Memory)) }
+    ensures faults { (fault : ParseFault) → Refuses text.now fault → fault ≢ ParseFault.Memory
+        → MatchResult result (λ query. ⊥) (λ e. (e ≡ fault) ⊎ (e ≡ ParseFault.Memory)) }
 {
     let tokens = match lex(alloc, text) {
         Ok(tokens) => tokens,

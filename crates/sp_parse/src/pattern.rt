@@ -14,7 +14,9 @@ use std::alloc::Global;
 
 // name [ "+" ]
 fn single<'a>(alloc: Global, tokens: &'a [Token]) -> Result<(QueryElement, &'a [Token]), Stop>
-    ensures { (room : ℕ) → Answers (λ _. g.Single) (reads_as (g.kernel (g.mark m.Plus))) room tokens.now (λ p. (p.0, p.1.now)) result }
+    ensures { (room : ℕ)
+        → Answers (λ _. g.Single) (reads_as (g.kernel (g.mark m.Plus))) room tokens.now
+        (λ p. (p.0, p.1.now)) result }
 {
     let (name, rest) = ident(alloc, tokens)?;
     match behind(rest, Mark::Plus) {
@@ -28,7 +30,9 @@ fn single<'a>(alloc: Global, tokens: &'a [Token]) -> Result<(QueryElement, &'a [
 
 // name name { name }
 fn names<'a>(alloc: Global, tokens: &'a [Token]) -> Result<(Items<Ident>, &'a [Token]), Stop>
-    ensures { (room : ℕ) → Answers (λ _. g.Names) (among never (reads_as (g.kernel g.name))) room tokens.now (λ p. (p.0, p.1.now)) result }
+    ensures { (room : ℕ)
+        → Answers (λ _. g.Names) (among never (reads_as (g.kernel g.name))) room tokens.now
+        (λ p. (p.0, p.1.now)) result }
 {
     let (list, rest) = added(Items::new(alloc), ident(alloc, tokens))?;
     let (mut list, mut rest) = added(list, ident(alloc, rest))?;
@@ -40,7 +44,10 @@ fn names<'a>(alloc: Global, tokens: &'a [Token]) -> Result<(Items<Ident>, &'a [T
 
 // SET "(" name name { name } ")"
 fn set<'a>(alloc: Global, tokens: &'a [Token]) -> Result<(Items<Ident>, &'a [Token]), Stop>
-    ensures { (room : ℕ) → Answers (λ _. g.After m.Set (g.Between m.LeftRound g.Names m.RightRound)) never room tokens.now (λ p. (p.0, p.1.now)) result }
+    ensures { (room : ℕ)
+        → Answers
+        (λ _. g.After m.Set (g.Between m.LeftRound g.Names m.RightRound)) never room tokens.now
+        (λ p. (p.0, p.1.now)) result }
 {
     let rest = expect(tokens, Mark::Set)?;
     let rest = expect(rest, Mark::LeftRound)?;
@@ -49,7 +56,9 @@ fn set<'a>(alloc: Global, tokens: &'a [Token]) -> Result<(Items<Ident>, &'a [Tok
 
 // name [ "+" ] | SET "(" name name { name } ")"
 fn element<'a>(alloc: Global, tokens: &'a [Token]) -> Result<(QueryElement, &'a [Token]), Stop>
-    ensures { (room : ℕ) → Answers (λ _. g.Element) (reads_as (g.kernel (g.mark m.Plus))) room tokens.now (λ p. (p.0, p.1.now)) result }
+    ensures { (room : ℕ)
+        → Answers (λ _. g.Element) (reads_as (g.kernel (g.mark m.Plus))) room tokens.now
+        (λ p. (p.0, p.1.now)) result }
 {
     if begins(tokens, Mark::Set) {
         let (names, rest) = set(alloc, tokens)?;
@@ -60,7 +69,9 @@ fn element<'a>(alloc: Global, tokens: &'a [Token]) -> Result<(QueryElement, &'a 
 
 // Whether a name or SET is first.
 fn begins_element(tokens: &[Token]) -> bool
-    ensures { result ≡ heads (among (reads_as (g.kernel g.name)) (reads_as (g.kernel (g.mark m.Set)))) tokens.now }
+    ensures { result
+        ≡ heads
+        (among (reads_as (g.kernel g.name)) (reads_as (g.kernel (g.mark m.Set)))) tokens.now }
 {
     begins_name(tokens) || begins(tokens, Mark::Set)
 }
@@ -70,7 +81,11 @@ fn element_row<'a>(
     alloc: Global,
     tokens: &'a [Token],
 ) -> Result<(Items<QueryElement>, &'a [Token]), Stop>
-    ensures { (room : ℕ) → Answers (λ _. g.MoreOf (g.Alone g.Element) g.Element) (among (reads_as (g.kernel (g.mark m.Plus))) (among (reads_as (g.kernel g.name)) (reads_as (g.kernel (g.mark m.Set))))) room tokens.now (λ p. (p.0, p.1.now)) result }
+    ensures { (room : ℕ)
+        → Answers (λ _. g.MoreOf (g.Alone g.Element) g.Element)
+        (among (reads_as (g.kernel (g.mark m.Plus)))
+        (among (reads_as (g.kernel g.name)) (reads_as (g.kernel (g.mark m.Set))))) room tokens.now
+        (λ p. (p.0, p.1.now)) result }
 {
     let (mut list, mut rest) = added(Items::new(alloc), element(alloc, tokens))?;
     'each: while begins_element(rest) {
@@ -84,7 +99,8 @@ pub(crate) fn elements<'a>(
     alloc: Global,
     tokens: &'a [Token],
 ) -> Result<(Items<QueryElement>, &'a [Token]), Stop>
-    ensures { (room : ℕ) → Answers (λ _. g.Elements) never room tokens.now (λ p. (p.0, p.1.now)) result }
+    ensures { (room : ℕ)
+        → Answers (λ _. g.Elements) never room tokens.now (λ p. (p.0, p.1.now)) result }
 {
     let rest = expect(tokens, Mark::Pattern)?;
     let rest = expect(rest, Mark::LeftRound)?;

@@ -31,7 +31,8 @@ fn compare(tokens: &[Token]) -> Result<(Node, &[Token]), Stop>
 
 // sum compare sum
 fn test<'a>(alloc: Global, tokens: &'a [Token], room: usize) -> Result<(Tree, &'a [Token]), Stop>
-    ensures { Answers (λ n. g.TestOf (g.Sum n)) after_sum room tokens.now (λ p. (p.0, p.1.now)) result }
+    ensures { Answers (λ n. g.TestOf (g.Sum n)) after_sum room tokens.now
+        (λ p. (p.0, p.1.now)) result }
 {
     let (first, rest) = sum(alloc, tokens, room)?;
     let (node, rest) = compare(rest)?;
@@ -61,7 +62,8 @@ fn atom<'a>(alloc: Global, tokens: &'a [Token], room: usize) -> Result<(Tree, &'
 // NOT atom
 #[cycle(atom)]
 fn denied<'a>(alloc: Global, tokens: &'a [Token], room: usize) -> Result<(Tree, &'a [Token]), Stop>
-    ensures { Answers (λ n. g.Applied Mark.Not Node.Not (g.Atom n)) after_sum room tokens.now (λ p. (p.0, p.1.now)) result }
+    ensures { Answers (λ n. g.Applied Mark.Not Node.Not (g.Atom n)) after_sum room tokens.now
+        (λ p. (p.0, p.1.now)) result }
 {
     let rest = expect(tokens, Mark::Not)?;
     let (part, rest) = atom(alloc, rest, room)?;
@@ -72,7 +74,9 @@ fn denied<'a>(alloc: Global, tokens: &'a [Token], room: usize) -> Result<(Tree, 
 // "[" pred "]"
 #[cycle(atom)]
 fn squared<'a>(alloc: Global, tokens: &'a [Token], room: usize) -> Result<(Tree, &'a [Token]), Stop>
-    ensures { Answers (λ n. g.Between Mark.LeftSquare (g.Pred n) Mark.RightSquare) never room tokens.now (λ p. (p.0, p.1.now)) result }
+    ensures { Answers
+        (λ n. g.Between Mark.LeftSquare (g.Pred n) Mark.RightSquare) never room tokens.now
+        (λ p. (p.0, p.1.now)) result }
 {
     let rest = expect(tokens, Mark::LeftSquare)?;
     closed(pred(alloc, rest, room), Mark::RightSquare)
@@ -103,7 +107,8 @@ fn one_holds(tokens: &[Token]) -> Option<(Node, &[Token])>
 // atom { AND atom }
 #[cycle(atom)]
 fn conj<'a>(alloc: Global, tokens: &'a [Token], room: usize) -> Result<(Tree, &'a [Token]), Stop>
-    ensures { Answers (λ n. g.ConjOf (g.Atom n)) after_conj room tokens.now (λ p. (p.0, p.1.now)) result }
+    ensures { Answers (λ n. g.ConjOf (g.Atom n)) after_conj room tokens.now
+        (λ p. (p.0, p.1.now)) result }
 {
     let (mut tree, mut rest) = atom(alloc, tokens, room)?;
     while let Some((node, behind)) = both_hold(rest) {

@@ -26,7 +26,10 @@ const MOST_LEVELS: usize = 64;
 
 // [ TIME name ]
 fn time<'a>(alloc: Global, tokens: &'a [Token]) -> Result<(Option<Ident>, &'a [Token]), Stop>
-    ensures { (room : ℕ) → Answers (λ _. Optional g.Timed) (among (reads_as (g.kernel (g.mark m.Time))) never) room tokens.now (λ p. (p.0, p.1.now)) result }
+    ensures { (room : ℕ)
+        → Answers (λ _. Optional g.Timed)
+        (among (reads_as (g.kernel (g.mark m.Time))) never) room tokens.now
+        (λ p. (p.0, p.1.now)) result }
 {
     if !begins(tokens, Mark::Time) {
         return Ok((None, tokens));
@@ -41,7 +44,9 @@ fn defines<'a>(
     tokens: &'a [Token],
     room: usize,
 ) -> Result<(Option<Items<(Ident, Tree)>>, &'a [Token]), Stop>
-    ensures { Answers (λ n. Optional (g.Definitions n)) (among (reads_as (g.kernel (g.mark m.Define))) after_definitions) room tokens.now (λ p. (p.0, p.1.now)) result }
+    ensures { Answers (λ n. Optional (g.Definitions n))
+        (among (reads_as (g.kernel (g.mark m.Define))) after_definitions) room tokens.now
+        (λ p. (p.0, p.1.now)) result }
 {
     if !begins(tokens, Mark::Define) {
         return Ok((None, tokens));
@@ -75,7 +80,8 @@ fn from_within<'a>(
     tokens: &'a [Token],
     room: usize,
 ) -> Result<(Ending, &'a [Token]), Stop>
-    ensures { Answers clauses.Ending never room tokens.now (λ p. ((p.0.length, (p.0.opening, (p.0.select, p.0.consume))), p.1.now)) result }
+    ensures { Answers clauses.Ending never room tokens.now
+        (λ p. ((p.0.length, (p.0.opening, (p.0.select, p.0.consume))), p.1.now)) result }
 {
     let (length, rest) = within(alloc, tokens)?;
     let (opening, rest) = opening(alloc, rest, room)?;
@@ -104,7 +110,17 @@ fn from_pattern<'a>(
     tokens: &'a [Token],
     room: usize,
 ) -> Result<(Body, &'a [Token]), Stop>
-    ensures { Answers clauses.Body never room tokens.now (λ p. ((p.0.elements, (p.0.defines, (p.0.ending.length, (p.0.ending.opening, (p.0.ending.select, p.0.ending.consume))))), p.1.now)) result }
+    ensures { Answers clauses.Body never room tokens.now
+        (λ p. (
+          (
+            p.0.elements,
+            (
+              p.0.defines,
+              (p.0.ending.length, (p.0.ending.opening, (p.0.ending.select, p.0.ending.consume))),
+            ),
+          ),
+          p.1.now,
+        )) result }
 {
     let (elements, rest) = elements(alloc, tokens)?;
     let (defines, rest) = defines(alloc, rest, room)?;
@@ -155,7 +171,9 @@ fn ended<'a, T: Drop>(read: Result<(T, &'a [Token]), Stop>) -> Result<T, Stop>
 // The query that the tokens are.
 pub(crate) fn parse_tokens(alloc: Global, tokens: &[Token]) -> Result<Query, Stop>
     ensures found { IfOk result (λ query. g.Derives 64 tokens.now query) }
-    ensures only { IfOk result (λ answer. (levels : ℕ) (query : Query) → g.Derives levels tokens.now query → query ≡ answer) }
+    ensures only { IfOk result
+        (λ answer. (levels : ℕ) (query : Query) → g.Derives levels tokens.now query
+        → query ≡ answer) }
     ensures all { (query : Query) → g.Derives 64 tokens.now query → IsFrom query result }
     ensures halts { IfErr result (λ stop. Halts tokens.now stop) }
 {

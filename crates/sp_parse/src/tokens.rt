@@ -101,7 +101,8 @@ pub(crate) fn span_of(tokens: &[Token], rest: &[Token]) -> Span
 
 // The rest behind a mark, if it is first.
 pub(crate) fn behind<'a>(tokens: &'a [Token], mark: Mark) -> Option<&'a [Token]>
-    ensures { MatchOption result (head_as (g.kernel (g.mark mark)) tokens.now ≡ None) (λ rest. (t : Token) × (tokens.now ≡ t ∷ rest.now) × (g.mark mark t.kernel ≡ Some tt)) }
+    ensures { MatchOption result (head_as (g.kernel (g.mark mark)) tokens.now ≡ None)
+        (λ rest. (t : Token) × (tokens.now ≡ t ∷ rest.now) × (g.mark mark t.kernel ≡ Some tt)) }
 {
     let (first, rest) = tokens.split_first()?;
     if is_mark(&first.kernel, mark) {

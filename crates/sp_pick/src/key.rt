@@ -27,7 +27,8 @@ pub(crate) fn keys_of<V>(
     ids: &[u64],
 ) -> Result<Vec<Key>, Memory>
     requires { All (λ id. IsSome (entry_at kin tree.now.entries id)) ids.now }
-    ensures keys { IfOk result (λ keys. keys.items ≡ map (key_in (share_of chances.now) tree.now.entries) ids.now) }
+    ensures keys { IfOk result
+        (λ keys. keys.items ≡ map (key_in (share_of chances.now) tree.now.entries) ids.now) }
     ensures most { IfOk result (λ keys. All (λ key. key.survival ≤ 65536) keys.items) }
 {
     let mut keys = Vec::with_capacity(alloc, ids.len())?;

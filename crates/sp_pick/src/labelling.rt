@@ -23,8 +23,11 @@ pub fn next_label<V>(
     chances: &Chances,
 ) -> Result<Option<Label>, Memory>
     requires { IsSome (entry_at kin tree.now.entries parent) }
-    ensures next { IfOk result (IsNext tree.now.entries parent (candidates_in (share_of chances.now) tree.now.entries parent)) }
-    ensures open { IfOk result (λ next. IfSome next (λ label. All (λ run. is_open tree.now parent run ≡ true) label)) }
+    ensures next { IfOk result
+        (IsNext tree.now.entries parent
+        (candidates_in (share_of chances.now) tree.now.entries parent)) }
+    ensures open { IfOk result
+        (λ next. IfSome next (λ label. All (λ run. is_open tree.now parent run ≡ true) label)) }
 {
     let groups = open_groups(tree, parent);
     let mut label = best_label(alloc, chances, parent, groups)?;
@@ -88,7 +91,8 @@ fn best_label(
 
 // Whether no child of the parent has the label.
 fn is_free<V>(tree: &Tree<V>, parent: u64, label: &Label) -> bool
-    ensures { MatchBool result (LacksChild tree.now.entries parent label.now) (IsTaken tree.now.entries parent label.now) }
+    ensures { MatchBool result (LacksChild tree.now.entries parent label.now)
+        (IsTaken tree.now.entries parent label.now) }
 {
     tree.child(parent, label).is_none()
 }

@@ -21,7 +21,8 @@ pub fn pick<V>(
     k: u32,
 ) -> Result<Vec<u64>, Memory>
     requires { All (λ id. IsSome (entry_at kin tree.now.entries id)) ready.now }
-    ensures picked { IfOk result (λ ids. IsPicked (share_of chances.now) tree.now.entries ready.now k ids.items) }
+    ensures picked { IfOk result
+        (λ ids. IsPicked (share_of chances.now) tree.now.entries ready.now k ids.items) }
     ensures root { IfOk result (λ ids. RootIsFirst tree.now.entries ready.now k ids.items) }
 {
     tree.live();

@@ -94,7 +94,8 @@ fn passed_down<V>(tree: &Tree<V>, chances: &Chances, id: u64, steps: usize, shar
     requires live { IsSome (entry_at kin tree.now.entries id) }
     requires kept { steps ≤ 64 }
     requires within { steps ≤ depth_in tree.now.entries id }
-    requires share { let es = tree.now.entries in share ≡ survival_in (share_of chances.now) es (climbed es steps id) }
+    requires share { let es = tree.now.entries in share
+        ≡ survival_in (share_of chances.now) es (climbed es steps id) }
     ensures { result ≡ survival_in (share_of chances.now) tree.now.entries id }
 {
     tree.live();
@@ -111,7 +112,8 @@ fn passed_down<V>(tree: &Tree<V>, chances: &Chances, id: u64, steps: usize, shar
 // The share of a child, from that of its parent.
 fn child_share<V>(tree: &Tree<V>, chances: &Chances, id: u64, share: Share) -> Share
     requires child { IsSome (parent_of (entry_at kin tree.now.entries id)) }
-    requires share { let es = tree.now.entries in share ≡ survival_in (share_of chances.now) es (above es id) }
+    requires share { let es = tree.now.entries in share
+        ≡ survival_in (share_of chances.now) es (above es id) }
     ensures { result ≡ survival_in (share_of chances.now) tree.now.entries id }
 {
     tree.live();

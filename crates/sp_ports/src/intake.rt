@@ -47,7 +47,8 @@ pub trait Intake: Send + Drop {
     fn next(&mut self, alloc: Global) -> Next
         ensures plan { plan self.new ≡ plan self.old }
         ensures token { token self.new ≡ token self.old }
-        ensures given { (from : Self) (events : List event.Event) → gave from events self.old → gave from (events ++ given_by result) self.new }
+        ensures given { (from : Self) (events : List event.Event) → gave from events self.old
+            → gave from (events ++ given_by result) self.new }
         ensures end { result ≡ Next.End → ended self.new ≡ true }
         ensures stop { result ≡ Next.Stop → Rose (stops self.old) (stops self.new) }
         ensures never_falls { stops self.old ≤ stops self.new }

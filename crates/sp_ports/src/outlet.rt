@@ -33,9 +33,14 @@ pub trait Outlet: Send + Drop {
     fn put(&mut self, alloc: Global, found: &Match) -> Result<(), OutFault>
         ensures plan { plan self.new ≡ plan self.old }
         ensures token { token self.new ≡ token self.old }
-        ensures ok { OnOk result (Took (plan self.old) (found.now ∷ []) (state self.old) (state self.new)) }
-        ensures front { OnErr result (GrewWithin (state self.old).held (line (plan self.old) found.now) (state self.new).held) }
+        ensures ok { OnOk result
+            (Took (plan self.old) (found.now ∷ []) (state self.old) (state self.new)) }
+        ensures front { OnErr result
+            (GrewWithin (state self.old).held (line (plan self.old) found.now)
+            (state self.new).held) }
         ensures uncounted { OnErr result ((state self.new).taken ≡ (state self.old).taken) }
-        ensures failed { result ≡ Err OutFault.Failed → Rose (state self.old).faults (state self.new).faults }
-        ensures not_failed { result ≢ Err OutFault.Failed → (state self.new).faults ≡ (state self.old).faults };
+        ensures failed { result ≡ Err OutFault.Failed
+            → Rose (state self.old).faults (state self.new).faults }
+        ensures not_failed { result ≢ Err OutFault.Failed
+            → (state self.new).faults ≡ (state self.old).faults };
 }

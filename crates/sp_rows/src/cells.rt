@@ -58,7 +58,9 @@ fn read_row(row: &[u8], room: &mut Record) -> Result<Cells, Memory>
 // The bytes of a row that are cut at its commas, where that gives what the crate csv reads, and the
 // places of its cells. If not, or where memory is wanted, any places may come.
 fn cut_row<'a>(row: &'a [u8], nexts: &mut Vec<usize>) -> Result<Option<&'a [u8]>, Memory>
-    ensures { IfOk result (λ cut. IfSome cut (λ rest. rows.one (pieces rest.now 0 nexts.new.items) ≡ rows.row_cells row.now)) }
+    ensures { IfOk result
+        (λ cut. IfSome cut
+        (λ rest. rows.one (pieces rest.now 0 nexts.new.items) ≡ rows.row_cells row.now)) }
 {
     let rest = without_marks(row);
     if find_cells(rest, nexts)? {

@@ -49,7 +49,8 @@ fn column_at(plan: &Plan, places: &[usize], number: usize) -> Option<Placed>
 
 /// The column of the time, if the plan has one.
 pub(crate) fn time_column(plan: &Plan, places: &[usize]) -> Option<Placed>
-    ensures { option_map column_of result ≡ find (λ column. column.is_time) (columns_at plan.now places.now) }
+    ensures { option_map column_of result
+        ≡ find (λ column. column.is_time) (columns_at plan.now places.now) }
 {
     match plan.schema.time {
         None => None,
@@ -63,7 +64,8 @@ pub(crate) fn place_columns(
     plan: &Plan,
     places: &[usize],
 ) -> Result<Vec<Placed>, Memory>
-    ensures { IfOk result (λ columns. map column_of columns.items ≡ columns_at plan.now places.now) }
+    ensures { IfOk result
+        (λ columns. map column_of columns.items ≡ columns_at plan.now places.now) }
 {
     let mut columns = Vec::with_capacity(alloc, places.len())?;
     for number in 0..places.len() {

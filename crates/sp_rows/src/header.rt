@@ -22,7 +22,8 @@ pub(crate) enum Header {
 // Whether the cell at this place has the name, but for blanks and tabs round it.
 fn is_named(cells: &Fields<'_>, place: usize, name: &[u8]) -> bool
     requires { place < length (fields_in cells.now) }
-    ensures { result ≡ bytes_eq (trimmed_cell (slice_index_or (fields_in cells.now) place [])) name.now }
+    ensures { result
+        ≡ bytes_eq (trimmed_cell (slice_index_or (fields_in cells.now) place [])) name.now }
 {
     match cells.get(place) {
         Some(cell) => trimmed(cell) == name,

@@ -86,7 +86,8 @@ fn leading(digits: &[u8]) -> (u64, usize)
     ensures small { result.0 ≤ 1000000000000001 }
     ensures within { result.1 ≤ length digits.now }
     ensures digits { list_all Numbers.is_digit (take result.1 digits.now) ≡ true }
-    ensures ends { result.1 < length digits.now → Numbers.is_digit (slice_index_or digits.now result.1 0) ≡ false }
+    ensures ends { result.1 < length digits.now
+        → Numbers.is_digit (slice_index_or digits.now result.1 0) ≡ false }
 {
     let mut value = 0u64;
     for (count, digit) in digits.iter().enumerate() {
@@ -139,7 +140,8 @@ fn within_bound(value: u64) -> Option<u64>
 // The units of a number with decimals, whose digits before the point write this number.
 fn decimal_units(scale: u8, whole: u64, decimals: &[u8]) -> Option<u64>
     requires { whole ≤ 1000000000000001 }
-    ensures units { (digits : List ℕ) → Numbers.are_digits digits ≡ true → whole ≡ with_more 0 digits
+    ensures units { (digits : List ℕ) → Numbers.are_digits digits ≡ true
+        → whole ≡ with_more 0 digits
         → result ≡ Numbers.units_of scale (digits ∷ decimals.now ∷ []) }
     ensures below { ForSome result (λ n. n ≤ 1000000000000000) }
 {

@@ -68,7 +68,9 @@ impl Progress {
     // The fault of a row whose time is below the last one.
     fn back_in_time(&self, time: i64, column: &Option<Placed>) -> RowError
         requires { self.now.read + 1 < 2 ^ 32 }
-        ensures { ErrorIs (spec.refused_at (reading None self.now) (RowKind.BackInTime self.now.last time) (spec.place_or_none (option_map column_of column.now))) result }
+        ensures { ErrorIs
+            (spec.refused_at (reading None self.now) (RowKind.BackInTime self.now.last time)
+            (spec.place_or_none (option_map column_of column.now))) result }
     {
         let kind = RowKind::BackInTime {
             was: self.last,
@@ -89,9 +91,16 @@ impl Progress {
         event: &mut Option<Event>,
     ) -> Result<(), RowError>
         requires { self.old.read + 1 < 2 ^ 32 }
-        ensures event { OnOk result (Gave (spec.event_row layout.now.plan.now (reading (Some layout.now.places.now) self.old) (fields_in cells.now) layout.now.places.now) (reading (Some layout.now.places.now) self.new) event.new) }
+        ensures event { OnOk result
+            (Gave
+            (spec.event_row layout.now.plan.now (reading (Some layout.now.places.now) self.old)
+            (fields_in cells.now) layout.now.places.now)
+            (reading (Some layout.now.places.now) self.new) event.new) }
         ensures read { OnOk result (self.new.read ≡ self.old.read + 1) }
-        ensures error { IfErr result (λ e. ErrorIs (spec.event_row layout.now.plan.now (reading (Some layout.now.places.now) self.old) (fields_in cells.now) layout.now.places.now) e) }
+        ensures error { IfErr result
+            (λ e. ErrorIs
+            (spec.event_row layout.now.plan.now (reading (Some layout.now.places.now) self.old)
+            (fields_in cells.now) layout.now.places.now) e) }
         ensures err { OnErr result (self.new ≡ self.old) }
     {
         let known = self.texts.len();
@@ -111,9 +120,16 @@ impl Progress {
         event: &mut Option<Event>,
     ) -> Result<(), RowError>
         requires { self.old.read + 1 < 2 ^ 32 }
-        ensures event { OnOk result (Gave (spec.event_row layout.now.plan.now (reading (Some layout.now.places.now) self.old) (fields_in cells.now) layout.now.places.now) (reading (Some layout.now.places.now) self.new) event.new) }
+        ensures event { OnOk result
+            (Gave
+            (spec.event_row layout.now.plan.now (reading (Some layout.now.places.now) self.old)
+            (fields_in cells.now) layout.now.places.now)
+            (reading (Some layout.now.places.now) self.new) event.new) }
         ensures read { OnOk result (self.new.read ≡ self.old.read + 1) }
-        ensures error { IfErr result (λ e. ErrorIs (spec.event_row layout.now.plan.now (reading (Some layout.now.places.now) self.old) (fields_in cells.now) layout.now.places.now) e) }
+        ensures error { IfErr result
+            (λ e. ErrorIs
+            (spec.event_row layout.now.plan.now (reading (Some layout.now.places.now) self.old)
+            (fields_in cells.now) layout.now.places.now) e) }
         ensures same { OnErr result (self.new.read ≡ self.old.read) }
         ensures last { OnErr result (self.new.last ≡ self.old.last) }
         ensures kept { take (length self.old.texts) self.new.texts ≡ self.old.texts }

@@ -194,7 +194,8 @@ impl Record {
 
     // One byte more of the cell at hand.
     fn keep(&mut self, byte: u8) -> Result<(), Memory>
-        ensures { OnOk result (self.new ≡ record { cells = self.old.cells; cell = self.old.cell ++ byte ∷ [] }) }
+        ensures { OnOk result
+            (self.new ≡ record { cells = self.old.cells; cell = self.old.cell ++ byte ∷ [] }) }
     {
         self.bytes.push(byte)?;
         Ok(())
@@ -202,7 +203,8 @@ impl Record {
 
     // The cell at hand is the last one.
     fn end_cell(&mut self) -> Result<(), Memory>
-        ensures { OnOk result (self.new ≡ record { cells = self.old.cells ++ self.old.cell ∷ []; cell = [] }) }
+        ensures { OnOk result
+            (self.new ≡ record { cells = self.old.cells ++ self.old.cell ∷ []; cell = [] }) }
     {
         self.bytes.push(b',')?;
         let behind = self.bytes.len();
@@ -213,8 +215,10 @@ impl Record {
 
     // Does with a byte what it does.
     fn take(&mut self, act: Act, byte: u8) -> Result<(), Memory>
-        ensures cells { OnOk result (self.new.cells ≡ fields_after (action_of act) self.old.cells self.old.cell) }
-        ensures cell { OnOk result (self.new.cell ≡ field_after (action_of act) byte self.old.cell) }
+        ensures cells { OnOk result
+            (self.new.cells ≡ fields_after (action_of act) self.old.cells self.old.cell) }
+        ensures cell { OnOk result
+            (self.new.cell ≡ field_after (action_of act) byte self.old.cell) }
     {
         match act {
             Act::Skip => Ok(()),
@@ -225,7 +229,9 @@ impl Record {
 
     // Reads the first record of bytes: where the reading then stands, and behind how many of the bytes.
     fn read(&mut self, bytes: &[u8]) -> Result<Option<(At, usize)>, Memory>
-        ensures read { IfOk result (λ end. next_record default_config st.StartRecord [] [] bytes.now ≡ read_to bytes.now self.new.cells end) }
+        ensures read { IfOk result
+            (λ end. next_record default_config st.StartRecord [] [] bytes.now
+            ≡ read_to bytes.now self.new.cells end) }
         ensures within { IfOk result (λ end. IfSome end (λ e. e.1 ≤ length bytes.now)) }
     {
         self.clear();

@@ -52,7 +52,8 @@ impl Reading {
     pub(crate) fn pass(&mut self)
         requires { (read_in self.old).read < 2097153 }
         ensures plan { plan_in self.new ≡ plan_in self.old }
-        ensures read { read_in self.new ≡ record (read_in self.old) { read = (read_in self.old).read + 1 } }
+        ensures read { read_in self.new
+            ≡ record (read_in self.old) { read = (read_in self.old).read + 1 } }
     {
         self.progress.read += 1;
     }
@@ -74,8 +75,12 @@ impl Reading {
     ) -> Result<(), RowError>
         requires { (read_in self.old).read < 2097153 }
         ensures plan { plan_in self.new ≡ plan_in self.old }
-        ensures read { (read_in self.new).read ≡ (read_in self.old).read + (if is_ok result then 1 else 0) }
-        ensures answers { Answers (spec.row_of_cells (plan_in self.old) (read_in self.old) (fields_in cells.now) (read_in self.old).places) (read_in self.old) (read_in self.new) (given_as result event.new) }
+        ensures read { (read_in self.new).read
+            ≡ (read_in self.old).read + (if is_ok result then 1 else 0) }
+        ensures answers { Answers
+            (spec.row_of_cells (plan_in self.old) (read_in self.old) (fields_in cells.now)
+            (read_in self.old).places) (read_in self.old) (read_in self.new)
+            (given_as result event.new) }
     {
         if let Some(places) = &self.places {
             let layout = Layout {
@@ -93,8 +98,11 @@ impl Reading {
     fn header(&mut self, alloc: Global, cells: &Fields<'_>) -> Result<(), RowError>
         requires { (read_in self.old).read < 2097153 }
         ensures plan { plan_in self.new ≡ plan_in self.old }
-        ensures read { (read_in self.new).read ≡ (read_in self.old).read + (if is_ok result then 1 else 0) }
-        ensures answers { Answers (spec.header_row (plan_in self.old) (read_in self.old) (fields_in cells.now)) (read_in self.old) (read_in self.new) (given_as result None) }
+        ensures read { (read_in self.new).read
+            ≡ (read_in self.old).read + (if is_ok result then 1 else 0) }
+        ensures answers { Answers
+            (spec.header_row (plan_in self.old) (read_in self.old) (fields_in cells.now))
+            (read_in self.old) (read_in self.new) (given_as result None) }
     {
         match read_header(alloc, cells, self.plan.schema.columns.as_slice()) {
             Err(_) => Err(RowError::Memory),

@@ -41,8 +41,10 @@ impl Rows {
     pub fn row(&mut self, alloc: Global, row: &[u8]) -> Result<Option<Event>, RowError>
         requires { (read_of self.old).read < 2097153 }
         ensures plan { plan_of self.new ≡ plan_of self.old }
-        ensures read { (read_of self.new).read ≡ (read_of self.old).read + (if is_ok result then 1 else 0) }
-        ensures answers { Answers (spec.row_result (plan_of self.old) (read_of self.old) row.now) (read_of self.old) (read_of self.new) result }
+        ensures read { (read_of self.new).read
+            ≡ (read_of self.old).read + (if is_ok result then 1 else 0) }
+        ensures answers { Answers (spec.row_result (plan_of self.old) (read_of self.old) row.now)
+            (read_of self.old) (read_of self.new) result }
     {
         let mut event = None;
         match self.row_into(alloc, row, &mut event) {
@@ -61,8 +63,10 @@ impl Rows {
     ) -> Result<(), RowError>
         requires { (read_of self.old).read < 2097153 }
         ensures plan { plan_of self.new ≡ plan_of self.old }
-        ensures read { (read_of self.new).read ≡ (read_of self.old).read + (if is_ok result then 1 else 0) }
-        ensures answers { Answers (spec.row_result (plan_of self.old) (read_of self.old) row.now) (read_of self.old) (read_of self.new) (given_as result event.new) }
+        ensures read { (read_of self.new).read
+            ≡ (read_of self.old).read + (if is_ok result then 1 else 0) }
+        ensures answers { Answers (spec.row_result (plan_of self.old) (read_of self.old) row.now)
+            (read_of self.old) (read_of self.new) (given_as result event.new) }
     {
         match read_cells(row, &mut self.nexts, &mut self.record) {
             Err(_) => Err(RowError::Memory),

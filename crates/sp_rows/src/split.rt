@@ -24,7 +24,9 @@ fn is_break(byte: u8) -> bool
 // Notes the place behind a comma. No quote and no byte of a line's end may come.
 fn take_byte(byte: u8, place: usize, nexts: &mut Vec<usize>) -> Result<bool, Memory>
     requires { place + 1 < 2 ^ 64 }
-    ensures commas { OnOk result (nexts.new.items ≡ (if byte == 44 then nexts.old.items ++ (place + 1) ∷ [] else nexts.old.items)) }
+    ensures commas { OnOk result
+        (nexts.new.items
+        ≡ (if byte == 44 then nexts.old.items ++ (place + 1) ∷ [] else nexts.old.items)) }
     ensures other { IfOk result (λ may. may ≡ true → plain.is_break byte ≡ false) }
 {
     if byte > b',' {
@@ -40,7 +42,8 @@ fn take_byte(byte: u8, place: usize, nexts: &mut Vec<usize>) -> Result<bool, Mem
 /// Finds the cells of a row, if it may be cut at its commas: it has bytes, and none is a quote or one of
 /// a line's end. If not, or where memory is wanted, any places may come.
 pub(crate) fn find_cells(row: &[u8], nexts: &mut Vec<usize>) -> Result<bool, Memory>
-    ensures places { IfOk result (λ found. found ≡ true → nexts.new.items ≡ plain.nexts_from 0 row.now) }
+    ensures places { IfOk result
+        (λ found. found ≡ true → nexts.new.items ≡ plain.nexts_from 0 row.now) }
     ensures some { IfOk result (λ found. found ≡ true → row.now ≢ []) }
     ensures none { IfOk result (λ found. found ≡ true → plain.HasNoBreak row.now) }
 {
@@ -84,7 +87,8 @@ fn start_at(nexts: &[usize], place: usize) -> usize
 
 // The cell of a row that was cut at this place from 0.
 fn piece_at<'a>(row: &'a [u8], nexts: &[usize], place: usize) -> Option<&'a [u8]>
-    ensures { option_map (λ cell. cell.now) result ≡ slice_get (plain.pieces row.now 0 nexts.now) place }
+    ensures { option_map (λ cell. cell.now) result
+        ≡ slice_get (plain.pieces row.now 0 nexts.now) place }
 {
     match nexts.get(place) {
         None => None,

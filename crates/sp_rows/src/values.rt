@@ -28,7 +28,9 @@ fn push_content(
     texts: &mut Texts,
     content: Content<'_>,
 ) -> Result<Option<RowKind>, Memory>
-    ensures value { OnOk result ((values.new, texts.new) ≡ spec.with_cell (values.old, texts.old) (cell_shape content.entry)) }
+    ensures value { OnOk result
+        ((values.new, texts.new)
+        ≡ spec.with_cell (values.old, texts.old) (cell_shape content.entry)) }
     ensures fault { IfOk result (λ fault. fault ≡ fault_of (cell_shape content.entry)) }
     ensures kept { take (length texts.old) texts.new ≡ texts.old }
 {
@@ -53,8 +55,16 @@ pub(crate) fn read_values(
     values: &mut Values,
 ) -> Result<Given, Memory>
     requires { values.old ≡ [] }
-    ensures given { IfOk result (λ given. GivenIs (spec.values_of texts.old (fields_in cells.now) (spec.columns_at layout.now.plan.now layout.now.places.now)) (spec.first_fault (fields_in cells.now) (spec.columns_at layout.now.plan.now layout.now.places.now)) values.new texts.new given) }
-    ensures time { IfOk result (λ given. TimeIs layout.now.plan.now.schema.time (spec.time_of (fields_in cells.now) (spec.columns_at layout.now.plan.now layout.now.places.now)) values.new given) }
+    ensures given { IfOk result
+        (λ given. GivenIs
+        (spec.values_of texts.old (fields_in cells.now)
+        (spec.columns_at layout.now.plan.now layout.now.places.now))
+        (spec.first_fault (fields_in cells.now)
+        (spec.columns_at layout.now.plan.now layout.now.places.now)) values.new texts.new given) }
+    ensures time { IfOk result
+        (λ given. TimeIs layout.now.plan.now.schema.time
+        (spec.time_of (fields_in cells.now)
+        (spec.columns_at layout.now.plan.now layout.now.places.now)) values.new given) }
     ensures kept { take (length texts.old) texts.new ≡ texts.old }
 {
     for column in layout.columns {

@@ -9,7 +9,8 @@ use std::alloc::Global;
 
 // The numbers that a text joins by commas, each from 1 and of 32 bits; None exactly where it is none such.
 fn runs_of(alloc: Global, text: &[u8]) -> Result<Option<Vec<u32>>, Memory>
-    ensures { IfOk result (λ runs. Answers (AreCommaText text.now) (option_map (λ v. v.items) runs)) }
+    ensures { IfOk result
+        (λ runs. Answers (AreCommaText text.now) (option_map (λ v. v.items) runs)) }
 {
     let mut runs = Vec::new(alloc);
     for part in text.split(|b| *b == b',') {

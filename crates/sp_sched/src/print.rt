@@ -22,7 +22,9 @@ fn push_number(out: &mut String, number: u32) -> Result<(), Memory>
 
 // Adds numbers, each after a comma.
 fn push_more(out: &mut String, numbers: &[u32]) -> Result<(), Memory>
-    ensures { OnOk result (string_bytes out.new ≡ string_bytes out.old ++ flat_map (λ n. codes "," ++ decimal n) numbers.now) }
+    ensures { OnOk result
+        (string_bytes out.new
+        ≡ string_bytes out.old ++ flat_map (λ n. codes "," ++ decimal n) numbers.now) }
 {
     for number in numbers {
         out.push_str(",")?;

@@ -21,7 +21,8 @@ fn without_cr(part: &[u8]) -> &[u8]
 
 // The first line that a line feed ends, and what stands behind it; None where the text is one line.
 fn first_line(text: &[u8]) -> Option<(&[u8], &[u8])>
-    ensures { MatchOption result (lines text.now ≡ text.now ∷ []) (λ p. IsFirstLine text.now p.0.now p.1.now) }
+    ensures { MatchOption result (lines text.now ≡ text.now ∷ [])
+        (λ p. IsFirstLine text.now p.0.now p.1.now) }
 {
     let Some((part, rest)) = cut(text, b'\n') else {
         return None;

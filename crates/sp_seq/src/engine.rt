@@ -86,7 +86,8 @@ fn match_windows(
     requires stands { Stands windows.now events.now windows.now.ended }
     requires few { length events.now ≤ 1048576 }
     requires fit { AllFit (arc_value plan) events.now }
-    ensures { IfOk result (λ matches. matches.items ≡ (whole (arc_value plan) events.now windows.now.ended).matches) }
+    ensures { IfOk result
+        (λ matches. matches.items ≡ (whole (arc_value plan) events.now windows.now.ended).matches) }
 {
     let mut matcher = Matcher::new(alloc, plan.clone()?)?;
     let mut moves = Vec::new(alloc);
@@ -129,7 +130,8 @@ pub fn plain(
     requires few { length events.now ≤ 1048576 }
     requires fit { AllFit (arc_value plan) events.now }
     requires ordered { NeverGoesBack events.now }
-    ensures { IfOk result (λ matches. matches.items ≡ (whole (arc_value plan) events.now ended).matches) }
+    ensures { IfOk result
+        (λ matches. matches.items ≡ (whole (arc_value plan) events.now ended).matches) }
 {
     let windows = windows_of(alloc, plan.clone()?, events, ended)?;
     match_windows(alloc, plan, &windows, events)

@@ -38,7 +38,11 @@ pub(crate) fn add_matches(
     moves: &mut [Move],
     matches: &mut Vec<Match>,
 ) -> Result<(), Memory>
-    ensures { OnOk result (matches.new.items ≡ matches.old.items ++ matches_told window (length matches.old.items + 1) (filter is_completion (map seen moves.old))) }
+    ensures { OnOk result
+        (matches.new.items
+        ≡ matches.old.items
+        ++ matches_told window (length matches.old.items + 1)
+        (filter is_completion (map seen moves.old))) }
 {
     for at in 0..moves.len() {
         if completes(&moves[at]) {

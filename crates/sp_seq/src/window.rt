@@ -24,7 +24,8 @@ pub(crate) struct Window {
 
 // Marks these numbers as consumed. The flag of number n stands at place n - 1.
 fn mark(consumed: &mut [bool], numbers: &[u32])
-    ensures { (before : List ℕ) → IsMarked before consumed.old → IsMarked (before ++ numbers.now) consumed.new }
+    ensures { (before : List ℕ) → IsMarked before consumed.old
+        → IsMarked (before ++ numbers.now) consumed.new }
 {
     for number in numbers {
         let at = *number as usize;
@@ -36,7 +37,8 @@ fn mark(consumed: &mut [bool], numbers: &[u32])
 
 // Marks what these matches use.
 pub(crate) fn consume(consumed: &mut [bool], matches: &[Match])
-    ensures { (before : List ℕ) → IsMarked before consumed.old → IsMarked (before ++ flat_map (λ one. one.used) matches.now) consumed.new }
+    ensures { (before : List ℕ) → IsMarked before consumed.old
+        → IsMarked (before ++ flat_map (λ one. one.used) matches.now) consumed.new }
 {
     for one in matches {
         mark(consumed, one.used.list());
@@ -72,7 +74,9 @@ pub(crate) fn match_window(
     ensures plan { matcher.new.plan ≡ matcher.old.plan }
     ensures more { OnOk result (length matches.old.items ≤ length matches.new.items) }
     ensures matches { OnOk result ((before : List ℕ) → IsMarked before seats.now.consumed.now
-        → matches.new.items ≡ with_matches matcher.old.plan window.number matches.old.items (state matcher.old.plan (unconsumed before seats.now.events.now window.first window.end))) }
+        → matches.new.items ≡ with_matches matcher.old.plan window.number matches.old.items
+        (state matcher.old.plan
+        (unconsumed before seats.now.events.now window.first window.end))) }
 {
     completions_are_matches();
     runs_are_sound();

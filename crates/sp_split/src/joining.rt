@@ -85,7 +85,8 @@ fn beside<L: Naming + Send + Sync, I: Intake, O: Outlet, G: Gate, R: Threads + W
         },
         || -> (Served<L>, Ways<I, O>)
             requires { MayServe desk.splitter.core desk.splitter.instances desk.splitter.batch
-                desk.splitter.kept.items desk.by desk.seat (I.plan ways.intake) (O.plan ways.outlet) }
+                desk.splitter.kept.items desk.by desk.seat
+                (I.plan ways.intake) (O.plan ways.outlet) }
             ensures served { Serves (λ events. I.gave ways.intake events result.1.intake)
                 (I.ended result.1.intake) (Rose (I.stops ways.intake) (I.stops result.1.intake))
                 desk.splitter.instances desk.splitter.core (O.state ways.outlet)

@@ -60,14 +60,16 @@ fn turn_once<L: Naming, O: Outlet, R: Wait>(
         (O.state outlet.new))) }
     ensures failed { result ≡ Err o.Failed
         → WentWith desk.old.splitter.instances desk.old.splitter.core
-        desk.new.splitter.core (λ matches. FailedWithin desk.old.splitter.core.plan matches (O.state outlet.old)
-        (O.state outlet.new)) }
+        desk.new.splitter.core
+        (λ matches. FailedWithin desk.old.splitter.core.plan matches
+        (O.state outlet.old) (O.state outlet.new)) }
     ensures rose { result ≡ Err o.Failed
         → Rose (O.state outlet.old).faults (O.state outlet.new).faults }
     ensures short { result ≡ Err o.Memory
         → WentWith desk.old.splitter.instances desk.old.splitter.core
-        desk.new.splitter.core (λ matches. TookFirst desk.old.splitter.core.plan matches (O.state outlet.old)
-        (O.state outlet.new)) }
+        desk.new.splitter.core
+        (λ matches. TookFirst desk.old.splitter.core.plan matches
+        (O.state outlet.old) (O.state outlet.new)) }
     ensures no_fault { result ≢ Err o.Failed
         → (O.state outlet.new).faults ≡ (O.state outlet.old).faults }
     ensures goes { OnOk result (Goes desk.old.splitter.instances desk.old.splitter.core

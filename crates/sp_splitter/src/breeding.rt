@@ -47,11 +47,13 @@ pub(crate) fn breed(
     ensures emitted { NoneEmitted core.old core.new }
     ensures read { NoneRead core.old core.new }
     ensures settled { OnOk result (Settled core.new.plan core.new.machine) }
-    ensures guessed { OnOk result ((m : ℕ → ℕ → ℕ) → AreGuessed core.old.plan core.old.machine m (share_of chances.now)
+    ensures guessed { OnOk result ((m : ℕ → ℕ → ℕ)
+        → AreGuessed core.old.plan core.old.machine m (share_of chances.now)
         → AreGuessed core.new.plan core.new.machine m (share_of chances.now)) }
     ensures bred { OnOk result (Breeds (share_of chances.now) instances core.old core.new) }
     ensures wide { OnOk result (IsWide (share_of chances.now) instances core.new) }
-    ensures spread_out { OnOk result (IsSpreadOut core.new.plan core.new.bound instances core.new.machine) }
+    ensures spread_out { OnOk result
+        (IsSpreadOut core.new.plan core.new.bound instances core.new.machine) }
 {
     let mut busy = count_busy(alloc, core)?;
     known(core);

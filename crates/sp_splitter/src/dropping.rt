@@ -51,10 +51,13 @@ pub(crate) fn drop_stale(
     ensures emitted { NoneEmitted core.old core.new }
     ensures read { NoneRead core.old core.new }
     ensures settled { OnOk result (Settled core.new.plan core.new.machine) }
-    ensures guessed { OnOk result ((m share : ℕ → ℕ → ℕ) → AreGuessed core.old.plan core.old.machine m share
+    ensures guessed { OnOk result ((m share : ℕ → ℕ → ℕ)
+        → AreGuessed core.old.plan core.old.machine m share
         → AreGuessed core.new.plan core.new.machine m share) }
-    ensures wide { OnOk result ((share : ℕ → ℕ → ℕ) (n : ℕ) → IsWide share n core.old → IsWide share n core.new) }
-    ensures spread_out { OnOk result ((n : ℕ) → IsSpreadOut core.old.plan core.old.bound n core.old.machine
+    ensures wide { OnOk result
+        ((share : ℕ → ℕ → ℕ) (n : ℕ) → IsWide share n core.old → IsWide share n core.new) }
+    ensures spread_out { OnOk result ((n : ℕ)
+        → IsSpreadOut core.old.plan core.old.bound n core.old.machine
         → IsSpreadOut core.new.plan core.new.bound n core.new.machine) }
     ensures dropped { OnOk result (DropsStale core.old core.new kept.old.items kept.new.items) }
     ensures rising { (last : ℕ) → IsBelowKept last kept.old.items core.old.machine.next_ticket

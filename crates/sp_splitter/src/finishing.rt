@@ -43,7 +43,8 @@ pub(crate) fn finish_all(alloc: Global, core: &mut Core) -> Result<Vec<Emitted>,
     requires calm { AreCalm core.old.plan core.old.machine }
     ensures went { (n : ℕ) → Went n core.old core.new }
     ensures goes { OnOk result ((n : ℕ) → Goes n core.old core.new) }
-    ensures emitted { IfOk result (λ all. core.new.machine.emitted ≡ core.old.machine.emitted ++ matches_of all.items) }
+    ensures emitted { IfOk result
+        (λ all. core.new.machine.emitted ≡ core.old.machine.emitted ++ matches_of all.items) }
     ensures read { NoneRead core.old core.new }
     ensures calm { OnOk result (AreCalm core.new.plan core.new.machine) }
     ensures undone { OnOk result (NoneDone core.new.machine) }

@@ -23,7 +23,9 @@ pub(crate) fn guess(
     core: &Core,
     predictor: &dyn Predictor,
 ) -> Result<Chances, Memory>
-    ensures { IfOk result (λ chances. AreGuessed core.now.plan core.now.machine (means predictor.now) (share_of chances)) }
+    ensures { IfOk result
+        (λ chances. AreGuessed core.now.plan core.now.machine (means predictor.now)
+        (share_of chances)) }
 {
     let mut chances = Chances::new(alloc);
     let ids = core.tree().walk(alloc)?;

@@ -178,9 +178,11 @@ pub(crate) fn lend(
     ensures emitted { NoneEmitted core.old core.new }
     ensures read { NoneRead core.old core.new }
     ensures settled { OnOk result (Settled core.new.plan core.new.machine) }
-    ensures guessed { OnOk result ((m share : ℕ → ℕ → ℕ) → AreGuessed core.old.plan core.old.machine m share
+    ensures guessed { OnOk result ((m share : ℕ → ℕ → ℕ)
+        → AreGuessed core.old.plan core.old.machine m share
         → AreGuessed core.new.plan core.new.machine m share) }
-    ensures wide { OnOk result ((share : ℕ → ℕ → ℕ) (n : ℕ) → IsWide share n core.old → IsWide share n core.new) }
+    ensures wide { OnOk result
+        ((share : ℕ → ℕ → ℕ) (n : ℕ) → IsWide share n core.old → IsWide share n core.new) }
     ensures lent { OnOk result (IsLentOut core.new.plan core.new.bound instances core.new.machine) }
     ensures kept { OnOk result (length kept.new.items + out_count core.old.machine
         ≡ length kept.old.items + out_count core.new.machine) }

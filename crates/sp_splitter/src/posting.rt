@@ -50,7 +50,9 @@ pub(crate) fn post_kept<L: Naming, R: Wait>(
     ensures each { OnOk result (by.new.calls + length kept.new.items
         ≡ by.old.calls + length kept.old.items) }
     ensures all { OnOk result ((kept.new.items ≡ []) ⊎ (by.new.room ≤ by.new.waiting)) }
-    ensures last { OnOk result ((high : ℕ) → IsBelowKept by.old.last kept.old.items high → IsBelowKept by.new.last kept.new.items high) }
+    ensures last { OnOk result
+        ((high : ℕ) → IsBelowKept by.old.last kept.old.items high
+        → IsBelowKept by.new.last kept.new.items high) }
 {
     let mut others = false;
     while by.waiting() < by.room() {

@@ -140,10 +140,12 @@ impl Splitter {
         requires most { self.old.batch ≤ 1024 }
         requires room { by.old.room ≡ self.old.instances + 1 }
         requires open { by.old.closed ≡ false }
-        requires last { IsBelowKept by.old.last self.old.kept.items self.old.core.machine.next_ticket }
+        requires last { IsBelowKept by.old.last self.old.kept.items
+            self.old.core.machine.next_ticket }
         ensures went { Went self.old.instances self.old.core self.new.core }
         ensures read { ReadByCalls self.old.core self.new.core by.old by.new }
-        ensures rest { (self.new.instances ≡ self.old.instances) × (self.new.batch ≡ self.old.batch) }
+        ensures rest { (self.new.instances ≡ self.old.instances)
+            × (self.new.batch ≡ self.old.batch) }
         ensures room { by.new.room ≡ by.old.room }
         ensures open { by.new.closed ≡ false }
         ensures turned { IfOk result (λ finished. Turned (record {
@@ -157,7 +159,8 @@ impl Splitter {
           by = by.new;
         })
             self.old.core self.new.core finished.items) }
-        ensures last { OnOk result (IsBelowKept by.new.last self.new.kept.items self.new.core.machine.next_ticket) }
+        ensures last { OnOk result
+            (IsBelowKept by.new.last self.new.kept.items self.new.core.machine.next_ticket) }
     {
         let predictor = &mut *self.predictor;
         gather(rt, alloc, &mut self.core, predictor, hub, by)?;

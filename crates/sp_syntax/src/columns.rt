@@ -13,7 +13,9 @@ use std::alloc::AllocError;
 
 // INT | TEXT | DEC whole
 fn kind(out: &mut String, kind: Word, digits: u64) -> Result<(), AllocError>
-    ensures { OnOk result (Adds (string_bytes out.old) (string_bytes out.new) (Prints g.KindOf Equal (kind, digits))) }
+    ensures { OnOk result
+        (Adds (string_bytes out.old) (string_bytes out.new)
+        (Prints g.KindOf Equal (kind, digits))) }
 {
     token(out, kind.spelling())?;
     if kind == Word::Dec {
@@ -24,7 +26,9 @@ fn kind(out: &mut String, kind: Word, digits: u64) -> Result<(), AllocError>
 
 // name ( INT | DEC whole | TEXT )
 fn column(out: &mut String, column: &QueryColumn) -> Result<(), AllocError>
-    ensures { OnOk result (Adds (string_bytes out.old) (string_bytes out.new) (Prints g.Column SameColumn column.now)) }
+    ensures { OnOk result
+        (Adds (string_bytes out.old) (string_bytes out.new)
+        (Prints g.Column SameColumn column.now)) }
 {
     name(out, &column.name)?;
     kind(out, column.kind, column.digits)
@@ -32,7 +36,9 @@ fn column(out: &mut String, column: &QueryColumn) -> Result<(), AllocError>
 
 // Columns, each behind a comma.
 fn more_columns(out: &mut String, columns: &[QueryColumn]) -> Result<(), AllocError>
-    ensures { OnOk result (Adds (string_bytes out.old) (string_bytes out.new) (Prints (Each (g.After m.Comma g.Column)) (Pairwise SameColumn) columns.now)) }
+    ensures { OnOk result
+        (Adds (string_bytes out.old) (string_bytes out.new)
+        (Prints (Each (g.After m.Comma g.Column)) (Pairwise SameColumn) columns.now)) }
 {
     for one in columns {
         token(out, ",")?;
@@ -43,7 +49,9 @@ fn more_columns(out: &mut String, columns: &[QueryColumn]) -> Result<(), AllocEr
 
 // column { "," column }
 fn listed_columns(out: &mut String, columns: &[QueryColumn]) -> Result<(), AllocError>
-    ensures { OnOk result (Adds (string_bytes out.old) (string_bytes out.new) (Prints (g.ListOf g.Column) (Pairwise SameColumn) columns.now)) }
+    ensures { OnOk result
+        (Adds (string_bytes out.old) (string_bytes out.new)
+        (Prints (g.ListOf g.Column) (Pairwise SameColumn) columns.now)) }
 {
     match columns {
         [first, rest @ ..] => {
@@ -56,7 +64,9 @@ fn listed_columns(out: &mut String, columns: &[QueryColumn]) -> Result<(), Alloc
 
 // EVENT "(" column { "," column } ")"
 pub(crate) fn columns(out: &mut String, columns: &[QueryColumn]) -> Result<(), AllocError>
-    ensures { OnOk result (Adds (string_bytes out.old) (string_bytes out.new) (Prints g.Columns (Pairwise SameColumn) columns.now)) }
+    ensures { OnOk result
+        (Adds (string_bytes out.old) (string_bytes out.new)
+        (Prints g.Columns (Pairwise SameColumn) columns.now)) }
 {
     token(out, "EVENT")?;
     token(out, "(")?;
@@ -66,7 +76,9 @@ pub(crate) fn columns(out: &mut String, columns: &[QueryColumn]) -> Result<(), A
 
 // TIME name
 pub(crate) fn time(out: &mut String, time: &Option<Ident>) -> Result<(), AllocError>
-    ensures { OnOk result (Adds (string_bytes out.old) (string_bytes out.new) (Prints (f.Optional g.Timed) SameTime time.now)) }
+    ensures { OnOk result
+        (Adds (string_bytes out.old) (string_bytes out.new)
+        (Prints (f.Optional g.Timed) SameTime time.now)) }
 {
     match time {
         Some(ident) => {

@@ -11,7 +11,8 @@ use std::alloc::AllocError;
 
 // SELECT ( FIRST | LAST | EACH )
 pub(crate) fn policy(out: &mut String, select: Word) -> Result<(), AllocError>
-    ensures { OnOk result (Adds (string_bytes out.old) (string_bytes out.new) (Prints g.Policy Equal select)) }
+    ensures { OnOk result
+        (Adds (string_bytes out.old) (string_bytes out.new) (Prints g.Policy Equal select)) }
 {
     token(out, "SELECT")?;
     token(out, select.spelling())
@@ -19,7 +20,9 @@ pub(crate) fn policy(out: &mut String, select: Word) -> Result<(), AllocError>
 
 // CONSUME ( ALL | NONE | "(" name { "," name } ")" )
 pub(crate) fn consume(out: &mut String, consume: &QueryConsume) -> Result<(), AllocError>
-    ensures { OnOk result (Adds (string_bytes out.old) (string_bytes out.new) (Prints g.Consume SameConsume consume.now)) }
+    ensures { OnOk result
+        (Adds (string_bytes out.old) (string_bytes out.new)
+        (Prints g.Consume SameConsume consume.now)) }
 {
     token(out, "CONSUME")?;
     match consume {

@@ -16,7 +16,9 @@ use std::alloc::AllocError;
 
 // name AS pred
 fn definition(out: &mut String, definition: &(Ident, Tree)) -> Result<(), AllocError>
-    ensures { OnOk result (Adds (string_bytes out.old) (string_bytes out.new) (λ x. (room : ℕ) → Prints (g.Definition room) SameDefinition definition.now x)) }
+    ensures { OnOk result
+        (Adds (string_bytes out.old) (string_bytes out.new)
+        (λ x. (room : ℕ) → Prints (g.Definition room) SameDefinition definition.now x)) }
 {
     name(out, &definition.0)?;
     token(out, "AS")?;
@@ -25,7 +27,11 @@ fn definition(out: &mut String, definition: &(Ident, Tree)) -> Result<(), AllocE
 
 // Definitions, each behind a comma.
 fn more_definitions(out: &mut String, definitions: &[(Ident, Tree)]) -> Result<(), AllocError>
-    ensures { OnOk result (Adds (string_bytes out.old) (string_bytes out.new) (λ x. (room : ℕ) → Prints (Each (g.After m.Comma (g.Definition room))) (Pairwise SameDefinition) definitions.now x)) }
+    ensures { OnOk result
+        (Adds (string_bytes out.old) (string_bytes out.new)
+        (λ x. (room : ℕ)
+        → Prints (Each (g.After m.Comma (g.Definition room)))
+        (Pairwise SameDefinition) definitions.now x)) }
 {
     for one in definitions {
         token(out, ",")?;
@@ -36,7 +42,10 @@ fn more_definitions(out: &mut String, definitions: &[(Ident, Tree)]) -> Result<(
 
 // [ DEFINE define { "," define } ]
 pub(crate) fn definitions(out: &mut String, definitions: &[(Ident, Tree)]) -> Result<(), AllocError>
-    ensures { OnOk result (Adds (string_bytes out.old) (string_bytes out.new) (λ x. (room : ℕ) (some : Option (List (Ident × Tree))) → g.items some ≡ definitions.now → Prints (f.Optional (g.Definitions room)) SameItems some x)) }
+    ensures { OnOk result
+        (Adds (string_bytes out.old) (string_bytes out.new)
+        (λ x. (room : ℕ) (some : Option (List (Ident × Tree))) → g.items some ≡ definitions.now
+        → Prints (f.Optional (g.Definitions room)) SameItems some x)) }
 {
     match definitions {
         [first, rest @ ..] => {

@@ -11,7 +11,8 @@ use std::alloc::AllocError;
 
 // whole | decimal | literal | name [ "." name ]
 fn operand(out: &mut String, tree: &Tree) -> Result<(), AllocError>
-    ensures { OnOk result (Adds (string_bytes out.old) (string_bytes out.new) (Prints g.Operand SameTree tree.now)) }
+    ensures { OnOk result
+        (Adds (string_bytes out.old) (string_bytes out.new) (Prints g.Operand SameTree tree.now)) }
 {
     match &tree.node {
         Node::Whole(number) => whole(out, *number),
@@ -35,7 +36,9 @@ fn operand(out: &mut String, tree: &Tree) -> Result<(), AllocError>
 #[cycle(expressions)]
 pub(crate) fn expression(out: &mut String, tree: &Tree, least: u8) -> Result<(), AllocError>
     requires { least ≤ 2 }
-    ensures { OnOk result (Adds (string_bytes out.old) (string_bytes out.new) (λ x. (room : ℕ) → Prints (Expression least room) SameTree tree.now x)) }
+    ensures { OnOk result
+        (Adds (string_bytes out.old) (string_bytes out.new)
+        (λ x. (room : ℕ) → Prints (Expression least room) SameTree tree.now x)) }
 {
     if rank(&tree.node) >= least {
         return expression_root(out, tree);
@@ -48,7 +51,9 @@ pub(crate) fn expression(out: &mut String, tree: &Tree, least: u8) -> Result<(),
 // The root of an expression with its parts.
 #[cycle(expressions)]
 fn expression_root(out: &mut String, tree: &Tree) -> Result<(), AllocError>
-    ensures { OnOk result (Adds (string_bytes out.old) (string_bytes out.new) (λ x. (room : ℕ) → Prints (ExpressionRoot room) SameTree tree.now x)) }
+    ensures { OnOk result
+        (Adds (string_bytes out.old) (string_bytes out.new)
+        (λ x. (room : ℕ) → Prints (ExpressionRoot room) SameTree tree.now x)) }
 {
     match &tree.node {
         Node::Add => {

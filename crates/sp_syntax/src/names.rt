@@ -11,14 +11,17 @@ use std::alloc::AllocError;
 
 // A name.
 pub(crate) fn name(out: &mut String, ident: &Ident) -> Result<(), AllocError>
-    ensures { OnOk result (Adds (string_bytes out.old) (string_bytes out.new) (Prints g.Name SameIdent ident.now)) }
+    ensures { OnOk result
+        (Adds (string_bytes out.old) (string_bytes out.new) (Prints g.Name SameIdent ident.now)) }
 {
     token(out, ident.text.as_str())
 }
 
 // Names, one behind another.
 pub(crate) fn names(out: &mut String, idents: &[Ident]) -> Result<(), AllocError>
-    ensures { OnOk result (Adds (string_bytes out.old) (string_bytes out.new) (Prints (Each g.Name) (Pairwise SameIdent) idents.now)) }
+    ensures { OnOk result
+        (Adds (string_bytes out.old) (string_bytes out.new)
+        (Prints (Each g.Name) (Pairwise SameIdent) idents.now)) }
 {
     for ident in idents {
         name(out, ident)?;
@@ -28,7 +31,9 @@ pub(crate) fn names(out: &mut String, idents: &[Ident]) -> Result<(), AllocError
 
 // Names, each behind a comma.
 fn more_names(out: &mut String, idents: &[Ident]) -> Result<(), AllocError>
-    ensures { OnOk result (Adds (string_bytes out.old) (string_bytes out.new) (Prints (Each (g.After m.Comma g.Name)) (Pairwise SameIdent) idents.now)) }
+    ensures { OnOk result
+        (Adds (string_bytes out.old) (string_bytes out.new)
+        (Prints (Each (g.After m.Comma g.Name)) (Pairwise SameIdent) idents.now)) }
 {
     for ident in idents {
         token(out, ",")?;
@@ -39,7 +44,9 @@ fn more_names(out: &mut String, idents: &[Ident]) -> Result<(), AllocError>
 
 // name { "," name }
 pub(crate) fn listed_names(out: &mut String, idents: &[Ident]) -> Result<(), AllocError>
-    ensures { OnOk result (Adds (string_bytes out.old) (string_bytes out.new) (Prints (g.ListOf g.Name) (Pairwise SameIdent) idents.now)) }
+    ensures { OnOk result
+        (Adds (string_bytes out.old) (string_bytes out.new)
+        (Prints (g.ListOf g.Name) (Pairwise SameIdent) idents.now)) }
 {
     match idents {
         [first, rest @ ..] => {

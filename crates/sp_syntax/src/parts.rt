@@ -18,7 +18,8 @@ pub(crate) fn rank(node: &Node) -> u8
 
 // The two parts of an operator.
 pub(crate) fn two(parts: &[Tree]) -> Option<(&Tree, &Tree)>
-    ensures { MatchOption result ((a b : Tree) → parts.now ≢ a ∷ b ∷ []) (λ p. parts.now ≡ p.0.now ∷ p.1.now ∷ []) }
+    ensures { MatchOption result ((a b : Tree) → parts.now ≢ a ∷ b ∷ [])
+        (λ p. parts.now ≡ p.0.now ∷ p.1.now ∷ []) }
 {
     match parts {
         [left, right] => Some((left, right)),

@@ -11,7 +11,9 @@ use std::alloc::AllocError;
 
 // name [ "+" ] | SET "(" name name { name } ")"
 fn element(out: &mut String, element: &QueryElement) -> Result<(), AllocError>
-    ensures { OnOk result (Adds (string_bytes out.old) (string_bytes out.new) (Prints g.Element SameElement element.now)) }
+    ensures { OnOk result
+        (Adds (string_bytes out.old) (string_bytes out.new)
+        (Prints g.Element SameElement element.now)) }
 {
     match element {
         QueryElement::One(ident) => name(out, ident),
@@ -30,7 +32,9 @@ fn element(out: &mut String, element: &QueryElement) -> Result<(), AllocError>
 
 // Elements, one behind another.
 fn all_elements(out: &mut String, elements: &[QueryElement]) -> Result<(), AllocError>
-    ensures { OnOk result (Adds (string_bytes out.old) (string_bytes out.new) (Prints (Each g.Element) (Pairwise SameElement) elements.now)) }
+    ensures { OnOk result
+        (Adds (string_bytes out.old) (string_bytes out.new)
+        (Prints (Each g.Element) (Pairwise SameElement) elements.now)) }
 {
     for one in elements {
         element(out, one)?;
@@ -40,7 +44,9 @@ fn all_elements(out: &mut String, elements: &[QueryElement]) -> Result<(), Alloc
 
 // PATTERN "(" element { element } ")"
 pub(crate) fn elements(out: &mut String, elements: &[QueryElement]) -> Result<(), AllocError>
-    ensures { OnOk result (Adds (string_bytes out.old) (string_bytes out.new) (Prints g.Elements (Pairwise SameElement) elements.now)) }
+    ensures { OnOk result
+        (Adds (string_bytes out.old) (string_bytes out.new)
+        (Prints g.Elements (Pairwise SameElement) elements.now)) }
 {
     token(out, "PATTERN")?;
     token(out, "(")?;

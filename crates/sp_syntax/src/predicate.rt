@@ -28,7 +28,9 @@ fn comparison(compare: Compare) -> &'static str
 
 // sum compare sum
 fn test(out: &mut String, tree: &Tree) -> Result<(), AllocError>
-    ensures { OnOk result (Adds (string_bytes out.old) (string_bytes out.new) (λ x. (room : ℕ) → Prints (g.TestOf (g.Sum room)) SameTree tree.now x)) }
+    ensures { OnOk result
+        (Adds (string_bytes out.old) (string_bytes out.new)
+        (λ x. (room : ℕ) → Prints (g.TestOf (g.Sum room)) SameTree tree.now x)) }
 {
     let Node::Test(compare) = &tree.node else {
         return Ok(());
@@ -45,7 +47,9 @@ fn test(out: &mut String, tree: &Tree) -> Result<(), AllocError>
 #[cycle(predicates)]
 pub(crate) fn predicate(out: &mut String, tree: &Tree, least: u8) -> Result<(), AllocError>
     requires { least ≤ 2 }
-    ensures { OnOk result (Adds (string_bytes out.old) (string_bytes out.new) (λ x. (room : ℕ) → Prints (Predicate least room) SameTree tree.now x)) }
+    ensures { OnOk result
+        (Adds (string_bytes out.old) (string_bytes out.new)
+        (λ x. (room : ℕ) → Prints (Predicate least room) SameTree tree.now x)) }
 {
     if rank(&tree.node) >= least {
         return predicate_root(out, tree);
@@ -58,7 +62,9 @@ pub(crate) fn predicate(out: &mut String, tree: &Tree, least: u8) -> Result<(), 
 // The root of a predicate with its parts.
 #[cycle(predicates)]
 fn predicate_root(out: &mut String, tree: &Tree) -> Result<(), AllocError>
-    ensures { OnOk result (Adds (string_bytes out.old) (string_bytes out.new) (λ x. (room : ℕ) → Prints (PredicateRoot room) SameTree tree.now x)) }
+    ensures { OnOk result
+        (Adds (string_bytes out.old) (string_bytes out.new)
+        (λ x. (room : ℕ) → Prints (PredicateRoot room) SameTree tree.now x)) }
 {
     match &tree.node {
         Node::Or => {

@@ -16,7 +16,9 @@ use std::alloc::{AllocError, Global};
 
 // The clauses of a query, one after another.
 fn clauses(out: &mut String, query: &Query) -> Result<(), AllocError>
-    ensures { OnOk result (Adds (string_bytes out.old) (string_bytes out.new) (λ x. (room : ℕ) → Prints (g.Derives room) Same query.now x)) }
+    ensures { OnOk result
+        (Adds (string_bytes out.old) (string_bytes out.new)
+        (λ x. (room : ℕ) → Prints (g.Derives room) Same query.now x)) }
 {
     columns(out, query.columns.as_slice())?;
     time(out, &query.time)?;
@@ -32,7 +34,8 @@ fn clauses(out: &mut String, query: &Query) -> Result<(), AllocError>
 /// its parts.
 pub fn print(alloc: Global, query: &Query) -> Result<String, AllocError>
     requires { (text : List ℕ) × IsQuery text query.now }
-    ensures { IfOk result (λ out. (other : Query) × IsQuery (string_bytes out) other × Same query.now other) }
+    ensures { IfOk result
+        (λ out. (other : Query) × IsQuery (string_bytes out) other × Same query.now other) }
 {
     let mut out = String::new(alloc);
     clauses(&mut out, query)?;

@@ -18,7 +18,8 @@ pub(crate) fn token(out: &mut String, text: &str) -> Result<(), AllocError>
 
 // A whole number.
 pub(crate) fn whole(out: &mut String, number: u64) -> Result<(), AllocError>
-    ensures { OnOk result (string_bytes out.new ≡ string_bytes out.old ++ (decimal number ++ 32 ∷ [])) }
+    ensures { OnOk result
+        (string_bytes out.new ≡ string_bytes out.old ++ (decimal number ++ 32 ∷ [])) }
 {
     write!(out, "{number} ")?;
     Ok(())
@@ -26,7 +27,8 @@ pub(crate) fn whole(out: &mut String, number: u64) -> Result<(), AllocError>
 
 // A number with so many decimals, in units of the last one.
 pub(crate) fn scaled(out: &mut String, units: u64, scale: u8) -> Result<(), AllocError>
-    ensures { OnOk result (Adds (string_bytes out.old) (string_bytes out.new) (IsDecimalOf units scale)) }
+    ensures { OnOk result
+        (Adds (string_bytes out.old) (string_bytes out.new) (IsDecimalOf units scale)) }
 {
     if scale == 0 {
         write!(out, "{units}.")?;
@@ -40,7 +42,9 @@ pub(crate) fn scaled(out: &mut String, units: u64, scale: u8) -> Result<(), Allo
 
 // A text between quotes, with each quote inside of it doubled.
 pub(crate) fn literal(out: &mut String, text: &str) -> Result<(), AllocError>
-    ensures { OnOk result (string_bytes out.new ≡ string_bytes out.old ++ (39 ∷ (s.doubled text.now ++ 39 ∷ 32 ∷ []))) }
+    ensures { OnOk result
+        (string_bytes out.new
+        ≡ string_bytes out.old ++ (39 ∷ (s.doubled text.now ++ 39 ∷ 32 ∷ []))) }
 {
     out.push_str("'")?;
     let mut rest = text;

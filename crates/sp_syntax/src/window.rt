@@ -11,7 +11,9 @@ use std::alloc::AllocError;
 
 // whole ( EVENTS | TIME )
 fn amount(out: &mut String, number: u64, unit: Word) -> Result<(), AllocError>
-    ensures { OnOk result (Adds (string_bytes out.old) (string_bytes out.new) (Prints g.Amount Equal (number, unit))) }
+    ensures { OnOk result
+        (Adds (string_bytes out.old) (string_bytes out.new)
+        (Prints g.Amount Equal (number, unit))) }
 {
     whole(out, number)?;
     token(out, unit.spelling())
@@ -19,7 +21,9 @@ fn amount(out: &mut String, number: u64, unit: Word) -> Result<(), AllocError>
 
 // WITHIN whole ( EVENTS | TIME )
 pub(crate) fn within(out: &mut String, length: &(u64, Word, Span)) -> Result<(), AllocError>
-    ensures { OnOk result (Adds (string_bytes out.old) (string_bytes out.new) (Prints g.Within SameLength length.now)) }
+    ensures { OnOk result
+        (Adds (string_bytes out.old) (string_bytes out.new)
+        (Prints g.Within SameLength length.now)) }
 {
     token(out, "WITHIN")?;
     amount(out, length.0, length.1)
@@ -27,7 +31,9 @@ pub(crate) fn within(out: &mut String, length: &(u64, Word, Span)) -> Result<(),
 
 // FROM ( EVERY whole ( EVENTS | TIME ) | WHEN pred )
 pub(crate) fn opening(out: &mut String, opening: &QueryOpening) -> Result<(), AllocError>
-    ensures { OnOk result (Adds (string_bytes out.old) (string_bytes out.new) (λ x. (room : ℕ) → Prints (g.Opening room) SameOpening opening.now x)) }
+    ensures { OnOk result
+        (Adds (string_bytes out.old) (string_bytes out.new)
+        (λ x. (room : ℕ) → Prints (g.Opening room) SameOpening opening.now x)) }
 {
     token(out, "FROM")?;
     match opening {

@@ -62,14 +62,18 @@ fn load_texts<'a, F: Files>(
     schedule: &str,
     files: &mut F,
 ) -> Result<Texts<'a>, Refusal>
-    ensures query { IfOk result (λ texts. HasText (F.held files.old) (place_of place.entry) (text_of texts.query)) }
+    ensures query { IfOk result
+        (λ texts. HasText (F.held files.old) (place_of place.entry) (text_of texts.query)) }
     ensures short { IfOk result (λ texts. length (text_of texts.query) ≤ longest_query) }
-    ensures schedule { IfOk result (λ texts. HasSchedule (F.held files.old) schedule.now texts.schedule.items) }
-    ensures refused { IfErr result (RefusesTexts (F.held files.old) (place_of place.entry) schedule.now) }
+    ensures schedule { IfOk result
+        (λ texts. HasSchedule (F.held files.old) schedule.now texts.schedule.items) }
+    ensures refused { IfErr result
+        (RefusesTexts (F.held files.old) (place_of place.entry) schedule.now) }
     ensures held { F.held files.new ≡ F.held files.old }
     ensures fault { let names = files_at (place_of place.entry) ++ schedule.now ∷ [] in
         result ≡ Err Refusal.Read → OneRose names (F.faults files.old) (F.faults files.new) }
-    ensures no_fault { result ≢ Err Refusal.Read → (name : List ℕ) → F.faults files.new name ≡ F.faults files.old name }
+    ensures no_fault { result ≢ Err Refusal.Read → (name : List ℕ)
+        → F.faults files.new name ≡ F.faults files.old name }
 {
     let query = match text_at(alloc, place, files) {
         Ok(query) => query,
@@ -88,7 +92,8 @@ fn task_of(alloc: Global, texts: &Texts) -> Result<Task, Status>
     requires few { length texts.now.schedule.items ≤ 1048576 }
     ensures plan { IfOk result (λ task. IsPlanFor (text_of texts.now.query) task.plan) }
     ensures steps { IfOk result (λ task. IsSchedule texts.now.schedule.items task.steps.items) }
-    ensures refused { IfErr result (RefusesTrace (text_of texts.now.query) texts.now.schedule.items) }
+    ensures refused { IfErr result
+        (RefusesTrace (text_of texts.now.query) texts.now.schedule.items) }
 {
     let plan = match plan_of_text(alloc, &texts.query) {
         Ok(plan) => plan,

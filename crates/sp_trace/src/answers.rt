@@ -53,7 +53,8 @@ fn skip_text(skipped: bool) -> &'static str
 // The line of an event that was read under a ticket, or passed over.
 fn read_line(alloc: Global, ticket: u64, number: u32, skipped: bool) -> Result<String, Memory>
     ensures { IfOk result (λ line. string_bytes line
-        ≡ codes "event " ++ decimal ticket ++ codes " " ++ decimal number ++ skip_text skipped ++ codes "\n") }
+        ≡ codes "event " ++ decimal ticket ++ codes " " ++ decimal number
+        ++ skip_text skipped ++ codes "\n") }
 {
     let skip = skip_text(skipped);
     format!(in alloc; "event {ticket} {number}{skip}\n")

@@ -29,7 +29,8 @@ fn word_of(step: &TraceStep) -> &str
 
 // Adds a value behind a blank.
 fn push_value(out: &mut String, value: u64) -> Result<(), Memory>
-    ensures { OnOk result (string_bytes out.new ≡ string_bytes out.old ++ (codes " " ++ decimal value)) }
+    ensures { OnOk result
+        (string_bytes out.new ≡ string_bytes out.old ++ (codes " " ++ decimal value)) }
 {
     write!(out, " {value}")?;
     Ok(())

@@ -149,7 +149,8 @@ impl Tracer {
     /// memory the step was taken or it was not.
     pub fn step(&mut self, alloc: Global, step: &TraceStep) -> Result<Vec<String>, Memory>
         requires can_stand { CanStand step.now }
-        ensures lines { IfOk result (λ lines. map string_bytes lines.items ≡ lines_for self.old step.now) }
+        ensures lines { IfOk result
+            (λ lines. map string_bytes lines.items ≡ lines_for self.old step.now) }
         ensures ok { OnOk result (self.new ≡ after self.old step.now) }
         ensures err { OnErr result ((self.new ≡ self.old) ⊎ (self.new ≡ after self.old step.now)) }
     {

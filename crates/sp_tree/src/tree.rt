@@ -120,7 +120,8 @@ impl<V> Tree<V> {
 
     /// The live ids, rising.
     pub fn walk(&self, alloc: Global) -> Result<Vec<u64>, Memory>
-        ensures { IfOk result (λ ids. ids.items ≡ reverse (map (λ e. e.version.id) self.now.entries)) }
+        ensures { IfOk result
+            (λ ids. ids.items ≡ reverse (map (λ e. e.version.id) self.now.entries)) }
     {
         ids_of(alloc, &self.versions)
     }
@@ -259,7 +260,8 @@ impl<V: Drop> Tree<V> {
     /// child. Takes no memory.
     pub fn promote(&mut self) -> Option<u64>
         requires root { IsSome (root_in self.old.entries) }
-        requires groups { IfSome (root_in self.old.entries) (λ root. groups_of (entry_at kin self.old.entries root) ≡ []) }
+        requires groups { IfSome (root_in self.old.entries)
+            (λ root. groups_of (entry_at kin self.old.entries root) ≡ []) }
         ensures tree { self.new ≡ without_root self.old (root_in self.old.entries) }
         ensures root { result ≡ root_in self.new.entries }
         ensures none { IsNone result → self.new.entries ≡ [] }
@@ -276,7 +278,9 @@ impl<V: Drop> Tree<V> {
 fn prune<V: Drop>(versions: &mut Vec<Version>, values: &mut Store<V>, first: usize, change: Change)
     requires joined { AreJoined versions.old.items values.old }
     requires within { first ≤ length versions.old.items }
-    ensures entries { IsPrunedFrom first (changed_by change) (joined versions.old.items values.old.entries) (joined versions.new.items values.new.entries) }
+    ensures entries { IsPrunedFrom first (changed_by change)
+        (joined versions.old.items values.old.entries)
+        (joined versions.new.items values.new.entries) }
     ensures joined { AreJoined versions.new.items values.new }
     ensures rest { (values.new.next ≡ values.old.next) × (values.new.bound ≡ values.old.bound) }
 {

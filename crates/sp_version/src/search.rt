@@ -22,7 +22,11 @@ fn place(list: &[u32], n: u32) -> usize
 // The least number of the rising list that is one of so many from `first` on, and not skipped.
 pub(crate) fn least_among(list: &[u32], first: u32, count: u32, skipped: &Numbers) -> Option<u32>
     requires { IsStrictlyIncreasing list.now }
-    ensures { result ≡ least (λ i. is_among list.now i && (nat_le first i && nat_lt i (first + count) && not (is_among skipped.now.list i))) first count }
+    ensures { result
+        ≡ least
+        (λ i. is_among list.now i
+        && (nat_le first i && nat_lt i (first + count) && not (is_among skipped.now.list i))) first
+        count }
 {
     let mut at = place(list, first);
     while at < list.len() && list[at] - first < count {

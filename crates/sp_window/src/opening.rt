@@ -64,7 +64,11 @@ fn open_spans(
 ) -> Result<(), Memory>
     requires size { size ≤ 1000000000000000 }
     requires times { (k : ℕ) → k < end → k * step ≤ 1000000000000000 }
-    ensures opened { OnOk result (records.new.items ≡ records.old.items ++ map (λ k. spec.open_at number (AtTime (k * step + size))) (range_with_len first (end - first))) }
+    ensures opened { OnOk result
+        (records.new.items
+        ≡ records.old.items
+        ++ map (λ k. spec.open_at number (AtTime (k * step + size)))
+        (range_with_len first (end - first))) }
     ensures kept { OnErr result (records.new.items ≡ records.old.items) }
 {
     let before = records.len();
@@ -94,7 +98,11 @@ fn open_in_time(
     requires step { 0 < step }
     requires size { size ≤ 1000000000000000 }
     requires time { time ≤ 1000000000000000 }
-    ensures opened { OnOk result (records.new.items ≡ records.old.items ++ map (λ k. spec.open_at number (AtTime (k * step + size))) (spec.spans_begun step size next time)) }
+    ensures opened { OnOk result
+        (records.new.items
+        ≡ records.old.items
+        ++ map (λ k. spec.open_at number (AtTime (k * step + size)))
+        (spec.spans_begun step size next time)) }
     ensures next { IfOk result (λ after. after ≡ time / step + 1) }
     ensures kept { OnErr result (records.new.items ≡ records.old.items) }
 {
@@ -123,8 +131,12 @@ pub(crate) fn open(
     requires early { pos 0 ≤ℤ event.now.time }
     requires late { event.now.time ≤ℤ pos 1000000000000000 }
     requires small { IsSmall event.now }
-    ensures opened { OnOk result (records.new.items ≡ records.old.items ++ spec.opening_by plan.now.opening plan.now.length number next event.now) }
-    ensures next { IfOk result (λ after. after ≡ next_after plan.now.opening number next event.now) }
+    ensures opened { OnOk result
+        (records.new.items
+        ≡ records.old.items
+        ++ spec.opening_by plan.now.opening plan.now.length number next event.now) }
+    ensures next { IfOk result
+        (λ after. after ≡ next_after plan.now.opening number next event.now) }
     ensures kept { OnErr result (records.new.items ≡ records.old.items) }
 {
     let time = stamp_of(event);

@@ -49,7 +49,8 @@ pub(crate) fn close_reached(records: &mut [Record], closed: usize, fed: u32, tim
     requires within { closed ≤ length records.old }
     requires few { fed ≤ 1048576 }
     ensures records { records.new ≡ spec.settled closed fed time records.old }
-    ensures count { result ≡ closed + prefix_len (λ r. spec.is_reached r.limit fed time) (drop closed records.old) }
+    ensures count { result
+        ≡ closed + prefix_len (λ r. spec.is_reached r.limit fed time) (drop closed records.old) }
 {
     for at in closed..records.len() {
         let limit = records[at].limit;

@@ -82,7 +82,9 @@ impl Windows {
         requires in_order { pos self.old.time ≤ℤ event.now.time }
         requires more { self.old.ended ≡ false }
         requires few { self.old.fed < 1048576 }
-        ensures stands { OnOk result ((events : List EventValue) → Stands self.old events false → Stands self.new (events ++ event.now ∷ []) false) }
+        ensures stands { OnOk result
+            ((events : List EventValue) → Stands self.old events false
+            → Stands self.new (events ++ event.now ∷ []) false) }
         ensures fed { OnOk result (self.new.fed ≡ self.old.fed + 1) }
         ensures time { OnOk result (pos self.new.time ≡ event.now.time) }
         ensures plan { self.new.plan ≡ self.old.plan }
@@ -107,7 +109,8 @@ impl Windows {
 
     /// The input ends behind the events fed: each open window is closed at the last one. Takes no memory.
     pub fn end(&mut self)
-        ensures stands { (events : List EventValue) (ended : Bool) → Stands self.old events ended → Stands self.new events true }
+        ensures stands { (events : List EventValue) (ended : Bool) → Stands self.old events ended
+            → Stands self.new events true }
         ensures plan { self.new.plan ≡ self.old.plan }
         ensures over { self.new.ended ≡ true }
     {
@@ -118,7 +121,8 @@ impl Windows {
 
     /// The window of this number, which counts from 1; None where there is none.
     pub fn get(&self, number: u32) -> Option<Window>
-        ensures { (events : List EventValue) (ended : Bool) → Stands self.now events ended → result ≡ option_map shown (numbered_window self.now.plan events ended number) }
+        ensures { (events : List EventValue) (ended : Bool) → Stands self.now events ended
+            → result ≡ option_map shown (numbered_window self.now.plan events ended number) }
     {
         if number == 0 {
             return None;
@@ -132,14 +136,16 @@ impl Windows {
 
     /// How many windows have been opened.
     pub fn count(&self) -> u32
-        ensures { (events : List EventValue) (ended : Bool) → Stands self.now events ended → result ≡ length (spec.windows self.now.plan events ended) }
+        ensures { (events : List EventValue) (ended : Bool) → Stands self.now events ended
+            → result ≡ length (spec.windows self.now.plan events ended) }
     {
         self.records.len() as u32
     }
 
     /// How many windows are closed: they are those with the first numbers.
     pub fn closed(&self) -> u32
-        ensures { (events : List EventValue) (ended : Bool) → Stands self.now events ended → result ≡ spec.closed self.now.plan events ended }
+        ensures { (events : List EventValue) (ended : Bool) → Stands self.now events ended
+            → result ≡ spec.closed self.now.plan events ended }
     {
         self.closed as u32
     }
