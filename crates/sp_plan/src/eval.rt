@@ -81,8 +81,7 @@ fn earlier_value(bound: &Bound, name: u8, column: u16) -> i64
 // What a literal, a text of the query or a column of the event at hand comes to; None for anything else.
 #[inline(always)]
 fn near(expr: &Expr, event: &Event) -> Option<i64>
-    ensures { (bound : BoundEvents)
-        → IfSome result (λ n. n ≡ Values.value expr.now event.now bound) }
+    ensures { (bound : BoundEvents) → IfSome result (λ n. n ≡ Values.value expr.now event.now bound) }
 {
     match expr {
         Expr::Literal(n) => Some(*n),
@@ -286,9 +285,24 @@ pub fn value(expr: &Expr, event: &Event, bound: &Bound) -> i128
     }
 }
 
-// Whether two values compare so. Where both are of 64 bits they are compared in 64.
-#[inline(always)]
+// Whether two values compare so.
+#[inline]
 fn compares(by: Compare, left: i128, right: i128) -> bool
+    ensures { result ≡ Values.compares by left right }
+{
+    match by {
+        Compare::Equal => left == right,
+        Compare::Unequal => left != right,
+        Compare::Less => left < right,
+        Compare::AtMost => left <= right,
+        Compare::Greater => left > right,
+        Compare::AtLeast => left >= right,
+    }
+}
+
+// The same of two values of 64 bits.
+#[inline(always)]
+fn short_compares(by: Compare, left: i64, right: i64) -> bool
     ensures { result ≡ Values.compares by left right }
 {
     match by {
@@ -324,8 +338,7 @@ fn long_sides_compare(by: Compare, left: &Expr, right: &Expr, event: &Event, bou
 fn earlier_compares(by: Compare, one: i64, name: u8, column: u16, bound: &Bound) -> bool
     ensures { result ≡ Values.compares by one (earlier_column (last_bound name bound.now) column) }
 {
-    let other = earlier_value(bound, name, column);
-    compares(by, i128::from(one), i128::from(other))
+    short_compares(by, one, earlier_value(bound, name, column))
 }
 
 // Whether what two sides come to compares so: a column of the event at hand is compared in place, and in
@@ -348,7 +361,7 @@ pub(crate) fn sides_compare(
     if let Expr::Column(column) = left {
         if let Some(other) = near(right, event) {
             let one = column_value(event, *column);
-            return compares(by, i128::from(one), i128::from(other));
+            return short_compares(by, one, other);
         }
         if let Expr::Earlier {
             name,
@@ -361,7 +374,7 @@ pub(crate) fn sides_compare(
     } else if let Some(one) = near(left, event)
         && let Some(other) = near(right, event)
     {
-        return compares(by, i128::from(one), i128::from(other));
+        return short_compares(by, one, other);
     }
     long_sides_compare(by, left, right, event, bound)
 }
