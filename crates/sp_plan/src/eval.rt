@@ -300,7 +300,8 @@ fn compares(by: Compare, left: i128, right: i128) -> bool
     }
 }
 
-// The same of two values of 64 bits.
+// The same of two values of 64 bits. In a function of its own, since the compiler keeps to 128 bits in part of the
+// other one, and most comparisons are of such values.
 #[inline(always)]
 fn short_compares(by: Compare, left: i64, right: i64) -> bool
     ensures { result ≡ Values.compares by left right }
