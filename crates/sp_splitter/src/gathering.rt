@@ -6,6 +6,7 @@ ghost use Rattle.sp_splitter.specs.Stages.{Collected, Goes, NoneEmitted, ReadByC
 use crate::Memory;
 use crate::knowing::known;
 use crate::learning::learn;
+use crate::unheard::Readings;
 use sp_chance::Predictor;
 use sp_core::Core;
 use sp_hub::{Hub, Naming, Poster};
@@ -38,8 +39,8 @@ fn give_back(alloc: Global, core: &mut Core, piece: Piece) -> Result<(), Memory>
     }
 }
 
-/// Collects every piece that is home and gives it back. What came home is learned from, in its order. A piece
-/// that was given up for want of memory is answered as such, once it is given back.
+/// Collects every piece that is home and gives it back. What came home is learned from, in its order. Answers how much
+/// it has read. A piece that was given up for want of memory is answered as such, once it is given back.
 pub(crate) fn gather<L: Naming, R: Wait>(
     rt: &R,
     alloc: Global,
@@ -47,19 +48,21 @@ pub(crate) fn gather<L: Naming, R: Wait>(
     predictor: &mut dyn Predictor,
     hub: &Hub<Job, Piece, L>,
     by: &mut Poster<Piece, L>,
-) -> Result<(), Memory>
+) -> Result<Readings, Memory>
     ensures went { (n : ℕ) → Went n core.old core.new }
     ensures goes { OnOk result ((n : ℕ) → Goes n core.old core.new) }
     ensures emitted { NoneEmitted core.old core.new }
     ensures read { ReadByCalls core.old core.new by.old by.new }
     ensures by { Collected by.old by.new }
 {
+    let mut read = Readings::none();
     for _ in 0..by.waiting() {
         let Some(piece) = hub.collect(rt, by) else {
-            return Ok(());
+            return Ok(read);
         };
+        read.add(&piece);
         learn_from(predictor, core, &piece);
         give_back(alloc, core, piece)?;
     }
-    Ok(())
+    Ok(read)
 }

@@ -163,7 +163,8 @@ impl Splitter {
             (IsBelowKept by.new.last self.new.kept.items self.new.core.machine.next_ticket) }
     {
         let predictor = &mut *self.predictor;
-        gather(rt, alloc, &mut self.core, predictor, hub, by)?;
+        let read = gather(rt, alloc, &mut self.core, predictor, hub, by)?;
+        self.unheard.learn(read);
         let finished = tidy(alloc, &mut self.core)?;
         self.chances = guess_and_send(
             alloc,

@@ -1,9 +1,39 @@
 // How much work goes by before an instance is woken.
-use sp_piece::Job;
+use sp_piece::{Job, Piece};
 
-// So many visits are worth waking an instance: a visit, of an event at an open run, takes some 50 nanoseconds, and a thread
-// wakes in some 50 microseconds.
-const WORTH_WAKING: u64 = 4_096;
+// So many visits are worth waking an instance: a visit, of an event at an open run, takes some 50 nanoseconds, so these take
+// twice as long as a thread takes to wake.
+const WORTH_WAKING: u64 = 2_048;
+
+/// How much pieces have read: events, and visits of events at open runs.
+#[derive(Clone, Copy, Drop)]
+pub(crate) struct Readings {
+    events: u64,
+    visits: u64,
+}
+
+impl Readings {
+    /// Nothing was read.
+    pub(crate) fn none() -> Readings {
+        Readings {
+            events: 0,
+            visits: 0,
+        }
+    }
+
+    /// Takes in what a piece has read.
+    pub(crate) fn add(&mut self, piece: &Piece) {
+        self.events = self.events.saturating_add(piece.read() as u64);
+        for entry in piece.moves() {
+            self.visits = self.visits.saturating_add(entry.wanted.len() as u64);
+        }
+    }
+
+    // At how many runs an event was, on average.
+    fn runs(&self) -> u64 {
+        self.visits / self.events.max(1)
+    }
+}
 
 /// How much work was posted since an instance was last woken, in visits of events at open runs. Where work comes in small
 /// jobs, the splitter does most of it itself, and instances are woken for what adds up. Nothing but the time of a run
@@ -11,6 +41,8 @@ const WORTH_WAKING: u64 = 4_096;
 #[derive(Drop)]
 pub struct Unheard {
     visits: u64,
+    // what was read of late: what was read before counts half whenever pieces come home
+    lately: Readings,
 }
 
 impl Unheard {
@@ -18,13 +50,26 @@ impl Unheard {
     pub fn new() -> Unheard {
         Unheard {
             visits: WORTH_WAKING,
+            lately: Readings::none(),
         }
     }
 
-    /// Takes a job in, and answers whether an instance is to be woken.
+    /// Takes in what came home in a turn.
+    pub(crate) fn learn(&mut self, read: Readings) {
+        if read.events == 0 {
+            return;
+        }
+        self.lately = Readings {
+            events: (self.lately.events / 2).saturating_add(read.events),
+            visits: (self.lately.visits / 2).saturating_add(read.visits),
+        };
+    }
+
+    /// Takes a job in, and answers whether an instance is to be woken. A window that has just begun has few runs open, of
+    /// which an event may begin many: as many are reckoned with as events met of late.
     pub(crate) fn adds_up(&mut self, job: &Job) -> bool {
         let events = job.events.as_slice().len() as u64;
-        let runs = job.before.open_runs().len() as u64;
+        let runs = (job.before.open_runs().len() as u64).max(self.lately.runs());
         let visits = events.saturating_mul(runs.saturating_add(1));
         self.visits = self.visits.saturating_add(visits);
         if self.visits < WORTH_WAKING {
