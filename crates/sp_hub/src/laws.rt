@@ -96,7 +96,8 @@ impl<J: Named, P: Named, L: Naming> Locked<J, P, L> {
         history
     }
 
-    /// Lists a job. It makes room in the history for the later entries of the ticket. `Err` is want of memory.
+    /// Lists a job. It makes the room that the ticket takes later: its entries in the history, and its piece's place at
+    /// home, so that `put` needs no more. `Err` is want of memory.
     pub fn post(&mut self, by: &mut Poster<P, L>, job: J) -> Result<(), J>
         requires ticket { by.old.last < J.ticket_of job }
         requires room { by.old.waiting < by.old.room }
@@ -108,7 +109,10 @@ impl<J: Named, P: Named, L: Naming> Locked<J, P, L> {
     {
         let due = self.jobs.len() + self.home.len();
         let spare = due.saturating_add(3 * MOST as usize + 3);
-        if self.history.reserve(spare).is_err() || self.jobs.reserve(1).is_err() {
+        if self.history.reserve(spare).is_err()
+            || self.jobs.reserve(1).is_err()
+            || self.home.reserve(MOST as usize).is_err()
+        {
             return Err(job);
         }
         let ticket = job.ticket();

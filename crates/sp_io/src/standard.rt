@@ -1,8 +1,8 @@
-ghost use Rattle.std.specs.Prelude.{◌≡◌, ◌+◌, ◌-◌, ◌^◌, ◌≤◌, false, None, Ok, min, IfOk, IsErr, OnOk};
+ghost use Rattle.std.specs.Prelude.{◌≡◌, ◌+◌, ◌-◌, ◌^◌, ◌≤◌, false, None, Ok, length, min, IfOk, IsErr, OnOk};
 
 use crate::{Failed, Sink, Source};
 use std::io;
-use std::io::Read;
+use std::io::{ErrorKind, Read};
 
 // What a call of the system comes to: its value where it gave one, and else `Failed`, with one fault more.
 fn counted<T>(answer: io::Result<T>, failed: &mut u64) -> Result<T, Failed>
@@ -19,6 +19,20 @@ fn counted<T>(answer: io::Result<T>, failed: &mut u64) -> Result<T, Failed>
             Err(Failed)
         }
     }
+}
+
+// A read of standard input. Where a signal interrupts it, nothing was read, and it is tried again.
+fn read_standard(runtime: &HostRuntime, into: &mut [u8]) -> io::Result<usize>
+    ensures size { length into.new ≡ length into.old }
+    ensures count { IfOk result (λ n. n ≤ length into.old) }
+{
+    for _ in 0..u64::MAX {
+        match runtime.stdin().read(into) {
+            Err(error) if error.kind() == ErrorKind::Interrupted => {}
+            answer => return answer,
+        }
+    }
+    Err(ErrorKind::Interrupted.into())
 }
 
 /// Standard input. It tells no bytes, only how often a read failed and whether the input has ended.
@@ -52,7 +66,7 @@ impl Source for StdSource {
     ghost used_up = { used_up };
 
     fn read(&mut self, into: &mut [u8]) -> Result<usize, Failed> {
-        let count = counted(self.runtime.stdin().read(into), &mut self.failed)?;
+        let count = counted(read_standard(&self.runtime, into), &mut self.failed)?;
         if count == 0 {
             self.ended = true;
         }
