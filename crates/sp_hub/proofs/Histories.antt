@@ -70,16 +70,17 @@ pub keeps-more : {J P : Type 0} (tj : J → ℕ) (tp : P → ℕ) (jobs : List J
     → Keeps tj tp jobs home closed es total room → room ≤ room' → Keeps tj tp jobs home closed es total room'
 keeps-more tj tp jobs home closed es total room room' k more = record { legal = k.legal; listed = k.listed; at_home = k.at_home; shut = k.shut; counted = k.counted; spare = omega (arith, k.spare, more) }
 
-pub keeps-post : {J P : Type 0} (tj : J → ℕ) (tp : P → ℕ) (jobs jobs' : List J) (job : J) (home : List P) (closed : Bool) (es es' : List HubEntry) (ticket total total' room room' : ℕ)
+pub keeps-post : {J P : Type 0} (tj : J → ℕ) (tp : P → ℕ) (jobs jobs' : List J) (job : J) (home home' : List P) (closed : Bool) (es es' : List HubEntry) (ticket total total' room room' : ℕ)
     → Keeps tj tp jobs home closed es total room
     → jobs' ≡ jobs ++ job ∷ []
+    → home' ≡ home
     → es' ≡ es ++ Post ticket ∷ []
     → ticket ≡ tj job
     → total' ≡ total + 1
     → length es + length jobs + length home + 3 ≤ room'
-    → Keeps tj tp jobs' home closed es' total' room'
-keeps-post tj tp jobs jobs' job home closed es es' ticket total total' room room' k listed noted named counted spare =
-    rw (listed, noted, named)
+    → Keeps tj tp jobs' home' closed es' total' room'
+keeps-post tj tp jobs jobs' job home home' closed es es' ticket total total' room room' k listed same noted named counted spare =
+    rw (listed, same, noted, named)
     (keeps-push tj tp jobs (jobs ++ job ∷ []) home home closed closed es (Post (tj job)) total total' room room' k
     (sym (map-append tj jobs (job ∷ []))) (append-nil (map tp home)) (add-zero _) counted
     (omega (arith, length-append jobs (job ∷ []), spare, bit_below closed)))
