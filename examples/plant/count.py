@@ -10,8 +10,11 @@ import rules
 
 rows = list(csv.DictReader(open(os.path.join(here, "events.csv"))))
 times = [int(row["at"]) for row in rows]
-spans = range(0, times[-1] + 1, 300)
-windows = [[n for n, at in enumerate(times, 1) if begin <= at < begin + 900] for begin in spans]
+windows = [
+    [n for n in range(first, len(rows) + 1) if times[n - 1] < times[first - 1] + 901]
+    for first, row in enumerate(rows, 1)
+    if row["kind"] == "alarm"
+]
 rules.write(
     ["Alarm", "High", "Valve"],
     [("one", ["Alarm"]), ("plus", ["High"]), ("one", ["Valve"])],
@@ -22,6 +25,6 @@ rules.write(
     },
     "FIRST",
     {"Alarm", "Valve"},
-    [window for window in windows if window],
+    windows,
     rows,
 )
