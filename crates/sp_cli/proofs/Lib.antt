@@ -5,3 +5,4 @@ pub mod PairsFound
 pub mod Within
 pub mod Worked
 pub mod PairedCommands
+pub mod Drilled
