@@ -34,6 +34,24 @@ fn words(rt: HostRuntime) -> Result<Vec<String>, AllocError> {
     Ok(words)
 }
 
+// The program's predictors, each in a place of its own.
+#[derive(Drop)]
+struct Predictors {
+    even: Box<Even>,
+    steady: Box<Steady>,
+    markov: Box<Markov>,
+}
+
+impl Predictors {
+    fn new(rt: HostRuntime) -> Result<Predictors, AllocError> {
+        Ok(Predictors {
+            even: Box::new(rt.alloc(), Even::new())?,
+            steady: Box::new(rt.alloc(), Steady::new(STEADY))?,
+            markov: Box::new(rt.alloc(), Markov::new(rt.alloc())?)?,
+        })
+    }
+}
+
 // The status of the command line's words, by the predictors that they may choose. Nothing stands round the
 // jobs of the instances, and what a run ended with is dropped.
 fn run<R: Threads + Wait + Sync>(
@@ -42,10 +60,15 @@ fn run<R: Threads + Wait + Sync>(
     err: &mut StdSink,
 ) -> Result<u8, AllocError> {
     let words = words(rt)?;
-    let mut predictors: Vec<Box<dyn Predictor>> = Vec::new(rt.alloc());
-    predictors.push(Box::new(rt.alloc(), Even::new())?)?;
-    predictors.push(Box::new(rt.alloc(), Steady::new(STEADY))?)?;
-    predictors.push(Box::new(rt.alloc(), Markov::new(rt.alloc())?)?)?;
+    let mut predictors: Vec<Box<dyn Predictor>> = Vec::with_capacity(rt.alloc(), 3)?;
+    let Predictors {
+        even,
+        steady,
+        markov,
+    } = Predictors::new(rt)?;
+    predictors.push_reserved(even);
+    predictors.push_reserved(steady);
+    predictors.push_reserved(markov);
     let mut input = StdSource::new(rt);
     let mut files = StdFiles::new(rt);
     let mut out = StdSink::new(rt, false);
