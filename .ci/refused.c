@@ -6,11 +6,15 @@
 char *getenv(const char *name);
 unsigned long strtoul(const char *text, char **end, int base);
 int *__errno_location(void);
+unsigned alarm(unsigned seconds);
 void *__libc_malloc(unsigned long size);
 void *__libc_calloc(unsigned long count, unsigned long size);
 void *__libc_realloc(void *block, unsigned long size);
 
 static _Atomic unsigned long requests;
+
+// A run that would never end is not left behind where the check itself was ended.
+__attribute__((constructor)) static void begin(void) { alarm(30); }
 
 static int refused(void) {
   unsigned long number = ++requests;
