@@ -1,7 +1,7 @@
 // A hub with one seat, by hand.
-ghost use Rattle.std.specs.Prelude.{◌≡◌};
+ghost use Rattle.std.specs.Prelude.{◌≡◌, ◌<◌, false, Some, None, IfOk};
 
-use sp_hub::{Hub, HubEntry, Named, Naming, Opened, Taken};
+use sp_hub::{Hub, HubEntry, Named, Naming, Opened, Poster, Seat, Taken};
 use std::alloc::Global;
 use std::marker::Brand;
 use std::process::Abort;
@@ -37,19 +37,77 @@ fn by_hand<L: Naming, R: Wait + Abort>(
 {
     let (hub, mut by, mut seats) = Hub::<Note, Note, L>::new(alloc, opened)?;
     let mut seat = seats.pop().ok_or("one seat")?;
-    assert!(rt; matches!(hub.take(rt, &mut seat), Taken::Empty));
-    assert!(rt; hub.post(rt, &mut by, Note { ticket: 1 }).is_ok());
-    let Taken::Job(job) = hub.take(rt, &mut seat) else {
-        return Err("a job".into());
-    };
-    assert_eq!(rt; job.ticket, 1);
-    assert!(rt; hub.collect(rt, &mut by).is_none());
-    hub.put(rt, &mut seat, job);
-    let piece = hub.collect(rt, &mut by).ok_or("a piece")?;
-    assert_eq!(rt; piece.ticket, 1);
+    post_first(rt, &hub, &mut by, &mut seat);
+    let job = take_it(rt, &hub, &mut by, &mut seat)?;
+    bring_home(rt, &hub, &mut by, &mut seat, job)?;
     hub.close(rt, &mut by);
     assert!(rt; matches!(hub.take(rt, &mut seat), Taken::Closed));
     seats.push(seat)?;
+    has_history(rt, hub, by, seats)
+}
+
+// Posts a job where there was none.
+fn post_first<L: Naming, R: Wait + Abort>(
+    rt: &R,
+    hub: &Hub<Note, Note, L>,
+    by: &mut Poster<Note, L>,
+    seat: &mut Seat<Note, L>,
+)
+    requires none { by.old.last ≡ 0 }
+    requires room { by.old.waiting < by.old.room }
+    requires open { by.old.closed ≡ false }
+    requires free { seat.old.holding ≡ None }
+    ensures open { by.new.closed ≡ false }
+    ensures free { seat.new.holding ≡ None }
+{
+    assert!(rt; matches!(hub.take(rt, seat), Taken::Empty));
+    assert!(rt; hub.post(rt, by, Note { ticket: 1 }).is_ok());
+}
+
+// Takes the job, which is not home then.
+fn take_it<L: Naming, R: Wait + Abort>(
+    rt: &R,
+    hub: &Hub<Note, Note, L>,
+    by: &mut Poster<Note, L>,
+    seat: &mut Seat<Note, L>,
+) -> Result<Note, Fail>
+    requires { seat.old.holding ≡ None }
+    ensures open { by.new.closed ≡ by.old.closed }
+    ensures held { IfOk result (λ job. seat.new.holding ≡ Some job.ticket) }
+{
+    let Taken::Job(job) = hub.take(rt, seat) else {
+        return Err("a job".into());
+    };
+    assert!(rt; job.ticket == 1);
+    assert!(rt; hub.collect(rt, by).is_none());
+    Ok(job)
+}
+
+// Puts the job back as its own piece, and collects it.
+fn bring_home<L: Naming, R: Wait + Abort>(
+    rt: &R,
+    hub: &Hub<Note, Note, L>,
+    by: &mut Poster<Note, L>,
+    seat: &mut Seat<Note, L>,
+    job: Note,
+) -> Result<(), Fail>
+    requires held { seat.old.holding ≡ Some job.ticket }
+    ensures free { seat.new.holding ≡ None }
+    ensures open { by.new.closed ≡ by.old.closed }
+{
+    hub.put(rt, seat, job);
+    let piece = hub.collect(rt, by).ok_or("a piece")?;
+    assert!(rt; piece.ticket == 1);
+    Ok(())
+}
+
+// Each call that changed the hub stands in its history, in its order.
+fn has_history<L: Naming, R: Abort>(
+    rt: &R,
+    hub: Hub<Note, Note, L>,
+    by: Poster<Note, L>,
+    seats: Vec<Seat<Note, L>>,
+) -> Result<(), Fail> {
     let Ok(history) = hub.finish(by, seats) else {
         return Err("all seats".into());
     };
@@ -60,8 +118,8 @@ fn by_hand<L: Naming, R: Wait + Abort>(
         HubEntry::Collect { ticket: 1 },
         HubEntry::Close,
     ];
-    assert_eq!(rt; history.entries.as_slice(), expected.as_slice());
-    assert_eq!(rt; history.takes.as_slice(), [1u64].as_slice());
-    assert_eq!(rt; history.puts.as_slice(), [1u64].as_slice());
+    assert!(rt; history.entries.as_slice() == expected.as_slice());
+    assert!(rt; matches!(history.takes.as_slice(), [1]));
+    assert!(rt; matches!(history.puts.as_slice(), [1]));
     Ok(())
 }

@@ -4,25 +4,24 @@ ghost use Rattle.std.specs.Prelude.{◌≡◌};
 use sp_group::{Label, Outcome, Refusal};
 use sp_store::{PutFault, Store};
 use sp_tree::Tree;
+use std::alloc::Global;
+use std::process::Abort;
 use std::test::*;
 
 #[test]
 fn a_store_of_one_is_full_with_one(rt: HostRuntime) -> Result<(), Fail> {
     let mut store = Store::new(rt.alloc(), 1)?;
-    let first = store.put(7u32);
-    assert!(rt; matches!(first, Ok(id) if id == 1));
-    match store.put(8u32) {
-        Err(PutFault::Full { live, bound, value }) => {
-            assert_eq!(rt; live, 1);
-            assert_eq!(rt; bound, 1);
-            assert_eq!(rt; value, 8);
-        }
-        _ => return Err("full".into()),
-    }
-    assert_eq!(rt; store.renew(1), Some(2));
-    assert_eq!(rt; store.get(1), None);
-    assert_eq!(rt; store.take(2), Some(7));
-    assert_eq!(rt; store.live(), 0);
+    let Ok(1) = store.put(7u32) else {
+        return Err("the first id".into());
+    };
+    let Err(PutFault::Full { live, bound, value }) = store.put(8u32) else {
+        return Err("a full store".into());
+    };
+    assert!(rt; live == 1 && bound == 1 && value == 8);
+    assert!(rt; matches!(store.renew(1), Some(2)));
+    assert!(rt; store.get(1).is_none());
+    assert!(rt; matches!(store.take(2), Some(7)));
+    assert!(rt; store.live() == 0);
     Ok(())
 }
 
@@ -32,18 +31,24 @@ fn labels_are_made_and_changed(rt: HostRuntime) -> Result<(), Fail> {
     assert!(rt; Label::new(alloc, &[2, 2])?.is_none());
     assert!(rt; Label::new(alloc, &[0, 3])?.is_none());
     let label = Label::new(alloc, &[1, 3])?.ok_or("a label")?;
-    assert_eq!(rt; label.runs(), [1u32, 3].as_slice());
-    let mut copy = label.copy(alloc)?;
+    assert!(rt; matches!(label.runs(), [1, 3]));
+    let copy = label.copy(alloc)?;
     assert!(rt; copy.same(&label));
-    copy.remove(1);
-    assert!(rt; !copy.has(1));
-    if !copy.has(2) {
-        copy.insert(2)?;
+    assert!(rt; Refusal::NotDone { finished: 0 }.code() == 11);
+    change(&rt, alloc, copy)
+}
+
+// Changes a label of 1 and 3.
+fn change<R: Abort>(rt: &R, alloc: Global, label: Label) -> Result<(), Fail> {
+    let mut label = label;
+    label.remove(1);
+    assert!(rt; !label.has(1));
+    if !label.has(2) {
+        label.insert(2)?;
     }
-    assert_eq!(rt; copy.runs(), [2u32, 3].as_slice());
-    copy.clear();
-    assert!(rt; copy.same(&Label::empty(alloc)));
-    assert_eq!(rt; Refusal::NotDone { finished: 0 }.code(), 11);
+    assert!(rt; matches!(label.runs(), [2, 3]));
+    label.clear();
+    assert!(rt; label.same(&Label::empty(alloc)));
     Ok(())
 }
 
@@ -58,17 +63,14 @@ fn a_tree_of_two_is_full_with_two(rt: HostRuntime) -> Result<(), Fail> {
     let Ok(child) = tree.add(alloc, Some(root), Label::empty(alloc), 'b') else {
         return Err("a child".into());
     };
-    assert_eq!(rt; tree.walk(alloc)?.as_slice(), [1u64, 2].as_slice());
-    match tree.add(alloc, Some(child), Label::empty(alloc), 'c') {
-        Err(PutFault::Full { live, bound, value }) => {
-            assert_eq!(rt; live, 2);
-            assert_eq!(rt; bound, 2);
-            assert_eq!(rt; value, 'c');
-        }
-        _ => return Err("full".into()),
-    }
+    assert!(rt; matches!(tree.walk(alloc)?.as_slice(), [1, 2]));
+    let third = tree.add(alloc, Some(child), Label::empty(alloc), 'c');
+    let Err(PutFault::Full { live, bound, value }) = third else {
+        return Err("a full tree".into());
+    };
+    assert!(rt; live == 2 && bound == 2 && value == 'c');
     tree.open_group(root, 1)?;
-    assert_eq!(rt; tree.decide(root, 1, Outcome::Completed), 1);
-    assert_eq!(rt; tree.child(root, &Label::empty(alloc)), None);
+    assert!(rt; tree.decide(root, 1, Outcome::Completed) == 1);
+    assert!(rt; tree.child(root, &Label::empty(alloc)).is_none());
     Ok(())
 }
