@@ -1,6 +1,6 @@
-//! What no contract says of the threads: that instances take jobs, two at once; that a turn leases what it made
-//! and lets the predictor learn; what the report of a run shows; and single calls of a hub, a store, labels and a
-//! tree. Tests alone.
+//! What no contract says of the threads: that jobs are done at two seats at once, and by two instances; that a turn
+//! leases what it made and lets the predictor learn; which predictor a run has, and what its report shows; and
+//! single calls of a hub, a store, labels and a tree. Tests alone.
 #![tactic(auto)]
 
 #[cfg(test)]
@@ -9,8 +9,6 @@ mod counting;
 mod feeding;
 #[cfg(test)]
 mod hubs;
-#[cfg(test)]
-mod instances;
 #[cfg(test)]
 mod meeting;
 #[cfg(test)]

@@ -1,19 +1,23 @@
 // Turns of a splitter, by hand.
-ghost use Rattle.std.specs.Prelude.{◌≡◌, ◌+◌, false, None};
+ghost use Rattle.std.specs.Prelude.{◌≡◌, ◌≤◌, ◌+◌, [], false, None, IfOk, OnOk};
+ghost use Rattle.std.specs.List.{All};
 ghost use Rattle.sp_splitter.specs.Splitting.{IsBelowKept};
 
 use crate::counting::Counting;
 use crate::feeding::fed;
+use crate::meeting::Meeting;
 use sp_chance::Even;
 use sp_hub::{Hub, Naming, Opened, Poster, Seat, Taken};
-use sp_instance::{OpenGate, do_job};
+use sp_instance::{OpenGate, do_job, work_all};
 use sp_piece::{Job, Piece};
 use sp_splitter::Splitter;
 use std::alloc::Global;
 use std::marker::Brand;
 use std::process::Abort;
-use std::sync::Wait;
+use std::sync::atomic::AtomicU64;
+use std::sync::{Arc, Wait};
 use std::test::*;
+use std::thread::Threads;
 
 // Of four events in windows of four every two, two windows have begun.
 const TWO_WINDOWS: &str = "EVENT (at INT, k TEXT) TIME at PATTERN (A B) \
@@ -23,14 +27,14 @@ const TWO_WINDOWS: &str = "EVENT (at INT, k TEXT) TIME at PATTERN (A B) \
 // Behind an a and a b a match is one event short, and the window is open.
 const ONE_SHORT: &str = "EVENT (at INT, k TEXT) TIME at PATTERN (A B C) \
     DEFINE A AS k = 'a', B AS k = 'b', C AS k = 'c' \
-    WITHIN 6 EVENTS FROM EVERY 6 EVENTS SELECT FIRST CONSUME ALL";
+    WITHIN 4 EVENTS FROM EVERY 2 EVENTS SELECT FIRST CONSUME ALL";
 
 #[test]
 fn a_turn_leases_what_it_made(rt: HostRuntime) -> Result<(), Fail> {
     leases_what_it_made::<Brand, _>(&rt, rt.alloc(), Opened::new(rt.alloc(), 3, 3)?)
 }
 
-fn leases_what_it_made<L: Naming, R: Wait + Abort>(
+fn leases_what_it_made<L: Naming + Send + Sync, R: Threads + Wait + Abort + Sync>(
     rt: &R,
     alloc: Global,
     opened: Opened<Piece>,
@@ -40,13 +44,68 @@ fn leases_what_it_made<L: Naming, R: Wait + Abort>(
 {
     let even = Box::new(alloc, Even::new())?;
     let mut splitter = fed(alloc, TWO_WINDOWS, b"at,k\n1,a\n2,b\n3,a\n4,b\n", 2, even)?;
-    let (hub, mut by, _seats) = Hub::<Job, Piece, L>::new(alloc, opened)?;
-    splitter.turn(rt, alloc, &hub, &mut by)?;
-    for id in [1, 2] {
-        let version = splitter.core().tree().get(id).ok_or("a live version")?;
-        assert!(rt; version.out.is_some(), "version {id}");
+    let (hub, mut by, seats) = Hub::<Job, Piece, L>::new(alloc, opened)?;
+    turn(rt, alloc, &mut splitter, &hub, &mut by)?;
+    assert!(rt; by.waiting() == 2);
+    assert!(rt; is_out(&splitter, 1) && is_out(&splitter, 2));
+    do_both(rt, alloc, hub, by, seats)
+}
+
+// Whether a version is live and out.
+fn is_out(splitter: &Splitter, id: u64) -> bool {
+    match splitter.core().tree().get(id) {
+        Some(version) => version.out.is_some(),
+        None => false,
     }
-    assert_eq!(rt; by.waiting(), 2);
+}
+
+// Closes the hub, on which two jobs are listed, and lets three instances do them, each on a thread of its own: two are
+// at work at once.
+fn do_both<L: Naming + Send + Sync, R: Threads + Wait + Abort + Sync>(
+    rt: &R,
+    alloc: Global,
+    hub: Hub<Job, Piece, L>,
+    by: Poster<Piece, L>,
+    seats: Vec<Seat<Piece, L>>,
+) -> Result<(), Fail>
+    requires open { by.closed ≡ false }
+    requires free { All (λ s. s.holding ≡ None) seats.items }
+{
+    let mut by = by;
+    let mut seats = seats;
+    let gate = Meeting::of_seats();
+    hub.close(rt, &mut by);
+    work_all(rt, alloc, &hub, &mut seats, &gate);
+    assert!(rt; gate.has_met());
+    assert!(rt; is_home(rt, &hub, &mut by));
+    assert!(rt; is_home(rt, &hub, &mut by));
+    were_done(rt, hub, by, seats)
+}
+
+// Whether another piece is home, read whole.
+fn is_home<L: Naming, R: Wait>(
+    rt: &R,
+    hub: &Hub<Job, Piece, L>,
+    by: &mut Poster<Piece, L>,
+) -> bool {
+    match hub.collect(rt, by) {
+        Some(piece) => !piece.short(),
+        None => false,
+    }
+}
+
+// Two jobs have four entries each, and the closing has one; each seat put what it took.
+fn were_done<L: Naming, R: Abort>(
+    rt: &R,
+    hub: Hub<Job, Piece, L>,
+    by: Poster<Piece, L>,
+    seats: Vec<Seat<Piece, L>>,
+) -> Result<(), Fail> {
+    let Ok(history) = hub.finish(by, seats) else {
+        return Err("all seats".into());
+    };
+    assert!(rt; history.entries.as_slice().len() == 9);
+    assert!(rt; history.takes.as_slice() == history.puts.as_slice());
     Ok(())
 }
 
@@ -55,6 +114,7 @@ fn a_turn_lets_the_predictor_learn(rt: HostRuntime) -> Result<(), Fail> {
     lets_the_predictor_learn::<Brand, _>(&rt, rt.alloc(), Opened::new(rt.alloc(), 1, 2)?)
 }
 
+// Two turns, between which the one job is done: a pair is learned then, and held for worth a thousand.
 fn lets_the_predictor_learn<L: Naming, R: Wait + Abort>(
     rt: &R,
     alloc: Global,
@@ -63,36 +123,68 @@ fn lets_the_predictor_learn<L: Naming, R: Wait + Abort>(
     requires named { (opened.name ≡ L.name) × (opened.parts ≡ L.parts) }
     requires one { (opened.seats ≡ 1) × (opened.room ≡ 2) }
 {
-    let counting = Box::new(alloc, Counting { thousands: 0 })?;
-    let mut splitter = fed(alloc, ONE_SHORT, b"at,k\n1,a\n2,b\n", 1, counting)?;
+    let mut splitter = one_short(alloc)?;
     let (hub, mut by, mut seats) = Hub::<Job, Piece, L>::new(alloc, opened)?;
     let seat = seats.pop().ok_or("a seat")?;
-    learns(rt, alloc, &mut splitter, &hub, &mut by, seat)
+    turn(rt, alloc, &mut splitter, &hub, &mut by)?;
+    assert!(rt; chance_of(&splitter) == 0);
+    do_one(rt, alloc, &hub, seat)?;
+    turn(rt, alloc, &mut splitter, &hub, &mut by)?;
+    assert!(rt; chance_of(&splitter) == 1_000);
+    Ok(())
 }
 
-// Two turns, between which the one job is done.
-fn learns<L: Naming, R: Wait + Abort>(
+// A splitter with one instance, and a predictor that has learned nothing yet.
+fn one_short(alloc: Global) -> Result<Splitter, Fail>
+    ensures batch { IfOk result (λ splitter. splitter.batch ≡ 64) }
+    ensures instances { IfOk result (λ splitter. splitter.instances ≡ 1) }
+    ensures kept { IfOk result (λ splitter. splitter.kept.items ≡ []) }
+    ensures next { IfOk result (λ splitter. splitter.core.machine.next_ticket ≡ 1) }
+{
+    let counting = Counting {
+        is_other: false,
+        thousands: 0,
+        weight: 1,
+        calls: Arc::new(alloc, AtomicU64::new(0))?,
+    };
+    fed(
+        alloc,
+        ONE_SHORT,
+        b"at,k\n1,a\n2,b\n",
+        1,
+        Box::new(alloc, counting)?,
+    )
+}
+
+// One turn. What it finished is let go; of what `turn` says stands here what a next one asks for.
+fn turn<L: Naming, R: Wait>(
     rt: &R,
     alloc: Global,
     splitter: &mut Splitter,
     hub: &Hub<Job, Piece, L>,
     by: &mut Poster<Piece, L>,
-    seat: Seat<Piece, L>,
 ) -> Result<(), Fail>
-    requires one { splitter.old.instances ≡ 1 }
-    requires batch { splitter.old.batch ≡ 64 }
+    requires instances { splitter.old.instances ≤ 16 }
+    requires some { 1 ≤ splitter.old.batch }
+    requires most { splitter.old.batch ≤ 1024 }
     requires room { by.old.room ≡ splitter.old.instances + 1 }
     requires open { by.old.closed ≡ false }
     requires last { IsBelowKept by.old.last splitter.old.kept.items
         splitter.old.core.machine.next_ticket }
-    requires free { seat.holding ≡ None }
+    ensures rest { (splitter.new.instances ≡ splitter.old.instances)
+        × (splitter.new.batch ≡ splitter.old.batch) }
+    ensures room { by.new.room ≡ by.old.room }
+    ensures open { by.new.closed ≡ false }
+    ensures last { OnOk result (IsBelowKept by.new.last splitter.new.kept.items
+        splitter.new.core.machine.next_ticket) }
 {
     splitter.turn(rt, alloc, hub, by)?;
-    assert_eq!(rt; splitter.chances().get(1, 1).get(), 0);
-    do_one(rt, alloc, hub, seat)?;
-    splitter.turn(rt, alloc, hub, by)?;
-    assert_eq!(rt; splitter.chances().get(1, 1).get(), 1_000);
     Ok(())
+}
+
+// How likely the first run of the first version is held to complete.
+fn chance_of(splitter: &Splitter) -> u32 {
+    splitter.chances().get(1, 1).get()
 }
 
 // Does the job that is there, at a seat.

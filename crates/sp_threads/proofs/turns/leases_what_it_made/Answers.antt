@@ -1,3 +1,7 @@
+use Rattle.std.proofs.Common.{◌≡◌, None, subst, sym}
+use Rattle.std.specs.List.{All}
+use Rattle.sp_hub.specs.State.{Sitting}
+use Rattle.sp_hub.proofs.Seats.{all_free}
 use denote.Param.Send.{sendable}
 use Rattle.sp_piece.proofs.Crossing.{job_sent, piece_sent}
 use Rattle.sp_threads.proofs.turns.leases_what_it_made.Goals as goal
@@ -10,3 +14,6 @@ new-requires-3-send-P g c κs within = search (piece_sent, sendable) depth 20
 
 pub waiting-requires-send-P : goal.waiting-requires-send-P
 waiting-requires-send-P g c κs within = search (piece_sent, sendable) depth 20
+
+pub do_both-requires-clause-free : goal.do_both-requires-clause-free
+do_both-requires-clause-free g c κs within = subst (All (λ (s : Sitting). s.holding ≡ None)) (sym c.in_ok-hub.ensures.seats) (all_free c.args.opened.seats)

@@ -1,6 +1,6 @@
 use denote.Param.Send.{sendable}
 use Rattle.sp_piece.proofs.Crossing.{job_sent, piece_sent}
-use Rattle.sp_threads.proofs.instances.collect_all.Goals as goal
+use Rattle.sp_threads.proofs.turns.is_home.Goals as goal
 
 pub collect-requires-send-J : goal.collect-requires-send-J
 collect-requires-send-J g c κs within = search (job_sent, sendable) depth 20
