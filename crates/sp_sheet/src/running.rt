@@ -1,0 +1,99 @@
+// The rows of sheets: their calls are made, and what differs is told.
+use crate::call::{Call, Outcome};
+use crate::reader::rows_of;
+use crate::row::Row;
+use crate::telling::tell;
+use std::alloc::{AllocError, Global};
+use std::{env, fs, io};
+
+/// Who makes the calls of rows.
+pub trait Caller {
+    /// What comes of a call.
+    fn outcome(&self, alloc: Global, call: Call) -> Result<Outcome, AllocError>;
+}
+
+// Makes a call of a row, tells how it differs from what is expected, and answers whether it doesn't.
+fn run_call<C: Caller>(
+    caller: &C,
+    rt: HostRuntime,
+    sheet: &str,
+    row: &Row,
+    how: &str,
+    call: Call,
+) -> io::Result<bool> {
+    let came = caller.outcome(rt.alloc(), call)?;
+    let is_well = came == row.expected;
+    if !is_well {
+        eprintln!(rt; "{sheet}: differs: {}{how}", row.name)?;
+        tell(&rt, &row.expected, &came)?;
+    }
+    Ok(is_well)
+}
+
+// What `plain` writes of the same query.
+fn plain_output<C: Caller>(caller: &C, alloc: Global, call: &Call) -> Result<Vec<u8>, AllocError> {
+    Ok(caller.outcome(alloc, call.as_plain(alloc)?)?.output)
+}
+
+// Makes a row's call without an instance, where its words leave their number open.
+fn run_alone<C: Caller>(caller: &C, rt: HostRuntime, sheet: &str, row: &Row) -> io::Result<bool> {
+    if !row.call.leaves_instances() {
+        return Ok(true);
+    }
+    let call = row.call.alone(rt.alloc())?;
+    run_call(caller, rt, sheet, row, ", without an instance", call)
+}
+
+// Runs a row, and answers whether what came is what it says.
+fn run_row<C: Caller>(caller: &C, rt: HostRuntime, sheet: &str, row: &mut Row) -> io::Result<bool> {
+    if row.is_as_plain {
+        row.expected.output = plain_output(caller, rt.alloc(), &row.call)?;
+    }
+    let is_well = run_alone(caller, rt, sheet, row)?;
+    let call = row.call.clone()?;
+    Ok(run_call(caller, rt, sheet, row, "", call)? && is_well)
+}
+
+// Runs the rows, tells those that differ, and prints how many there are where none does.
+fn run_rows<C: Caller>(
+    caller: &C,
+    rt: HostRuntime,
+    sheet: &str,
+    rows: &mut [Row],
+) -> io::Result<bool> {
+    let count = rows.len();
+    let mut is_well = true;
+    for row in rows {
+        is_well &= run_row(caller, rt, sheet, row)?;
+    }
+    if is_well {
+        println!(rt; "{sheet}: {count} rows, all as expected")?;
+    }
+    Ok(is_well)
+}
+
+// Runs a sheet's rows, and answers whether all came as they say.
+fn run_sheet<C: Caller>(caller: &C, rt: HostRuntime, sheet: &str) -> io::Result<bool> {
+    let Ok(text) = fs::read_to_string(&rt, sheet) else {
+        eprintln!(rt; "{sheet}: cannot be read")?;
+        return Ok(false);
+    };
+    match rows_of(rt.alloc(), text.as_str()) {
+        Ok(mut rows) => run_rows(caller, rt, sheet, &mut rows),
+        Err((line, fault)) => {
+            eprintln!(rt; "{sheet}, line {line}: {}", fault.0)?;
+            Ok(false)
+        }
+    }
+}
+
+/// Runs the rows of the sheets that the arguments name, in their order, and a row of `run` or `drill` that names no
+/// number of instances also without one. Tells each row of which something else came than it says, and of each
+/// sheet without such a row how many rows it has. Answers whether all came as they say.
+pub fn run_sheets<C: Caller>(caller: &C, rt: HostRuntime) -> io::Result<bool> {
+    let mut is_well = true;
+    for sheet in env::args(&rt)?.skip(1) {
+        is_well &= run_sheet(caller, rt, sheet.as_str())?;
+    }
+    Ok(is_well)
+}
