@@ -7,11 +7,11 @@ use Rattle.sp_answer.specs.declared.status.Status.{Status}
 use Rattle.sp_answer.specs.declared.status.Status.TheVariants.{Memory, Usage}
 use Rattle.sp_answer.proofs.Answering.{served_weaker}
 use Rattle.sp_cli.specs.Commands.{Command, Speed, run, plain, trace, drill, command_of}
-use Rattle.sp_top.specs.Commands.{IsCommand, HasPredictor, IsCall, IsNoCall, files_of, GivesFiles}
-use Rattle.sp_top.specs.Drill.{DrillOutcome}
-use Rattle.sp_top.specs.Outcome.{Answers, CommandOutcome, IsOutcome}
+use Rattle.sp_commands.specs.Commands.{IsCommand, HasPredictor, IsCall, IsNoCall, files_of, GivesFiles}
+use Rattle.sp_commands.specs.Drill.{DrillOutcome}
+use Rattle.sp_commands.specs.Outcome.{Answers, CommandOutcome, IsOutcome}
 use Rattle.sp_top.proofs.Chosen.{is_there}
-use Rattle.sp_top.proofs.OneCommand.{one_command}
+use Rattle.sp_commands.proofs.OneCommand.{one_command}
 
 pub answers : (predictors words : List (List ℕ)) (command : Command) → IsCall predictors words command → (before after : Filed) (old new : Outside) (s : Status)
     → Served (files_of command) (CommandOutcome command) before after old new (ending s) → Answers predictors words before after old new s

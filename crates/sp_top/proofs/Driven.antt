@@ -35,9 +35,10 @@ use Rattle.sp_split.specs.declared.ended.Went.{Went}
 use Rattle.sp_split.specs.declared.ended.Why.{Why}
 use Rattle.sp_split.specs.declared.ended.Why.TheVariants as why
 use Rattle.sp_split.specs.Driving.{FailedWithin, Drove, FellShort}
-use Rattle.sp_top.specs.Ends.{status_of, status_of_end}
-use Rattle.sp_top.specs.Run.{run_outcome, windows_text, IsPlanRun}
-use Rattle.sp_top.proofs.Running.{no_further_reading, not_cut, only_open, only_ended}
+use Rattle.sp_commands.specs.Ends.{status_of}
+use Rattle.sp_top.specs.RunEnds.{status_of_end}
+use Rattle.sp_commands.specs.Run.{run_outcome, windows_text, IsPlanRun}
+use Rattle.sp_commands.proofs.Running.{no_further_reading, not_cut, only_open, only_ended}
 
 -- what grew by the front of a text grew by a front of more of it
 pub within_longer : (a b : Told) (xs more : List ℕ) → GrewWithin a xs b → GrewWithin a (xs ++ more) b

@@ -1,14 +1,5 @@
-mod Alike
-mod AlikeTraces
 mod Answered
 mod Chosen
-mod Completing
 mod Drilling
 mod Driven
-mod LinesOf
-mod OneCommand
-mod OneOutcome
-mod OneRun
 mod Reporting
-mod Running
-mod Tracing

@@ -30,12 +30,13 @@ use Rattle.sp_split.specs.declared.ended.Why.{Why}
 use Rattle.sp_split.specs.declared.ended.Why.TheVariants as why
 use Rattle.sp_split.specs.Driving.{Drove, CameAbout}
 use Rattle.sp_cli.specs.Commands.{Command, Speed, QuerySource, run, drill}
-use Rattle.sp_top.specs.Commands.{place_of, IsCommand, IsCall, IsNoCall, IsReported}
-use Rattle.sp_top.specs.Ends.{status_of, status_of_end, status_of_refusal}
+use Rattle.sp_commands.specs.Commands.{place_of, IsCommand, IsCall, IsNoCall, IsReported}
+use Rattle.sp_commands.specs.Ends.{status_of, status_of_refusal}
+use Rattle.sp_top.specs.RunEnds.{status_of_end}
 use Rattle.sp_top.specs.Report.{of_run, of_drill, Reported, ReportsPlan, ReportsPlace, ReportsDrill, WhereDone, Reporting}
 use Rattle.sp_top.proofs.Driven.{whole_end, if_some}
-use Rattle.sp_top.proofs.OneCommand.{one_command}
-use Rattle.sp_top.proofs.Running.{only_ended}
+use Rattle.sp_commands.proofs.OneCommand.{one_command}
+use Rattle.sp_commands.proofs.Running.{only_ended}
 
 -- ---- once the input has ended each window is closed
 

@@ -1,11 +1,3 @@
-pub mod Drill
-pub mod Commands
-pub mod Ends
 pub mod Predictors
-pub mod Run
-pub mod Trace
-pub mod Outcome
+pub mod RunEnds
 pub mod Report
-pub mod Alike
-pub mod OneOutcome
-pub mod Completes

@@ -16,7 +16,7 @@ use Rattle.sp_answer.specs.declared.status.Status.TheVariants.{Done}
 use Rattle.sp_cli.specs.Commands.{Command, Speed, QuerySource, run, drill}
 use Rattle.sp_gen.specs.Generated.{generated}
 use Rattle.sp_drill.specs.Query.{drill_query}
-use Rattle.sp_top.specs.Commands.{place_of, IsCall, IsReported}
+use Rattle.sp_commands.specs.Commands.{place_of, IsCall, IsReported}
 
 -- A run of this speed over the whole input, which had these bytes, ended so.
 pub record Reports (speed : Speed) (bytes : List ℕ) (e : Ended) : Type 0 where

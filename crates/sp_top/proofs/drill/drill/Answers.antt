@@ -2,7 +2,7 @@ use Rattle.std.proofs.Common.{ap, sym, subst}
 use Rattle.sp_answer.specs.Outcome.{ending}
 use Rattle.sp_answer.specs.Ran.{outside, Made}
 use Rattle.sp_cli.specs.Commands.{speed_seen}
-use Rattle.sp_top.specs.Drill.{summary_of, DrillOutcome}
+use Rattle.sp_commands.specs.Drill.{summary_of, DrillOutcome}
 use Rattle.sp_top.specs.Report.{ReportsDrill}
 use Rattle.sp_top.specs.declared.workshop.Answer.{Answer}
 use Rattle.sp_top.proofs.Drilling.{end_of, made_summary, made_unwritten}

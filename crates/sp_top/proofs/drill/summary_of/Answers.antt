@@ -1,7 +1,7 @@
 use Rattle.std.proofs.Common.{◌≡◌, ◌∙◌, ℕ, List, length, subst}
 use Rattle.std.specs.Prelude.{string_bytes, IfOk}
 use Rattle.sp_emit.specs.Summary.{summary}
-use Rattle.sp_top.specs.Drill.{summary_of}
+use Rattle.sp_commands.specs.Drill.{summary_of}
 use Rattle.sp_top.proofs.Drilling.{summary_is}
 use Rattle.sp_top.proofs.drill.summary_of.Goals as goal
 

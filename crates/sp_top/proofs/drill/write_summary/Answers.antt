@@ -1,6 +1,6 @@
 use Rattle.std.proofs.Common.{◌∙◌, ℕ, List, refl, subst}
 use Rattle.sp_io.specs.Outside.{Grew, GrewWithin}
-use Rattle.sp_top.specs.Drill.{written, failed, no_memory}
+use Rattle.sp_commands.specs.Drill.{written, failed, no_memory}
 use Rattle.sp_top.proofs.drill.write_summary.Goals as goal
 
 pub returns-in_default : goal.returns-in_default

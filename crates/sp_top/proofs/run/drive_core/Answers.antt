@@ -9,8 +9,8 @@ use Rattle.sp_answer.specs.Ran.{outside, Ran}
 use Rattle.sp_answer.specs.declared.status.Status.{Status}
 use Rattle.sp_split.specs.declared.ended.Went.{Went}
 use Rattle.sp_cli.specs.Commands.{speed_seen}
-use Rattle.sp_top.specs.Ends.{status_of_end}
-use Rattle.sp_top.specs.Run.{IsPlanRun}
+use Rattle.sp_top.specs.RunEnds.{status_of_end}
+use Rattle.sp_commands.specs.Run.{IsPlanRun}
 use Rattle.sp_top.specs.declared.workshop.Answer.{Answer}
 use Rattle.sp_top.proofs.Driven.{outlet, halts, ended_ran, fell_short}
 use Rattle.sp_top.proofs.Reporting.{reports_plan}

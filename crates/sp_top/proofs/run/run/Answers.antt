@@ -4,11 +4,11 @@ use Rattle.sp_answer.specs.Outcome.{ending}
 use Rattle.sp_answer.specs.Promise.{Filed, filed, Served}
 use Rattle.sp_answer.specs.Ran.{Outside, outside}
 use Rattle.sp_cli.specs.Commands.{speed_seen}
-use Rattle.sp_top.specs.Commands.{files_at}
-use Rattle.sp_top.specs.Run.{RunOutcome}
+use Rattle.sp_commands.specs.Commands.{files_at}
+use Rattle.sp_commands.specs.Run.{RunOutcome}
 use Rattle.sp_top.specs.Report.{ReportsPlace, WhereDone}
 use Rattle.sp_top.specs.declared.workshop.Answer.{Answer}
-use Rattle.sp_top.proofs.Running.{ran_served, refused_served}
+use Rattle.sp_commands.proofs.Running.{ran_served, refused_served}
 use Rattle.sp_top.proofs.Reporting.{of_place, refused_undone}
 use Rattle.sp_top.proofs.run.run.Goals as goal
 

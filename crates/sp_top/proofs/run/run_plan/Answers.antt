@@ -9,9 +9,9 @@ use Rattle.sp_intake.proofs.Since.{no_further_none}
 use Rattle.sp_answer.specs.Outcome.{ending}
 use Rattle.sp_answer.specs.Ran.{Outside, outside, Ran}
 use Rattle.sp_cli.specs.Commands.{speed_seen}
-use Rattle.sp_top.specs.Run.{windows_text, IsPlanRun}
+use Rattle.sp_commands.specs.Run.{windows_text, IsPlanRun}
 use Rattle.sp_top.specs.declared.workshop.Answer.{Answer}
-use Rattle.sp_top.proofs.Running.{unread}
+use Rattle.sp_commands.proofs.Running.{unread}
 use Rattle.sp_top.proofs.Driven.{as_run}
 use Rattle.sp_top.proofs.Reporting.{as_report}
 use Rattle.sp_top.proofs.run.run_plan.Goals as goal

@@ -2,7 +2,7 @@ use Rattle.std.proofs.Common.{ℕ, List, Err, map, ap, subst, sym}
 use Rattle.std.specs.Prelude.{string_bytes}
 use Rattle.sp_answer.specs.Promise.{Filed, filed}
 use Rattle.sp_answer.specs.Ran.{Outside, outside}
-use Rattle.sp_top.specs.Outcome.{Answers}
+use Rattle.sp_commands.specs.Outcome.{Answers}
 use Rattle.sp_top.specs.declared.workshop.Answer.{Answer}
 use Rattle.sp_top.proofs.Answered.{refused, no_command, no_memory}
 use Rattle.sp_top.proofs.top.answer.Goals as goal

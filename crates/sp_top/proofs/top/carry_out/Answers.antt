@@ -6,10 +6,10 @@ use Rattle.sp_answer.specs.Outcome.{ending}
 use Rattle.sp_answer.specs.Promise.{Filed, filed, Served}
 use Rattle.sp_answer.specs.Ran.{Outside, outside}
 use Rattle.sp_cli.specs.Commands.{run, plain, trace, drill, source_seen, speed_seen, seen}
-use Rattle.sp_top.specs.Commands.{place_of, files_at, IsCommand}
-use Rattle.sp_top.specs.Outcome.{Answers}
-use Rattle.sp_top.specs.Run.{RunOutcome}
-use Rattle.sp_top.specs.Trace.{TraceOutcome}
+use Rattle.sp_commands.specs.Commands.{place_of, files_at, IsCommand}
+use Rattle.sp_commands.specs.Outcome.{Answers}
+use Rattle.sp_commands.specs.Run.{RunOutcome}
+use Rattle.sp_commands.specs.Trace.{TraceOutcome}
 use Rattle.sp_top.specs.declared.workshop.Answer.{Answer}
 use Rattle.sp_top.proofs.Answered.{answers, no_call, refused, drilled}
 use Rattle.sp_top.proofs.Chosen.{chosen, not_chosen}

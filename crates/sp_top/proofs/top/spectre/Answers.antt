@@ -4,7 +4,7 @@ use Rattle.sp_answer.specs.Outcome.{ending}
 use Rattle.sp_answer.specs.Promise.{Filed, filed}
 use Rattle.sp_answer.specs.Ran.{Outside, outside}
 use Rattle.sp_answer.proofs.Answering.{served_told}
-use Rattle.sp_top.specs.Outcome.{IsOutcome}
+use Rattle.sp_commands.specs.Outcome.{IsOutcome}
 use Rattle.sp_top.proofs.Reporting.{told}
 use Rattle.sp_top.proofs.top.spectre.Goals as goal
 

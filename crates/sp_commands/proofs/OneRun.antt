@@ -1,0 +1,113 @@
+-- Plans that stand for one query are alike, and so have one outcome.
+use Rattle.std.proofs.Common.{◌≡◌, ℕ, zero, suc, Bool, List, [], ◌∷◌, ◌++◌, length, Option, Some, None, refl, sym, ◌∙◌, ap, subst}
+use Rattle.std.specs.Prelude.{slice_get}
+use Rattle.std.specs.List.{fold}
+use Rattle.sp_plan.specs.declared.event.Event.{Event}
+use Rattle.sp_plan.specs.declared.plan.Plan.{Plan}
+use Rattle.sp_plan.specs.declared.plan.Name.{Name}
+use Rattle.sp_plan.specs.declared.plan.Pred.{Pred}
+use Rattle.sp_plan.specs.declared.plan.Opening.{Opening}
+use Rattle.sp_plan.specs.declared.plan.Opening.TheVariants.{EveryEvents, EveryTime, When}
+use Rattle.sp_plan.specs.Lines.{text}
+use Rattle.sp_intake.specs.declared.input.Stop.{Stop}
+use Rattle.sp_plan.specs.Sequential.{Progress, whole}
+use Rattle.sp_plan.specs.Texts.{with_text}
+use Rattle.sp_plan.specs.Values.{BoundEvents, holds}
+use Rattle.sp_query.specs.declared.query.Ident.{Ident}
+use Rattle.sp_query.specs.declared.query.Query.{Query}
+use Rattle.sp_query.specs.declared.query.QueryOpening.{QueryOpening}
+use Rattle.sp_query.specs.declared.query.QueryOpening.TheVariants as o
+use Rattle.sp_query.specs.declared.tree.Tree.{Tree, out-Tree}
+use Rattle.sp_compile.specs.Checks.{scope_of}
+use Rattle.sp_compile.specs.Meaning.{Truth}
+use Rattle.sp_compile.specs.Scopes.{Scope, PatternName, pattern_names}
+use Rattle.sp_compile.specs.Stands.{Literals, none, some, literal_of, all_trees, StandsForDefinition, StandForNames, StandsForOpening, Stands, definition_of}
+use Rattle.sp_compile.specs.Told.{IsPlanOf}
+use Rattle.sp_commands.specs.Alike.{Alike, HoldAlike, NamesAlike, OpeningsAlike}
+use Rattle.sp_answer.specs.Outcome.{outcome}
+use Rattle.sp_commands.specs.Ends.{status_of, reading_outcome}
+use Rattle.sp_commands.specs.Run.{run_outcome, windows_text}
+use Rattle.sp_intake.specs.Reading.{Reading, read, stop_of, is_end}
+use Rattle.sp_commands.proofs.Alike.{read_same, whole_same, lines_same}
+
+-- trees have one list of texts
+one_literals : (trees : List Tree) (a b : List (List ℕ)) → Literals trees a → Literals trees b → a ≡ b
+one_literals _ _ _ none none = refl
+one_literals (_ ∷ _) _ _ (some t rest own others texts parts more is) (some _ _ own' others' texts' parts' more' is') =
+    is ∙ (λ i. literal_of (out-Tree t).node ++ (one_literals (out-Tree t).parts own own' parts parts' i ++ one_literals rest others others' more more' i)) ∙ sym is'
+
+-- what predicates of plans are, given what trees mean
+abbrev pub OneTruth : Type 0
+OneTruth = (scope : Scope) (texts : List (List ℕ)) (event : Event) (bound : BoundEvents) (tree : Tree) (one other : Bool) → Truth scope texts event bound tree one → Truth scope texts event bound tree other → one ≡ other
+
+opening_itself : (x : Opening) → OpeningsAlike x x
+opening_itself (When p) = λ e b. refl
+opening_itself (EveryEvents n) = refl
+opening_itself (EveryTime s) = refl
+
+module _ (truth : OneTruth) (query : Query) (texts : List (List ℕ)) where
+  definition_alike : (name : PatternName) (d : Option (Ident × Tree)) (p r : Pred) → StandsForDefinition query texts name d p → StandsForDefinition query texts name d r → HoldAlike p r
+  definition_alike name None p r first second = λ e b. ap (λ (x : Pred). holds x e b) (first ∙ sym second)
+  definition_alike name (Some define) p r first second = λ e b. truth (scope_of query (Some name)) texts e b define.1 (holds p e b) (holds r e b) (first e b) (second e b)
+
+  names_alike : (names : List (PatternName)) (xs ys : List Name) → StandForNames query texts names xs → StandForNames query texts names ys → (i : ℕ) → NamesAlike (slice_get xs i) (slice_get ys i)
+  names_alike [] [] [] first second i = tt
+  names_alike [] [] (y ∷ ys) first second i = absurd second
+  names_alike [] (x ∷ xs) ys first second i = absurd first
+  names_alike (name ∷ names) [] ys first second i = absurd first
+  names_alike (name ∷ names) (x ∷ xs) [] first second i = absurd second
+  names_alike (name ∷ names) (x ∷ xs) (y ∷ ys) first second zero =
+      (first.0.text ∙ sym second.0.text, first.0.consumed ∙ sym second.0.consumed, definition_alike name (definition_of query name.name.text) x.pred y.pred first.0.pred second.0.pred)
+  names_alike (name ∷ names) (x ∷ xs) (y ∷ ys) first second (suc i) = names_alike names xs ys first.1 second.1 i
+
+  count_alike : (names : List (PatternName)) (xs ys : List Name) → StandForNames query texts names xs → StandForNames query texts names ys → length xs ≡ length ys
+  count_alike [] [] [] first second = refl
+  count_alike [] [] (y ∷ ys) first second = absurd second
+  count_alike [] (x ∷ xs) ys first second = absurd first
+  count_alike (name ∷ names) [] ys first second = absurd first
+  count_alike (name ∷ names) (x ∷ xs) [] first second = absurd second
+  count_alike (name ∷ names) (x ∷ xs) (y ∷ ys) first second = ap suc (count_alike names xs ys first.1 second.1)
+
+  openings_alike : (opening : QueryOpening) (x y : Opening) → StandsForOpening query texts opening x → StandsForOpening query texts opening y → OpeningsAlike x y
+  openings_alike (o.Every number unit span) x y first second = subst (OpeningsAlike x) (first ∙ sym second) (opening_itself x)
+  openings_alike (o.When tree) (When p) (When r) first second = λ e b. truth (scope_of query None) texts e b tree (holds p e b) (holds r e b) (first e b) (second e b)
+  openings_alike (o.When tree) (When p) (EveryEvents n) first second = absurd second
+  openings_alike (o.When tree) (When p) (EveryTime s) first second = absurd second
+  openings_alike (o.When tree) (EveryEvents n) y first second = absurd first
+  openings_alike (o.When tree) (EveryTime s) y first second = absurd first
+
+module _ (truth : OneTruth) (query : Query) (x y : Plan) (first : Stands x query) (second : Stands y query) where
+  texts_alike : x.texts ≡ y.texts
+  texts_alike = first.texts ∙ ap (fold with_text []) (one_literals (all_trees query) first.literals second.literals first.of_trees second.of_trees) ∙ sym second.texts
+
+  pub stand_alike : Alike x y
+  stand_alike =
+      let names = subst (λ (texts : List (List ℕ)). StandForNames query texts (pattern_names query) y.names) (sym texts_alike) second.names in
+      let opening = subst (λ (texts : List (List ℕ)). StandsForOpening query texts query.opening y.opening) (sym texts_alike) second.opening in
+      record {
+        schema = λ i. record { columns = (first.columns ∙ sym second.columns) i; time = (first.time ∙ sym second.time) i };
+        texts = texts_alike;
+        count = count_alike truth query x.texts (pattern_names query) x.names y.names first.names names;
+        names = names_alike truth query x.texts (pattern_names query) x.names y.names first.names names;
+        elements = first.elements ∙ sym second.elements;
+        select = first.select ∙ sym second.select;
+        length_is = first.length ∙ sym second.length;
+        opening = openings_alike truth query x.texts query.opening x.opening y.opening first.opening opening;
+      }
+
+-- alike plans have one outcome, where their texts are one
+module _ (x y : Plan) (alike : Alike x y) where
+  pub outcome_by : (T : Plan → List Event → Stop → List ℕ) → ((events : List Event) (stop : Stop) → T x events stop ≡ T y events stop)
+      → (bytes : List ℕ) (ended : Bool) → reading_outcome x (T x) bytes ended ≡ reading_outcome y (T y) bytes ended
+  outcome_by T same bytes ended =
+      let r = read y bytes ended in
+      ap (λ (one : Reading). outcome (status_of (stop_of one ended)) (T x one.events (stop_of one ended))) (read_same x y alike bytes ended)
+      ∙ ap (outcome (status_of (stop_of r ended))) (same r.events (stop_of r ended))
+
+  text_same : (events : List Event) (stop : Stop) → windows_text x events stop ≡ windows_text y events stop
+  text_same events stop = lines_same x y alike (whole x events (is_end stop)).matches ∙ ap (λ (w : Progress). text y w.matches) (whole_same x y alike events (is_end stop))
+
+pub plans_run_alike : OneTruth → (query : Query) (x y : Plan) → IsPlanOf x query → IsPlanOf y query → (bytes : List ℕ) (ended : Bool) → run_outcome x bytes ended ≡ run_outcome y bytes ended
+plans_run_alike truth query x y first second =
+    let alike = stand_alike truth query x y first.stands second.stands in
+    outcome_by x y alike windows_text (text_same x y alike)

@@ -1,0 +1,5 @@
+use Rattle.sp_commands.proofs.Completing.{completes}
+use Rattle.sp_commands.proofs.law.completes.Goals as goal
+
+pub returns : goal.returns
+returns c = completes c.one_reading.ensures c.one_schedule.ensures c.one_truth.ensures.truth c.rows_stay.ensures

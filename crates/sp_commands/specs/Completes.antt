@@ -1,0 +1,90 @@
+-- Where nothing stands in the way, a call answers done or want of memory.
+use Rattle.std.specs.Prelude.{◌≡◌, ◌⊎◌, ◌≤◌, ℕ, true, List, [], length, Some}
+use Rattle.sp_io.specs.Outside.{SourceState, SinkState, ToldFiles, Grew, Rose, first_file}
+use Rattle.sp_plan.specs.declared.event.Event.{Event}
+use Rattle.sp_plan.specs.declared.plan.Plan.{Plan}
+use Rattle.sp_plan.specs.Lines.{text}
+use Rattle.sp_plan.specs.Sequential.{whole}
+use Rattle.sp_sched.specs.Schedules.{IsSchedule}
+use Rattle.sp_sched.specs.declared.step.TraceStep.{TraceStep}
+use Rattle.sp_trace.specs.Traced.{traced}
+use Rattle.sp_intake.specs.declared.input.Stop.TheVariants.{End}
+use Rattle.sp_intake.specs.Reading.{read, stop_of}
+use Rattle.sp_load.specs.Places.{Place, word, file, longest_query, without_mark}
+use Rattle.sp_load.specs.Queries.{IsPlanFor}
+use Rattle.sp_answer.specs.Ran.{Outside}
+use Rattle.sp_answer.specs.Promise.{Filed, NoFaultRose}
+use Rattle.sp_cli.specs.Commands.{Speed, QuerySource, run, plain, trace, drill}
+use Rattle.sp_drill.specs.Query.{drill_query}
+use Rattle.sp_commands.specs.Commands.{place_of, IsCall, GivesFiles}
+use Rattle.sp_commands.specs.Drill.{drill_text}
+use Rattle.sp_commands.specs.Outcome.{Promise}
+use Rattle.sp_commands.specs.Trace.{longest_schedule}
+
+-- The query's text stands there and is within its limit; of a file the bytes are told.
+pub data StandsAt (files : ToldFiles) : Place → List ℕ → Type 0 where
+  in_word : (query_text : List ℕ) → length query_text ≤ longest_query → StandsAt files (word query_text) query_text
+  in_file : (told : List (List ℕ × List ℕ)) (name content : List ℕ) → files ≡ Some told → first_file told name ≡ Some content → length content ≤ longest_query
+      → StandsAt files (file name) (without_mark content)
+
+-- The file of this name is told, within its limit, and is a schedule of these steps.
+pub record TellsSchedule (files : ToldFiles) (name : List ℕ) (steps : List TraceStep) : Type 0 where
+  pub told : List (List ℕ × List ℕ)
+  pub content : List ℕ
+  pub are : files ≡ Some told
+  pub holds : first_file told name ≡ Some content
+  pub short : length content ≤ longest_schedule
+  pub is : IsSchedule content steps
+
+-- the text of the matches of all windows of these events
+abbrev pub whole_text : Plan → List Event → List ℕ
+whole_text q events = text q (whole q events true).matches
+
+-- The words are a command whose predictor is there and whose query compiles, and where it is a trace the schedule has no bad line: this is
+-- a plan of the query, and the text that the command gives for events that were read whole.
+pub data AsksFor (predictors words : List (List ℕ)) (files : ToldFiles) (q : Plan) : (List Event → List ℕ) → Type 0 where
+  for_run : (source : QuerySource) (speed : Speed) (query : List ℕ) → IsCall predictors words (run source speed) → StandsAt files (place_of source) query
+      → IsPlanFor query q → AsksFor predictors words files q (whole_text q)
+  for_plain : (source : QuerySource) (query : List ℕ) → IsCall predictors words (plain source) → StandsAt files (place_of source) query → IsPlanFor query q
+      → AsksFor predictors words files q (whole_text q)
+  for_trace : (source : QuerySource) (query schedule : List ℕ) (bound : ℕ) (steps : List TraceStep) → IsCall predictors words (trace source schedule bound)
+      → StandsAt files (place_of source) query → IsPlanFor query q → TellsSchedule files schedule steps
+      → AsksFor predictors words files q (λ events. traced q bound events steps)
+
+-- The input has just these bytes, and the reading of all of them stops at their end, at no faulty row and at no limit.
+pub record ReadsToEnd (q : Plan) (input : SourceState) (bytes : List ℕ) : Type 0 where
+  pub told : input.left ≡ Some bytes
+  pub stop : stop_of (read q bytes true) true ≡ End
+
+-- No count of faults rose: not that of the input, nor of the output, nor of a file that the words give.
+abbrev pub NoneRose : List (List ℕ) → List (List ℕ) → Filed → Filed → Outside → Outside → Type 0
+NoneRose predictors words before after old new = (names : List (List ℕ)) → GivesFiles predictors words names → NoFaultRose names before after old new
+
+-- The call is done: nothing of the input is left, and the output grew by the whole text for all its events.
+pub record IsDone (text_for : List Event → List ℕ) (q : Plan) (bytes : List ℕ) (old new : Outside) (result : ℕ) : Type 0 where
+  pub number : result ≡ 0
+  pub nothing_left : new.input.left ≡ Some []
+  pub text : Grew old.out.held (text_for (read q bytes true).events) new.out.held
+
+-- Words that ask for a text by a plan, input that is read to its end, and no fault: whatever call keeps the promise is done, or answers want of memory.
+abbrev pub Completes : Type 0
+Completes = (predictors words : List (List ℕ)) (before after : Filed) (old new : Outside) (err_old err_new : SinkState) (result : ℕ) (q : Plan) (bytes : List ℕ)
+    (text_for : List Event → List ℕ)
+    → Promise predictors words before after old new err_old err_new result
+    → AsksFor predictors words before.held q text_for → ReadsToEnd q old.input bytes → NoneRose predictors words before after old new
+    → IsDone text_for q bytes old new result ⊎ (result ≡ 1)
+
+-- A drill was done: the output grew by its text.
+pub record IsDrilled (events seed : ℕ) (old new : SinkState) (result : ℕ) : Type 0 where
+  pub plan : Plan
+  pub is : IsPlanFor drill_query plan
+  pub number : result ≡ 0
+  pub text : Grew old.held (drill_text plan events seed) new.held
+
+-- Words that ask for a drill, and no fault of the output: whatever call keeps the promise is done, or answers want of memory.
+abbrev pub DrillCompletes : Type 0
+DrillCompletes = (predictors words : List (List ℕ)) (before after : Filed) (old new : Outside) (err_old err_new : SinkState) (result : ℕ)
+    (events seed : ℕ) (speed : Speed)
+    → Promise predictors words before after old new err_old err_new result
+    → IsCall predictors words (drill events seed speed) → (Rose old.out.faults new.out.faults → ⊥)
+    → IsDrilled events seed old.out new.out result ⊎ (result ≡ 1)

@@ -1,0 +1,35 @@
+-- What words come to, and what a call answers to them.
+use Rattle.std.specs.Prelude.{◌≡◌, ◌⊎◌, ℕ, Bool, List}
+use Rattle.sp_io.specs.Outside.{SinkState, ToldFiles}
+use Rattle.sp_answer.specs.Outcome.{Outcome, ending, nothing_for}
+use Rattle.sp_answer.specs.Ran.{Outside}
+use Rattle.sp_answer.specs.Promise.{Filed, Served, Promise as PromiseOf}
+use Rattle.sp_answer.specs.declared.status.Status.{Status}
+use Rattle.sp_answer.specs.declared.status.Status.TheVariants.{Usage}
+use Rattle.sp_cli.specs.Commands.{Command, run, plain, trace, drill}
+use Rattle.sp_commands.specs.Commands.{place_of, IsCall, IsNoCall, GivesFiles}
+use Rattle.sp_commands.specs.Drill.{DrillOutcome}
+use Rattle.sp_commands.specs.Run.{RunOutcome}
+use Rattle.sp_commands.specs.Trace.{TraceOutcome}
+
+-- the outcome of a command over what the files hold and the bytes taken from the input
+abbrev pub CommandOutcome : Command → ToldFiles → List ℕ → Bool → Outcome → Type 0
+CommandOutcome (run query speed) = RunOutcome (place_of query)
+CommandOutcome (plain query) = RunOutcome (place_of query)
+CommandOutcome (trace query schedule live) = TraceOutcome (place_of query) schedule live
+CommandOutcome (drill events seed speed) = λ held bytes ended. DrillOutcome events seed
+
+-- the outcome of the words, where predictors of these names are given
+abbrev pub IsOutcome : List (List ℕ) → List (List ℕ) → ToldFiles → List ℕ → Bool → Outcome → Type 0
+IsOutcome predictors words held bytes ended o =
+    (IsNoCall predictors words × (o ≡ nothing_for Usage))
+    ⊎ ((command : Command) × IsCall predictors words command × CommandOutcome command held bytes ended o)
+
+-- what was answered to the words, before its line is told
+abbrev pub Answers : List (List ℕ) → List (List ℕ) → Filed → Filed → Outside → Outside → Status → Type 0
+Answers predictors words before after old new status =
+    (names : List (List ℕ)) × GivesFiles predictors words names × Served names (IsOutcome predictors words) before after old new (ending status)
+
+-- the promise of the program to the words, where predictors of these names are given
+abbrev pub Promise : List (List ℕ) → List (List ℕ) → Filed → Filed → Outside → Outside → SinkState → SinkState → ℕ → Type 0
+Promise predictors words = PromiseOf (GivesFiles predictors words) (IsOutcome predictors words)

@@ -1,0 +1,32 @@
+-- What a run comes to: the query that stands there, window by window over the input.
+use Rattle.std.specs.Prelude.{◌≡◌, ℕ, Bool, List}
+use Rattle.sp_io.specs.Outside.{ToldFiles}
+use Rattle.sp_plan.specs.declared.event.Event.{Event}
+use Rattle.sp_plan.specs.declared.plan.Plan.{Plan}
+use Rattle.sp_plan.specs.Sequential.{whole}
+use Rattle.sp_plan.specs.Lines.{text}
+use Rattle.sp_intake.specs.Reading.{is_end}
+use Rattle.sp_intake.specs.declared.input.Stop.{Stop}
+use Rattle.sp_load.specs.Places.{Place, longest_query, IsLonger}
+use Rattle.sp_load.specs.Queries.{IsPlanAt, IsFaultyAt}
+use Rattle.sp_answer.specs.Outcome.{Outcome, nothing_for}
+use Rattle.sp_answer.specs.declared.status.Status.TheVariants.{Query, Limited}
+use Rattle.sp_commands.specs.Ends.{reading_outcome}
+
+-- the text of the windows that these events have closed
+abbrev pub windows_text : Plan → List Event → Stop → List ℕ
+windows_text q events stop = text q (whole q events (is_end stop)).matches
+
+-- what a run of a plan over these bytes comes to
+abbrev pub run_outcome : Plan → List ℕ → Bool → Outcome
+run_outcome q bytes ended = reading_outcome q (windows_text q) bytes ended
+
+-- the outcome of a plan
+abbrev pub IsPlanRun : Plan → List ℕ → Bool → Outcome → Type 0
+IsPlanRun q bytes ended o = o ≡ run_outcome q bytes ended
+
+-- The outcome of a run of the query that stands there, over what the files hold and the bytes taken from the input.
+pub data RunOutcome (place : Place) (held : ToldFiles) (bytes : List ℕ) (ended : Bool) : Outcome → Type 0 where
+  too_long : IsLonger held longest_query place → RunOutcome place held bytes ended (nothing_for (Limited longest_query))
+  faulty : (code at : ℕ) → IsFaultyAt held place code at → RunOutcome place held bytes ended (nothing_for (Query code at))
+  runs : (q : Plan) → IsPlanAt held place q → RunOutcome place held bytes ended (run_outcome q bytes ended)

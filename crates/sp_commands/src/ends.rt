@@ -1,0 +1,31 @@
+// The status of each cause that ends a command.
+ghost use Rattle.std.specs.Prelude.{◌≡◌};
+ghost use Rattle.sp_commands.specs.Ends as ends;
+
+use sp_answer::Status;
+use sp_intake::{Failure, Stop};
+use sp_load::Refusal;
+
+/// Why the reading of the input stopped.
+pub fn status_of(stop: Stop) -> Status
+    ensures { result ≡ ends.status_of stop }
+{
+    match stop {
+        Stop::End => Status::Done,
+        Stop::Failed(Failure::Row { code, row, column }) => Status::Input { code, row, column },
+        Stop::Failed(Failure::Limit { limit }) => Status::Limited { limit },
+        Stop::Open => Status::Read,
+    }
+}
+
+/// Why a file was not loaded, or why there is no plan.
+pub fn status_of_refusal(refusal: Refusal) -> Status
+    ensures { result ≡ ends.status_of_refusal refusal }
+{
+    match refusal {
+        Refusal::Memory => Status::Memory,
+        Refusal::Read => Status::Read,
+        Refusal::Limited { limit } => Status::Limited { limit },
+        Refusal::Query { code, place } => Status::Query { code, place },
+    }
+}

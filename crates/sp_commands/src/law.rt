@@ -1,0 +1,49 @@
+// Laws of what the program promises.
+ghost use Rattle.sp_commands.specs.Alike.{PlansRunAlike};
+ghost use Rattle.sp_commands.specs.OneOutcome.{OneOutcome};
+ghost use Rattle.sp_commands.specs.Completes.{Completes, DrillCompletes};
+
+use sp_compile::one_truth;
+use sp_cut::rows_stay;
+use sp_load::{one_reading, one_text};
+use sp_sched::one_schedule;
+
+/// Law: plans that stand for one query have one outcome over all bytes, status and text.
+pub fn plans_run_alike()
+    ensures { PlansRunAlike }
+{
+    // a law: a predicate of a query is true or not
+    one_truth();
+}
+
+/// Law: words, files that are told and bytes have at most one outcome: one status, one line and one text.
+pub fn one_outcome()
+    ensures { OneOutcome }
+{
+    // laws: what stands at a place, what its text comes to, what its predicates mean, and what a
+    // schedule is is one thing each
+    one_text();
+    one_reading();
+    one_truth();
+    one_schedule();
+}
+
+/// Law: words that give a command, a text or file within its limit, a query that compiles, a schedule
+/// without a bad line where one is named, input whose reading stops at its end, and no count of faults
+/// that rose give status 0 and the whole text, or status 1 for want of memory.
+pub fn completes()
+    ensures { Completes }
+{
+    // laws: what texts of queries and schedules come to is one thing, and a row stays a row whatever
+    // comes behind
+    one_reading();
+    one_schedule();
+    one_truth();
+    rows_stay();
+}
+
+/// Law: words that give a drill and an output whose count of faults did not rise give status 0 and the
+/// summary, or status 1 for want of memory.
+pub fn drills_complete()
+    ensures { DrillCompletes }
+{}

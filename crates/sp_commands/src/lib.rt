@@ -1,0 +1,16 @@
+//! What commands are and come to, for all of them, with the laws of it; and those that need no thread: `plain`, window
+//! by window, and `trace`, the machine as a schedule steps it. What words promise is `Promise` of `specs/Outcome.antt`.
+#![tactic(auto)]
+
+mod asked;
+mod ends;
+mod law;
+mod output;
+mod scheduled;
+mod windowed;
+
+pub use asked::{Trace, place_of};
+pub use ends::{status_of, status_of_refusal};
+pub use law::{completes, drills_complete, one_outcome, plans_run_alike};
+pub use scheduled::trace;
+pub use windowed::{plain, shared};

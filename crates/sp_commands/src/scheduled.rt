@@ -1,0 +1,226 @@
+// The command `trace`: the machine over the input, as a schedule steps it.
+ghost use Rattle.std.specs.Prelude.{◌≡◌, ◌≢◌, ◌≤◌, ℕ, List, [], ◌∷◌, ◌++◌, false, length, IfOk, IfErr, Err};
+ghost use Rattle.std.specs.Arc.{arc_value};
+ghost use Rattle.std.specs.List.{All};
+ghost use Rattle.sp_plan.specs.Compiled.{IsCompiled};
+ghost use Rattle.sp_plan.specs.Events.{AllFit, NeverGoesBack};
+ghost use Rattle.sp_sched.specs.Schedules.{CanStand, IsSchedule};
+ghost use Rattle.sp_trace.specs.Traced.{traced};
+ghost use Rattle.sp_load.specs.Places.{place_of, text_of, longest_query, HasText};
+ghost use Rattle.sp_load.specs.Queries.{IsPlanFor};
+ghost use Rattle.sp_answer.specs.Outcome.{ending};
+ghost use Rattle.sp_answer.specs.Promise.{filed, Served};
+ghost use Rattle.sp_answer.specs.Ran.{outside, Ran};
+ghost use Rattle.sp_answer.specs.Written.{WritesText};
+ghost use Rattle.sp_commands.specs.Commands.{files_at};
+ghost use Rattle.sp_commands.specs.Trace.{
+  AnswersTexts,
+  HasSchedule,
+  IsPlanTrace,
+  OneRose,
+  RefusesTexts,
+  RefusesTrace,
+  TextsOutcome,
+  TraceOutcome,
+};
+
+use crate::asked::Trace;
+use crate::ends::{status_of, status_of_refusal};
+use crate::output::write_texts;
+use crate::windowed::shared;
+use sp_answer::{Status, Written};
+use sp_intake::read_input;
+use sp_io::{Files, Sink, Source};
+use sp_load::{Place, QueryText, Refusal, load_file, plan_of_text, text_at};
+use sp_plan::{Event, Memory, Plan};
+use sp_sched::{SchedFault, TraceStep, read_schedule};
+use sp_trace::Tracer;
+use std::alloc::Global;
+use std::sync::Arc;
+
+// The greatest length of a schedule's file.
+const LONGEST: u32 = 1_048_576;
+
+// The text of the query, and all bytes of the schedule's file.
+#[derive(Drop)]
+struct Texts<'a> {
+    query: QueryText<'a>,
+    schedule: Vec<u8>,
+}
+
+// The plan of the query, and the steps of the schedule.
+#[derive(Drop)]
+struct Task {
+    plan: Plan,
+    steps: Vec<TraceStep>,
+}
+
+// The texts of a trace, or why there are none.
+fn load_texts<'a, F: Files>(
+    alloc: Global,
+    place: Place<'a>,
+    schedule: &str,
+    files: &mut F,
+) -> Result<Texts<'a>, Refusal>
+    ensures query { IfOk result
+        (λ texts. HasText (F.held files.old) (place_of place.entry) (text_of texts.query)) }
+    ensures short { IfOk result (λ texts. length (text_of texts.query) ≤ longest_query) }
+    ensures schedule { IfOk result
+        (λ texts. HasSchedule (F.held files.old) schedule.now texts.schedule.items) }
+    ensures refused { IfErr result
+        (RefusesTexts (F.held files.old) (place_of place.entry) schedule.now) }
+    ensures held { F.held files.new ≡ F.held files.old }
+    ensures fault { let names = files_at (place_of place.entry) ++ schedule.now ∷ [] in
+        result ≡ Err Refusal.Read → OneRose names (F.faults files.old) (F.faults files.new) }
+    ensures no_fault { result ≢ Err Refusal.Read → (name : List ℕ)
+        → F.faults files.new name ≡ F.faults files.old name }
+{
+    let query = match text_at(alloc, place, files) {
+        Ok(query) => query,
+        Err(refusal) => return Err(refusal),
+    };
+    match load_file(alloc, schedule, LONGEST, files) {
+        Ok(schedule) => Ok(Texts { query, schedule }),
+        Err(refusal) => Err(refusal),
+    }
+}
+
+// What the texts ask for, or the status that refuses them: a fault of the query counts before a bad line
+// of the schedule.
+fn task_of(alloc: Global, texts: &Texts) -> Result<Task, Status>
+    requires short { length (text_of texts.now.query) ≤ longest_query }
+    requires few { length texts.now.schedule.items ≤ 1048576 }
+    ensures plan { IfOk result (λ task. IsPlanFor (text_of texts.now.query) task.plan) }
+    ensures steps { IfOk result (λ task. IsSchedule texts.now.schedule.items task.steps.items) }
+    ensures refused { IfErr result
+        (RefusesTrace (text_of texts.now.query) texts.now.schedule.items) }
+{
+    let plan = match plan_of_text(alloc, &texts.query) {
+        Ok(plan) => plan,
+        Err(refusal) => return Err(status_of_refusal(refusal)),
+    };
+    match read_schedule(alloc, &texts.schedule) {
+        Ok(steps) => Ok(Task { plan, steps }),
+        Err(SchedFault::BadStep { line }) => Err(Status::Schedule { line }),
+        Err(SchedFault::Memory) => Err(Status::Memory),
+    }
+}
+
+// Prints the run of a plan over all events, line by line.
+fn print_trace<K: Sink>(
+    alloc: Global,
+    plan: Arc<Plan>,
+    live: u32,
+    events: Vec<Event>,
+    steps: &[TraceStep],
+    out: &mut K,
+) -> Result<Written, Memory>
+    requires compiled { IsCompiled (arc_value plan) }
+    requires some { 1 ≤ live }
+    requires most { live ≤ 4096 }
+    requires fit { AllFit (arc_value plan) events.items }
+    requires ordered { NeverGoesBack events.items }
+    requires steps { All CanStand steps.now }
+    ensures { let text = traced (arc_value plan) live events.items steps.now in
+        WritesText text (K.state out.old) (K.state out.new) result }
+{
+    let mut tracer = Tracer::new(alloc, plan, live, events)?;
+    for step in steps {
+        let lines = tracer.step(alloc, step)?;
+        match write_texts(&lines, out) {
+            Written::All => {}
+            Written::Failed => return Ok(Written::Failed),
+        }
+    }
+    Ok(Written::All)
+}
+
+// Reads the input whole, and prints the run of the task over its events where it was read to its end.
+fn trace_task<S: Source, K: Sink>(
+    alloc: Global,
+    task: Task,
+    live: u32,
+    input: &mut S,
+    out: &mut K,
+) -> Status
+    requires compiled { IsCompiled task.plan }
+    requires some { 1 ≤ live }
+    requires most { live ≤ 4096 }
+    requires steps { All CanStand task.steps.items }
+    requires not_ended { (S.state input.old).ended ≡ false }
+    ensures { Ran (IsPlanTrace task.plan live task.steps.items)
+        (outside (S.state input.old) (K.state out.old))
+        (outside (S.state input.new) (K.state out.new))
+        (ending result) }
+{
+    let Task { plan, steps } = task;
+    let Ok(plan) = shared(alloc, plan) else {
+        return Status::Memory;
+    };
+    let Ok(given) = read_input(alloc, &plan, input) else {
+        return Status::Memory;
+    };
+    if !given.stop.is_end() {
+        return status_of(given.stop);
+    }
+    match print_trace(alloc, plan, live, given.events, &steps, out) {
+        Ok(Written::All) => Status::Done,
+        Ok(Written::Failed) => Status::Write,
+        Err(_) => Status::Memory,
+    }
+}
+
+// Traces what the texts ask for.
+fn trace_texts<S: Source, K: Sink>(
+    alloc: Global,
+    texts: &Texts,
+    live: u32,
+    input: &mut S,
+    out: &mut K,
+) -> Status
+    requires short { length (text_of texts.now.query) ≤ longest_query }
+    requires few { length texts.now.schedule.items ≤ 1048576 }
+    requires some { 1 ≤ live }
+    requires most { live ≤ 4096 }
+    requires not_ended { (S.state input.old).ended ≡ false }
+    ensures { AnswersTexts (TextsOutcome (text_of texts.now.query) texts.now.schedule.items live)
+        (outside (S.state input.old) (K.state out.old))
+        (outside (S.state input.new) (K.state out.new))
+        (ending result) }
+{
+    match task_of(alloc, texts) {
+        Ok(task) => trace_task(alloc, task, live, input, out),
+        Err(status) => status,
+    }
+}
+
+/// Steps the machine over the input by the schedule, and prints what each of its lines does.
+pub fn trace<S: Source, F: Files, K: Sink>(
+    alloc: Global,
+    asked: Trace,
+    input: &mut S,
+    files: &mut F,
+    out: &mut K,
+) -> Status
+    requires some { 1 ≤ asked.live }
+    requires most { asked.live ≤ 4096 }
+    requires not_ended { (S.state input.old).ended ≡ false }
+    ensures { let place = place_of asked.entry.place in
+        let name = asked.entry.schedule.now in
+        Served (files_at place ++ name ∷ []) (TraceOutcome place name asked.entry.live)
+        (filed (F.held files.old) (F.faults files.old))
+        (filed (F.held files.new) (F.faults files.new))
+        (outside (S.state input.old) (K.state out.old))
+        (outside (S.state input.new) (K.state out.new))
+        (ending result) }
+{
+    let Trace {
+        place,
+        schedule,
+        live,
+    } = asked;
+    match load_texts(alloc, place, schedule, files) {
+        Ok(texts) => trace_texts(alloc, &texts, live, input, out),
+        Err(refusal) => status_of_refusal(refusal),
+    }
+}

@@ -1,0 +1,91 @@
+// The command `plain`: a query over the input, window by window.
+ghost use Rattle.std.specs.Prelude.{◌≡◌, ◌≤◌, false, length, IfOk};
+ghost use Rattle.std.specs.Arc.{arc_value};
+ghost use Rattle.sp_plan.specs.Compiled.{IsCompiled};
+ghost use Rattle.sp_plan.specs.Events.{AllFit, NeverGoesBack};
+ghost use Rattle.sp_load.specs.Places.{place_of};
+ghost use Rattle.sp_answer.specs.Outcome.{ending};
+ghost use Rattle.sp_answer.specs.Promise.{filed, Served};
+ghost use Rattle.sp_answer.specs.Ran.{outside, Ran};
+ghost use Rattle.sp_answer.specs.Written.{WritesText};
+ghost use Rattle.sp_commands.specs.Commands.{files_at};
+ghost use Rattle.sp_commands.specs.Run.{windows_text, IsPlanRun, RunOutcome};
+
+use crate::ends::{status_of, status_of_refusal};
+use crate::output::write_lines;
+use sp_answer::{Status, Written};
+use sp_intake::{Given, read_input};
+use sp_io::{Files, Sink, Source};
+use sp_load::{Place, plan_at};
+use sp_plan::{Memory, Plan};
+use std::alloc::Global;
+use std::sync::Arc;
+
+/// The plan, to be held by several owners.
+pub fn shared(alloc: Global, plan: Plan) -> Result<Arc<Plan>, Memory>
+    ensures { IfOk result (λ arc. arc_value arc ≡ plan) }
+{
+    Ok(Arc::new(alloc, plan)?)
+}
+
+// Writes the lines of the windows that the events closed.
+fn write_windows<K: Sink>(
+    alloc: Global,
+    plan: &Arc<Plan>,
+    given: &Given,
+    out: &mut K,
+) -> Result<Written, Memory>
+    requires compiled { IsCompiled (arc_value plan.now) }
+    requires few { length given.now.events.items ≤ 1048576 }
+    requires fit { AllFit (arc_value plan.now) given.now.events.items }
+    requires ordered { NeverGoesBack given.now.events.items }
+    ensures { let text = windows_text (arc_value plan.now) given.now.events.items given.now.stop in
+        WritesText text (K.state out.old) (K.state out.new) result }
+{
+    let matches = sp_seq::plain(alloc, plan.clone()?, &given.events, given.stop.is_end())?;
+    write_lines(alloc, plan, &matches, out)
+}
+
+// Runs a plan over the input.
+fn run_plan<S: Source, K: Sink>(alloc: Global, plan: Plan, input: &mut S, out: &mut K) -> Status
+    requires compiled { IsCompiled plan }
+    requires not_ended { (S.state input.old).ended ≡ false }
+    ensures { Ran (IsPlanRun plan)
+        (outside (S.state input.old) (K.state out.old))
+        (outside (S.state input.new) (K.state out.new))
+        (ending result) }
+{
+    let Ok(plan) = shared(alloc, plan) else {
+        return Status::Memory;
+    };
+    let Ok(given) = read_input(alloc, &plan, input) else {
+        return Status::Memory;
+    };
+    match write_windows(alloc, &plan, &given, out) {
+        Ok(Written::All) => status_of(given.stop),
+        Ok(Written::Failed) => Status::Write,
+        Err(_) => Status::Memory,
+    }
+}
+
+/// Runs the query that stands there over the input, window by window.
+pub fn plain<S: Source, F: Files, K: Sink>(
+    alloc: Global,
+    place: Place,
+    input: &mut S,
+    files: &mut F,
+    out: &mut K,
+) -> Status
+    requires not_ended { (S.state input.old).ended ≡ false }
+    ensures { Served (files_at (place_of place.entry)) (RunOutcome (place_of place.entry))
+        (filed (F.held files.old) (F.faults files.old))
+        (filed (F.held files.new) (F.faults files.new))
+        (outside (S.state input.old) (K.state out.old))
+        (outside (S.state input.new) (K.state out.new))
+        (ending result) }
+{
+    match plan_at(alloc, place, files) {
+        Ok(plan) => run_plan(alloc, plan, input, out),
+        Err(refusal) => status_of_refusal(refusal),
+    }
+}

@@ -1,5 +1,0 @@
-use Rattle.sp_top.proofs.Completing.{completes}
-use Rattle.sp_top.proofs.law.completes.Goals as goal
-
-pub returns : goal.returns
-returns c = completes c.one_reading.ensures c.one_schedule.ensures c.one_truth.ensures.truth c.rows_stay.ensures

@@ -1,5 +1,0 @@
-use Rattle.sp_top.proofs.OneRun.{plans_run_alike}
-use Rattle.sp_top.proofs.law.plans_run_alike.Goals as goal
-
-pub returns : goal.returns
-returns c = plans_run_alike c.one_truth.ensures.truth
