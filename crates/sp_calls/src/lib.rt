@@ -10,19 +10,15 @@
 
 mod bindings;
 mod call;
-mod chances;
 mod cutting;
 mod drill;
 mod given;
-mod guessing;
-mod journal;
 mod lines;
 mod loads;
 mod machine;
 mod matching;
 mod numbers;
 mod predicates;
-mod predicting;
 mod queries;
 mod rows;
 mod schedule;
@@ -35,4 +31,3 @@ mod tokens;
 mod windows;
 
 pub use call::answer;
-pub use journal::{beginning_of, counts_of};

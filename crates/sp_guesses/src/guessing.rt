@@ -5,8 +5,7 @@ ghost use Rattle.sp_plan.specs.Runs.{is_among};
 ghost use Rattle.sp_group.specs.Family.{entry_at};
 ghost use Rattle.sp_tree.specs.Grown.{kin, is_open, CanStand};
 
-use crate::given::numbers_of;
-use crate::text::Answer;
+use crate::words::{numbers, push_line, push_number};
 use sp_base::Share;
 use sp_chance::Chances;
 use sp_group::Label;
@@ -161,11 +160,15 @@ impl Guesses {
 }
 
 // Appends a line with a number, or with a dash.
-fn push_found(word: &str, found: Option<u64>, out: &mut Answer) {
-    out.text(word);
+fn push_found(
+    alloc: Global,
+    word: &str,
+    found: Option<u64>,
+    out: &mut String,
+) -> Result<(), AllocError> {
     match found {
-        Some(number) => out.last(" ", number),
-        None => out.text(" -\n"),
+        Some(number) => push_number(alloc, word, number, out),
+        None => push_line(alloc, word, "-", out),
     }
 }
 
@@ -176,13 +179,13 @@ fn push_child(
     word: &str,
     parent: u64,
     runs: &[u32],
-    out: &mut Answer,
+    out: &mut String,
 ) -> Result<(), AllocError> {
     let id = match Label::new(alloc, runs)? {
         Some(label) => guesses.add_child(alloc, parent, label)?,
         None => None,
     };
-    Ok(push_found(word, id, out))
+    push_found(alloc, word, id, out)
 }
 
 // Appends how likely a child of the label of these runs is to survive.
@@ -192,13 +195,13 @@ fn push_survival_with(
     word: &str,
     parent: u64,
     runs: &[u32],
-    out: &mut Answer,
+    out: &mut String,
 ) -> Result<(), AllocError> {
     let survival = match Label::new(alloc, runs)? {
         Some(label) => guesses.survival_with(parent, &label),
         None => None,
     };
-    Ok(push_found(word, survival.map(u64::from), out))
+    push_found(alloc, word, survival.map(u64::from), out)
 }
 
 // Appends which of the versions are picked.
@@ -208,14 +211,15 @@ fn push_picked(
     word: &str,
     k: u32,
     ready: &[u32],
-    out: &mut Answer,
+    out: &mut String,
 ) -> Result<(), AllocError> {
     let ready = ready
         .iter()
         .map(|id| u64::from(*id))
         .collect::<Vec<u64>>(alloc)?;
     let picked = guesses.picked(alloc, &ready, k)?;
-    Ok(out.made(format!(in alloc; "{word} {:?}\n", picked.as_slice())))
+    let line = format!(in alloc; "{word} {:?}\n", picked.as_slice())?;
+    out.push_str(line.as_str())
 }
 
 // Adds the next child of a parent, and appends its label.
@@ -224,26 +228,25 @@ fn push_next(
     guesses: &mut Guesses,
     word: &str,
     parent: u64,
-    out: &mut Answer,
+    out: &mut String,
 ) -> Result<(), AllocError> {
-    out.text(word);
     let Some(label) = guesses.next_label(alloc, parent)? else {
-        return Ok(out.text(" -\n"));
+        return push_line(alloc, word, "-", out);
     };
-    out.list(" ", label.runs());
-    out.text("\n");
+    let line = format!(in alloc; "{word} {:?}\n", label.runs())?;
+    out.push_str(line.as_str())?;
     guesses.add_child(alloc, parent, label)?;
     Ok(())
 }
 
 // Does what a word says of a version, and of numbers behind it.
-fn step(
+fn push_step(
     alloc: Global,
     guesses: &mut Guesses,
     word: &str,
     what: &str,
     numbers: &[u32],
-    out: &mut Answer,
+    out: &mut String,
 ) -> Result<(), AllocError> {
     let [first, rest @ ..] = numbers else {
         return Ok(());
@@ -255,7 +258,7 @@ fn step(
         "pick" => push_picked(alloc, guesses, word, *first, rest, out),
         "survival" => {
             let survival = guesses.survival(version);
-            Ok(push_found(word, survival.map(u64::from), out))
+            push_found(alloc, word, survival.map(u64::from), out)
         }
         "next" => push_next(alloc, guesses, word, version, out),
         _ => set(guesses, what, version, rest),
@@ -276,14 +279,14 @@ fn push_word(
     alloc: Global,
     guesses: &mut Guesses,
     word: &str,
-    out: &mut Answer,
+    out: &mut String,
 ) -> Result<(), AllocError> {
     match word.split_once(':') {
         Some((what, text)) => {
-            let numbers = numbers_of(alloc, text)?;
-            step(alloc, guesses, word, what, &numbers, out)
+            let numbers = numbers(alloc, text)?;
+            push_step(alloc, guesses, word, what, &numbers, out)
         }
-        None => Ok(push_found(word, guesses.plant(alloc)?, out)),
+        None => push_found(alloc, word, guesses.plant(alloc)?, out),
     }
 }
 
@@ -292,7 +295,7 @@ fn push_words(
     alloc: Global,
     guesses: &mut Guesses,
     words: &[String],
-    out: &mut Answer,
+    out: &mut String,
 ) -> Result<(), AllocError> {
     for word in words {
         push_word(alloc, guesses, word.as_str(), out)?;
@@ -301,7 +304,7 @@ fn push_words(
 }
 
 /// Does what the words say, beginning with no version and no share, and appends what they ask for.
-pub(crate) fn guess(alloc: Global, words: &[String], out: &mut Answer) -> Result<(), AllocError> {
+pub(crate) fn guess(alloc: Global, words: &[String], out: &mut String) -> Result<(), AllocError> {
     let mut guesses = Guesses::new(alloc)?;
     let pushed = push_words(alloc, &mut guesses, words, out);
     drop(guesses);
