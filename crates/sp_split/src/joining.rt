@@ -1,5 +1,5 @@
 // A splitter and its instances side by side, at a hub of their own.
-ghost use Rattle.std.specs.Prelude.{◌≡◌, ◌≤◌, ◌<◌, ◌+◌, [], None, List, length, vec_len, vec_capacity};
+ghost use Rattle.std.specs.Prelude.{◌≡◌, ◌≤◌, ◌<◌, ◌+◌, [], true, None, List, length, vec_len, vec_capacity};
 ghost use Rattle.std.specs.List.{All, count_by};
 ghost use Rattle.std.specs.Thread.{IsSync};
 ghost use Rattle.sp_io.specs.Outside.{Rose};
@@ -55,6 +55,7 @@ fn beside<L: Naming + Send + Sync, I: Intake, O: Outlet, G: Gate, R: Threads + W
         desk.splitter.kept.items desk.by desk.seat (I.plan ways.intake) (O.plan ways.outlet) }
     ensures len { length result.0.seats ≡ length crew.seats }
     ensures room { result.0.room ≡ crew.room }
+    ensures over { All (λ s. s.over ≡ true) result.0.seats }
     ensures served { Serves (λ events. I.gave ways.intake events result.2.intake)
         (I.ended result.2.intake)
         (Rose (I.stops ways.intake) (I.stops result.2.intake))
@@ -77,7 +78,8 @@ fn beside<L: Naming + Send + Sync, I: Intake, O: Outlet, G: Gate, R: Threads + W
         rt,
         || -> Crew<L>
             requires { IsSync R.row × All (λ s. s.holding ≡ None) crew.seats }
-            ensures { (length result.seats ≡ length crew.seats) × (result.room ≡ crew.room) }
+            ensures { (length result.seats ≡ length crew.seats) × (result.room ≡ crew.room)
+                × All (λ s. s.over ≡ true) result.seats }
         {
             let mut crew = crew;
             attend_all(rt, alloc, hub, gate, &mut crew);
