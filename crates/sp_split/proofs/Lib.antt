@@ -1,4 +1,3 @@
-pub mod Grew
 pub mod Taken
 pub mod Turns
 pub mod Steps

@@ -7,7 +7,7 @@ use Rattle.sp_io.specs.Outside.{Grew, SinkState}
 use Rattle.sp_trace.specs.Traced.{Tracing, begun, after, lines_for, joined}
 use Rattle.sp_answer.specs.Written.{WritesText}
 use Rattle.sp_answer.specs.declared.written.Written.TheVariants.{All, Failed}
-use Rattle.sp_answer.proofs.Grew.{within_none}
+use Rattle.sp_io.proofs.Grew.{within_none}
 use Rattle.sp_answer.proofs.Writing.{whole_text, out_of_memory, cut_within, begins_text, piece_grew, piece_quiet}
 use Rattle.sp_commands.proofs.Tracing.{text_from, text_more, text_rest, after_more}
 use Rattle.sp_commands.proofs.scheduled.print_trace.Goals as goal
