@@ -7,7 +7,7 @@ ghost use Rattle.sp_split.specs.Serving.{Ends};
 
 use crate::alone::drive_alone;
 use crate::joining::{Ways, under};
-use crate::lent::{LentIntake, LentOutlet, take_back};
+use crate::lent::{LentIntake, LentOutlet};
 use crate::{Ended, Memory, Went};
 use sp_chance::Predictor;
 use sp_core::Core;
@@ -136,11 +136,7 @@ fn drive_shared<I: Intake, O: Outlet, G: Gate, R: Threads + Wait + Sync>(
         outlet: LentOutlet { inner: outlet },
     };
     let (ended, back) = under::<Brand, _, _, _, _>(rt, alloc, opened, splitter, gate, lent);
-    let Ways {
-        intake: LentIntake { inner: intake },
-        outlet: LentOutlet { inner: outlet },
-    } = back;
-    take_back(intake);
-    take_back(outlet);
+    // The references that come back are used, which ties them to those that were lent.
+    let (_intake, _outlet) = (back.intake.inner, back.outlet.inner);
     ended
 }

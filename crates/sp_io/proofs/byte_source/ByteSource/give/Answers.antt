@@ -1,6 +1,6 @@
 use Rattle.sp_io.proofs.Given.{gave}
 use Rattle.std.proofs.Common.{rules}
-use Rattle.sp_io.proofs.byte_source.ByteSourceSource.read.Goals as goal
+use Rattle.sp_io.proofs.byte_source.ByteSource.give.Goals as goal
 
 pub returns-clause-bytes : goal.returns-clause-bytes
 returns-clause-bytes c =
