@@ -7,14 +7,12 @@ ghost use Rattle.sp_core.specs.Leasing.{HasBegun, IsLent, IsLeased, is_closed, w
 ghost use Rattle.sp_core.specs.Running.{IsDone, after, refused};
 
 use crate::rooms::{enter, make_room};
-use crate::{Core, CoreFault, Lent, Memory};
+use crate::{Core, CoreFault, Lent, Memory, law};
 use sp_group::{Refusal, Step};
-use sp_piece::{Job, same_plans_read_alike};
+use sp_piece::Job;
 use sp_plan::{Event, Listed};
-use sp_rules::{compiled_plans_are_lawful, every_schedule};
 use sp_tree::Tree;
 use sp_version::Version;
-use sp_window::{closed_come_first, windows_hold};
 use std::alloc::Global;
 
 // A ticket is out for a version from now on.
@@ -33,8 +31,9 @@ impl Core {
         ensures fed { result.0 ≡ size self.now.plan self.now.machine.events number }
         ensures closed { result.1 ≡ is_closed self.now number }
     {
-        windows_hold();
-        closed_come_first();
+        // A window that has begun is there, and the closed ones are those that come first.
+        law::windows_hold();
+        law::closed_come_first();
         let Some(window) = self.windows.get(number) else {
             unreachable!()
         };
@@ -48,7 +47,8 @@ impl Core {
     pub(crate) fn lease_refusal(&self, version: u64) -> Option<Refusal>
         ensures { (count : ℕ) → result ≡ refused self.now (s.Lease version count) }
     {
-        every_schedule();
+        // The state is one to which steps lead: the window of a live version has begun.
+        law::every_schedule();
         let Some(held) = self.tree.get(version) else {
             return Some(Refusal::NotLive { version });
         };
@@ -73,8 +73,9 @@ impl Core {
         ensures lent { IfOk result (IsLent self.now version count) }
         ensures version { IfOk result (λ lent. lent.version ≡ version) }
     {
-        every_schedule();
-        windows_hold();
+        // The state is one to which steps lead: a version has read no more of its window than was fed.
+        law::every_schedule();
+        law::windows_hold();
         let Some(held) = self.tree.get(version) else {
             unreachable!()
         };
@@ -99,9 +100,11 @@ impl Core {
         ensures job { IfOk result (IsLeased self.now lent.now.version count) }
         ensures events { IfOk result (λ job. length job.events ≡ lent.now.count) }
     {
-        every_schedule();
-        compiled_plans_are_lawful();
-        same_plans_read_alike();
+        // The state is one to which steps lead: what is lent was fed. Where plans are the same they read
+        // alike.
+        law::every_schedule();
+        law::compiled_plans_are_lawful();
+        law::same_plans_read_alike();
         let Some(held) = self.tree.get(lent.version) else {
             unreachable!()
         };

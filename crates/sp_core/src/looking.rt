@@ -8,11 +8,10 @@ ghost use Rattle.sp_group.specs.Steps.{replay};
 ghost use Rattle.sp_rules.specs.Schedules.{Reached};
 ghost use Rattle.sp_core.specs.Showing.{IsTreeOf};
 
-use crate::Core;
+use crate::{Core, law};
 use sp_base::Numbers;
 use sp_group::Entry;
 use sp_plan::{Event, Match, Plan};
-use sp_rules::every_schedule;
 use sp_tree::Tree;
 use sp_version::Version;
 use sp_window::Windows;
@@ -54,7 +53,8 @@ impl Core {
         ensures number { result ≡ self.now.machine.finished }
         ensures reached { Reached self.now.plan self.now.bound self.now.machine }
     {
-        every_schedule();
+        // The state is one to which steps lead.
+        law::every_schedule();
         self.finished
     }
 
@@ -73,7 +73,8 @@ impl Core {
         ensures sequential { result.now
             ≡ (seq self.now.plan self.now.machine.events self.now.machine.finished).matches }
     {
-        every_schedule();
+        // The state is one to which steps lead.
+        law::every_schedule();
         &self.emitted
     }
 
@@ -84,7 +85,8 @@ impl Core {
             ≡ with_numbers []
             (seq self.now.plan self.now.machine.events self.now.machine.finished).consumed }
     {
-        every_schedule();
+        // The state is one to which steps lead.
+        law::every_schedule();
         &self.consumed
     }
 }

@@ -8,22 +8,16 @@ ghost use Rattle.sp_tree.specs.Grown.{AreGrown};
 ghost use Rattle.sp_core.specs.Returning.{CanComeHome, HasValues, IsCarried, IsGiven, IsHome, IsPlaceOf, reading_entries, with_none_out};
 ghost use Rattle.sp_core.specs.Rooms.{room};
 ghost use Rattle.sp_core.specs.Running.{after, once};
-ghost use Rattle.sp_core.specs.Settling.{CanBring, CanSettle, HomeLaws, IsFrom, IsSameTree, IsSettled, IsWithin};
+ghost use Rattle.sp_core.specs.Settling.{CanBring, CanSettle, IsFrom, IsSameTree, IsSettled, IsWithin};
 
 use crate::homecoming::{Brought, bring, decide_ended, take_up};
 use crate::rooms::{enter, make_room, make_rooms_for};
-use crate::{Core, Given, Lent, Memory};
-use sp_base::rising_same;
+use crate::{Core, Given, Lent, Memory, law};
 use sp_group::{Entry, Label, Step};
-use sp_piece::{Job, Piece, readings_tell_matches, same_plans_read_alike};
+use sp_piece::{Job, Piece};
 use sp_plan::Event;
-use sp_rules::{
-    coming_home_adds_matches, compiled_plans_are_lawful, every_schedule, pieces_come_home,
-    readings_and_return, returns_by_groups, versions_have_groups,
-};
 use sp_tree::Tree;
 use sp_version::Version;
-use sp_window::windows_hold;
 use std::alloc::{AllocError, Global};
 
 // Whether a job has the values of what went out.
@@ -43,22 +37,6 @@ fn put_back_for(tree: &mut Tree<Version>, version: u64)
     if let Some(held) = tree.get_mut(version) {
         held.out = None;
     }
-}
-
-// Law: all that the layers below say of pieces that come home.
-fn home_laws()
-    ensures { HomeLaws }
-{
-    every_schedule();
-    compiled_plans_are_lawful();
-    pieces_come_home();
-    readings_and_return();
-    returns_by_groups();
-    versions_have_groups();
-    coming_home_adds_matches();
-    same_plans_read_alike();
-    readings_tell_matches();
-    rising_same();
 }
 
 // How many readings of its ticket a piece has made.
@@ -153,8 +131,9 @@ impl Core {
     fn is_carried(&self, job: &Job) -> bool
         ensures { IsTrue result ↔ IsCarried self.now job.now }
     {
-        every_schedule();
-        windows_hold();
+        // The state is one to which steps lead: what is out for a live version was fed.
+        law::every_schedule();
+        law::windows_hold();
         let Some(place) = self.place_of(job.ticket) else {
             return false;
         };
@@ -177,7 +156,8 @@ impl Core {
         ensures ok { OnOk result (self.new ≡ after self.old (s.Return ticket)) }
         ensures err { OnErr result (self.new ≡ self.old) }
     {
-        every_schedule();
+        // The state is one to which steps lead: no other ticket is out for its version.
+        law::every_schedule();
         let Some(place) = self.place_of(ticket) else {
             unreachable!()
         };
@@ -197,7 +177,7 @@ impl Core {
         ensures err { OnErr result (self.new ≡ self.old) }
         ensures back { IfErr result (λ back. back ≡ piece) }
     {
-        home_laws();
+        law::home_laws();
         let ticket = piece.job().ticket;
         let times = readings_of(&piece);
         let Some(place) = self.place_of(ticket) else {

@@ -1,5 +1,5 @@
 use Rattle.sp_rules.proofs.Lasting.{step_lasts}
-use Rattle.sp_rules.proofs.lent_stays.Goals as goal
+use Rattle.sp_rules.proofs.law.lent_stays.Goals as goal
 
 pub returns : goal.returns
 returns c = λ q bound m x number t u after compiled kept fits out still live.

@@ -1,7 +1,7 @@
 use Rattle.std.proofs.Common.{refl}
 use Rattle.sp_rules.proofs.Numbers.{numbers_are_lawful}
 use Rattle.sp_rules.proofs.Readings.{readings_are_lawful}
-use Rattle.sp_rules.proofs.compiled_plans_are_lawful.Goals as goal
+use Rattle.sp_rules.proofs.law.compiled_plans_are_lawful.Goals as goal
 
 pub returns : goal.returns
 returns c = λ q compiled. record {
