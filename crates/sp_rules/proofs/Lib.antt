@@ -25,3 +25,4 @@ pub mod ComingHome
 pub mod ByGroups
 pub mod Adding
 pub mod Lasting
+mod WorkedSilentReturn

@@ -44,7 +44,9 @@ pub fn compiled_plans_are_lawful()
 
 /// Law: in whatever order the steps of the machine are taken, those that are refused among them, what
 /// is emitted and consumed is what processing the windows one after another gives; and each state that
-/// steps lead to keeps what `Reached` says. It holds for every compiled plan, and bounds of 1 to 4096.
+/// steps lead to keeps what `Reached` says. A roll, and a finish whose next root is in conflict, begin
+/// anew a version under a new id, and with these and a return versions go; nothing else takes back what
+/// a live version has read. It holds for every compiled plan, and bounds of 1 to 4096.
 pub fn every_schedule()
     ensures { EverySchedule }
 {
