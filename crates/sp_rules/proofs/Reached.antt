@@ -108,5 +108,5 @@ reached q k bound xs low fits =
       loses = loses_few q k bound m kept;
       rolling = rolls_where_in_conflict q bound m kept;
       goes_on = goes_on q bound m kept;
-      bounded = keeps_bound q bound m (steps_few q k bound xs opening low fits (opening_kept q k) (omega arith));
+      bounded = keeps_bound q bound m kept (steps_few q k bound xs opening low fits (opening_kept q k) (omega arith));
     }

@@ -145,11 +145,24 @@ pub record RollsWhereInConflict (q : Plan) (bound : ℕ) (m : Machine) : Type 0 
       × ((i : ℕ) → conflict q (popped q m v) u ≡ Some i → (w : Version) × (root_in (finished_one q m (Some v)).versions ≡ Some w) × (w.id ≡ m.next_id))
   pub root_clear : (v : Version) → root_in m.versions ≡ Some v → conflict q m v ≡ None
 
--- Live versions are at most as many as the bound; a step is refused as full only where a child is spawned at the bound.
+-- All but the bound lets a child be spawned: its parent is live, an event has opened the window behind the parent's, the label names open
+-- groups of the parent alone, and no child of the parent has it.
+pub record CouldBeSpawned (q : Plan) (m : Machine) (p : ℕ) (label : List ℕ) : Type 0 where
+  pub parent : Version
+  pub live : version_at m.versions p ≡ Some parent
+  pub begun : parent.window + 1 ≤ count q m.events
+  pub names : (run : ℕ) → is_among label run ≡ true → is_group q (inner q m.events parent) run ≡ true
+  pub free : (id : ℕ) (child : Version) → version_at m.versions id ≡ Some child → child.parent ≡ Some p → child.label ≡ label → ⊥
+
+-- Live versions are at most as many as the bound; a step is refused as full exactly where a child is spawned at the bound, and all but the
+-- bound would let it be.
 pub record KeepsBound (q : Plan) (bound : ℕ) (m : Machine) : Type 0 where
   pub few : length m.versions ≤ bound
   pub full : (x : Step) (live of : ℕ) → refusal q bound m x ≡ Some (r.Full live of)
-      → (live ≡ bound) × (of ≡ bound) × (length m.versions ≡ bound) × ((p : ℕ) × (label : List ℕ) × (x ≡ s.Spawn (Some p) label))
+      → (live ≡ bound) × (of ≡ bound) × (length m.versions ≡ bound)
+      × ((p : ℕ) × (label : List ℕ) × (x ≡ s.Spawn (Some p) label) × CouldBeSpawned q m p label)
+  pub at_bound : (p : ℕ) (label : List ℕ) → length m.versions ≡ bound → CouldBeSpawned q m p label
+      → refusal q bound m (s.Spawn (Some p) label) ≡ Some (r.Full bound bound)
 
 -- what holds of each state that steps lead to
 pub record Reached (q : Plan) (bound : ℕ) (m : Machine) : Type 0 where
