@@ -90,8 +90,9 @@ pub fn coming_home_adds_matches()
     compiled_plans_are_lawful();
 }
 
-/// Law: what a ticket lends stays lent, whatever step is taken: as long as it is out, and its version
-/// live, the events that it lends and the runs from which they are read on are the same.
+/// Law: what a ticket lends stays lent, whatever step is taken: as long as it is out it is the same but for
+/// what was read of it; and as long as its version is live, the events that it lends and the runs from
+/// which they are read on are the same.
 pub fn lent_stays()
     ensures { LentStays }
 {
