@@ -6,7 +6,7 @@ ghost use Rattle.sp_window.specs.Standing.{Stands};
 ghost use Rattle.sp_group.specs.Rising.{with_numbers};
 ghost use Rattle.sp_group.specs.Steps.{replay};
 ghost use Rattle.sp_rules.specs.Schedules.{Reached};
-ghost use Rattle.sp_core.specs.Showing.{IsTreeOf};
+ghost use Rattle.sp_core.specs.Showing.{AreUnread, IsTreeOf};
 
 use crate::{Core, law};
 use sp_base::Numbers;
@@ -48,10 +48,12 @@ impl Core {
     }
 
     /// How many windows are finished. They are closed; the state of the machine is one to which steps lead, and
-    /// keeps what each of these keeps.
+    /// keeps what each of these keeps. Nothing is read of a ticket that is out: what was read under it counts once
+    /// it has come home.
     pub fn finished(&self) -> u32
         ensures number { result ≡ self.now.machine.finished }
         ensures reached { Reached self.now.plan self.now.bound self.now.machine }
+        ensures unread { AreUnread self.now.machine.tickets }
     {
         // The state is one to which steps lead.
         law::every_schedule();

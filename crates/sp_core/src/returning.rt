@@ -5,7 +5,7 @@ ghost use Rattle.sp_group.specs.Machine.{Ticket, ticket_at, version_at};
 ghost use Rattle.sp_core.specs.Carrying.{ticket_of};
 ghost use Rattle.sp_rules.specs.Returning.{readings};
 ghost use Rattle.sp_tree.specs.Grown.{AreGrown};
-ghost use Rattle.sp_core.specs.Returning.{CanComeHome, HasValues, IsCarried, IsGiven, IsHome, IsPlaceOf, reading_entries, with_none_out};
+ghost use Rattle.sp_core.specs.Returning.{CanComeHome, HasValues, IsCarried, IsGiven, IsHome, IsPlaceOf, reading_entries, with_none_out, without_ticket};
 ghost use Rattle.sp_core.specs.Rooms.{room};
 ghost use Rattle.sp_core.specs.Running.{after, once};
 ghost use Rattle.sp_core.specs.Settling.{CanBring, CanSettle, IsFrom, IsSameTree, IsSettled, IsWithin};
@@ -127,8 +127,9 @@ impl Core {
         None
     }
 
-    // Whether a job is what is out under its ticket, for a live version.
-    fn is_carried(&self, job: &Job) -> bool
+    /// Whether a job is what is out under its ticket, for a live version, so that its piece can come home. Compares
+    /// each event, and the runs.
+    pub fn is_carried(&self, job: &Job) -> bool
         ensures { IsTrue result ↔ IsCarried self.now job.now }
     {
         // The state is one to which steps lead: what is out for a live version was fed.
@@ -154,6 +155,7 @@ impl Core {
         ensures lent { IfOk result
             (λ lent. ticket_at self.old.machine.tickets ticket ≡ Some (ticket_of lent)) }
         ensures ok { OnOk result (self.new ≡ after self.old (s.Return ticket)) }
+        ensures left { OnOk result (self.new.machine ≡ without_ticket self.old.machine ticket) }
         ensures err { OnErr result (self.new ≡ self.old) }
     {
         // The state is one to which steps lead: no other ticket is out for its version.
@@ -168,8 +170,8 @@ impl Core {
         Ok(lent)
     }
 
-    /// A piece comes home whose job is what is out under its ticket, for a live version, as its caller knows: what
-    /// it read is the version's, and the ticket ends. Nothing is compared. After want of memory, which hands the
+    /// A piece comes home whose job is what is out under its ticket, for a live version, as its caller knows, or
+    /// asks by `is_carried`: what it read is the version's, and the ticket ends. Nothing is compared. After want of memory, which hands the
     /// piece back, the ticket is still out and the core is as before.
     pub fn come_home(&mut self, alloc: Global, piece: Piece) -> Result<(), Piece>
         requires { CanComeHome self.old piece }

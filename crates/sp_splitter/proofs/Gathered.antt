@@ -50,10 +50,10 @@ brings_home number times old new known is = record {
 }
 
 pub brings_given : (old new : Running) (p : Pieced) (given : Given) → Known old → IsGiven old new p given → Brings old new
-brings_given old new p g.Home known (t, v, out, carries, is) = brings_home p.job.ticket (readings p.read p.closed) old new known is
+brings_given old new p g.Home known (t, v, out, carries, is, taken) = brings_home p.job.ticket (readings p.read p.closed) old new known is
 brings_given old new p (g.Stale id) known (t, out, of, gone, is) = brings_back p.job.ticket old new known (back_done p.job.ticket t old new out is)
 brings_given old new p (g.NotOut n) known (number, out, is) = brings_none old new is
-brings_given old new p (g.Differs lent back) known (t, v, out, carries, was, is, same) =
+brings_given old new p (g.Differs lent back) known (t, v, out, carries, was, is, same, left) =
     brings_back p.job.ticket old new known (back_done p.job.ticket t old new out.out same)
 
 -- pieces were collected and given back, one after another
