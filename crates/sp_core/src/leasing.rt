@@ -25,8 +25,8 @@ fn put_out_for(tree: &mut Tree<Version>, version: u64, ticket: u64)
 }
 
 impl Core {
-    // How many events of a window were fed, and whether it is closed.
-    fn fed_of(&self, number: u32) -> (u32, bool)
+    /// How many events of a window that has begun were fed, and whether it is closed: no event can join it any more.
+    pub fn fed_of(&self, number: u32) -> (u32, bool)
         requires begun { HasBegun self.now number }
         ensures fed { result.0 ≡ size self.now.plan self.now.machine.events number }
         ensures closed { result.1 ≡ is_closed self.now number }
@@ -124,13 +124,16 @@ impl Core {
         })
     }
 
-    // Enters the lease.
-    fn put_out(&mut self, alloc: Global, lent: Lent, count: u32) -> Result<(), Memory>
+    // Enters the lease, and answers the job that carries what is lent.
+    fn put_out(&mut self, alloc: Global, lent: Lent, count: u32) -> Result<Job, Memory>
         requires lent { IsLent self.old lent.version count lent }
         requires passes { refused self.old (s.Lease lent.version count) ≡ None }
         ensures ok { OnOk result (self.new ≡ after self.old (s.Lease lent.version count)) }
+        ensures job { IfOk result (IsLeased self.old lent.version count) }
+        ensures events { IfOk result (λ job. length job.events ≡ lent.count) }
         ensures err { OnErr result (self.new ≡ self.old) }
     {
+        let job = self.job(alloc, &lent, count)?;
         let version = lent.version;
         let ticket = lent.ticket;
         make_room(&mut self.journal, self.tree.live())?;
@@ -140,7 +143,7 @@ impl Core {
         self.next_ticket += 1;
         put_out_for(&mut self.tree, version, ticket);
         enter(&mut self.journal, Step::Lease { version, count }, 1);
-        Ok(())
+        Ok(job)
     }
 
     // A lease that is not refused; answers what went out, and the job that carries it.
@@ -158,9 +161,8 @@ impl Core {
         ensures err { OnErr result (self.new ≡ self.old) }
     {
         let lent = self.lent(alloc, version, count)?;
-        let job = self.job(alloc, &lent, count)?;
         let told = lent.copy(alloc)?;
-        self.put_out(alloc, lent, count)?;
+        let job = self.put_out(alloc, lent, count)?;
         Ok((told, job))
     }
 
@@ -180,8 +182,6 @@ impl Core {
             return Err(CoreFault::Refused(refusal));
         }
         let lent = self.lent(alloc, version, count)?;
-        let job = self.job(alloc, &lent, count)?;
-        self.put_out(alloc, lent, count)?;
-        Ok(job)
+        Ok(self.put_out(alloc, lent, count)?)
     }
 }

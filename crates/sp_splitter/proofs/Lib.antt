@@ -8,7 +8,6 @@ pub mod ToRoll
 pub mod Finish
 pub mod Planted
 pub mod Listed
-pub mod Fed
 pub mod Asked
 pub mod Guessed
 pub mod Likeliest
