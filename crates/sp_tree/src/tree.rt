@@ -44,7 +44,7 @@ impl<V> Model for Tree<V> {
 impl<V> Tree<V> {
     ghost use Rattle.sp_tree.specs.Lends.{lends_found};
 
-    /// No version, and room for `bound` of them. The first id is 1.
+    /// No version is live, and at most `bound` may be at a time. The first id is 1.
     pub fn new(alloc: Global, bound: u32) -> Result<Tree<V>, Memory>
         requires some { 0 < bound }
         requires most { bound ≤ 4096 }
