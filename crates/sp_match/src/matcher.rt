@@ -17,7 +17,7 @@ use crate::run::Run;
 use crate::settling::{end_all, settle, undo};
 use crate::stock::Stock;
 use crate::wanting::{left, want_as_before};
-use sp_plan::{Event, Plan, fitting_events_are_small, plans_are_themselves};
+use sp_plan::{Event, Plan, law};
 use std::alloc::Global;
 use std::marker::Model;
 use std::sync::Arc;
@@ -185,7 +185,8 @@ impl Matcher {
         ensures cleared { OnErr result
             ((moves.new.list.items ≡ []) × (moves.new.wanted.items ≡ [])) }
     {
-        fitting_events_are_small();
+        // The numbers of an event that fits are small, which predicates ask for.
+        law::fitting_events_are_small();
         let open = self.runs.len();
         let may = names_ahead(alloc, &self.plan, event, open);
         let offer = Offer {
@@ -320,7 +321,8 @@ impl Matcher {
         ensures shared { self.now.plan ≡ other.now.plan
             → IsTrue result ↔ (self.now ≡ other.now) }
     {
-        plans_are_themselves();
+        // So where both share a plan, only the runs count.
+        law::plans_are_themselves();
         if !self.same_runs(other) {
             return false;
         }
