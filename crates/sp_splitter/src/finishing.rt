@@ -6,8 +6,7 @@ ghost use Rattle.sp_spread.specs.Calm.{AreCalm, NoneDone};
 ghost use Rattle.sp_splitter.specs.Finishing.{FinishedOne};
 ghost use Rattle.sp_splitter.specs.Stages.{Goes, NoneRead, Went, matches_of};
 
-use crate::Memory;
-use crate::knowing::known;
+use crate::{Memory, law};
 use sp_core::{Core, Emitted};
 use std::alloc::{AllocError, Global};
 
@@ -31,7 +30,7 @@ fn finish_root(core: &mut Core) -> Emitted
     requires done { refused core.old s.Finish ≡ None }
     ensures { FinishedOne core.old core.new result }
 {
-    known(core);
+    law::known(core);
     let Ok(emitted) = core.finish() else {
         unreachable!()
     };

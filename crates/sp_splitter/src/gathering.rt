@@ -3,10 +3,9 @@ ghost use Rattle.std.specs.Prelude.{◌≡◌, ◌+◌, ◌≤◌, ℕ, false, I
 ghost use Rattle.sp_spread.specs.Journaled.{readings_entered};
 ghost use Rattle.sp_splitter.specs.Stages.{Collected, Goes, NoneEmitted, ReadByCalls, Went};
 
-use crate::Memory;
-use crate::knowing::known;
 use crate::learning::learn;
 use crate::unheard::Readings;
+use crate::{Memory, law};
 use sp_chance::Predictor;
 use sp_core::Core;
 use sp_hub::{Hub, Naming, Poster};
@@ -30,7 +29,7 @@ fn give_back(alloc: Global, core: &mut Core, piece: Piece) -> Result<(), Memory>
     ensures read { readings_entered core.new.journal ≤ readings_entered core.old.journal + 1 }
     ensures short { IsOk result → piece.short ≡ false }
 {
-    known(core);
+    law::known(core);
     let short = piece.short();
     match core.give_back(alloc, piece) {
         Ok(_) if short => Err(AllocError),

@@ -99,6 +99,7 @@ pub(crate) fn fed_of(core: &Core, number: u32) -> u32
     requires begun { HasBegun core.now number }
     ensures { result ≡ size core.now.plan core.now.machine.events number }
 {
+    // They tell what every core keeps, and what windows there are.
     core.plan();
     core.finished();
     windows_hold();

@@ -16,10 +16,9 @@ ghost use Rattle.sp_splitter.specs.Lending.{ArePicked, Leases};
 ghost use Rattle.sp_splitter.specs.Splitting.{IsBelowKept};
 ghost use Rattle.sp_splitter.specs.Stages.{Goes, NoneEmitted, NoneRead, Went};
 
-use crate::Memory;
 use crate::counting::count_out;
 use crate::guessing::fed_of;
-use crate::knowing::known;
+use crate::{Memory, law};
 use sp_chance::Chances;
 use sp_core::{Core, CoreFault};
 use sp_pick::pick;
@@ -150,7 +149,7 @@ fn lend_all(
         → IsBelowKept last kept.new.items core.new.machine.next_ticket }
 {
     for id in ids {
-        known(core);
+        law::known(core);
         let count = asked(core, *id, batch);
         lend_one(alloc, core, *id, count, kept)?;
     }

@@ -3,8 +3,7 @@ ghost use Rattle.std.specs.Prelude.{ℕ, OnOk};
 ghost use Rattle.sp_spread.specs.Calm.{AreCalm, NoneDone, Settled};
 ghost use Rattle.sp_splitter.specs.Stages.{Goes, NoneEmitted, NoneRead, Went};
 
-use crate::Memory;
-use crate::knowing::known;
+use crate::{Memory, law};
 use sp_core::{Core, CoreFault};
 use sp_group::Label;
 use std::alloc::{AllocError, Global};
@@ -22,7 +21,7 @@ pub(crate) fn plant(alloc: Global, core: &mut Core) -> Result<(), Memory>
     if core.tree().root().is_some() {
         return Ok(());
     }
-    known(core);
+    law::known(core);
     match core.spawn(alloc, None, Label::empty(alloc)) {
         Ok(_) => Ok(()),
         // The next window has not begun.

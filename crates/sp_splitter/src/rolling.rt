@@ -5,8 +5,7 @@ ghost use Rattle.sp_spread.specs.Laws.{LosesConflict};
 ghost use Rattle.sp_splitter.specs.Rolling.{AreListed, IsCalm, Quiet};
 ghost use Rattle.sp_splitter.specs.Stages.{Goes, NoneEmitted, NoneRead, Went};
 
-use crate::Memory;
-use crate::knowing::known;
+use crate::{Memory, law};
 use sp_core::Core;
 use std::alloc::Global;
 
@@ -43,7 +42,7 @@ fn roll_one(core: &mut Core, id: u64)
     ensures quiet { Quiet core.old core.new }
     ensures loses { LosesConflict core.old.plan core.old.machine core.new.machine id }
 {
-    known(core);
+    law::known(core);
     // A refusal changes nothing: the version went with one above it that was rolled, or is in no
     // conflict.
     let _ = core.roll(id);

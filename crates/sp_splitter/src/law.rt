@@ -1,10 +1,10 @@
-// What is known of every core.
+// Laws, called as `law::..`: they run no code.
 ghost use Rattle.sp_splitter.specs.Knowing.{Known};
 
 use sp_core::Core;
 use sp_spread::{journals_stay_spread, turns_are_lawful};
 
-// Law: what the core's look-ups and the laws of turns say of it.
+/// What the core's look-ups and the laws of turns say of it.
 pub(crate) fn known(core: &Core)
     ensures { Known core.now }
 {
