@@ -3,6 +3,7 @@ pub mod Leasing
 pub mod Places
 pub mod Stepping
 pub mod Gathered
+pub mod SentNone
 pub mod Below
 pub mod ToRoll
 pub mod Finish

@@ -1,6 +1,7 @@
-// A root is made where none is live.
+// A root is made where one can be.
 ghost use Rattle.std.specs.Prelude.{ℕ, OnOk};
 ghost use Rattle.sp_spread.specs.Calm.{AreCalm, NoneDone, Settled};
+ghost use Rattle.sp_splitter.specs.Planting.{Plants};
 ghost use Rattle.sp_splitter.specs.Stages.{Goes, NoneEmitted, NoneRead, Went};
 
 use crate::{Memory, law};
@@ -17,14 +18,12 @@ pub(crate) fn plant(alloc: Global, core: &mut Core) -> Result<(), Memory>
     ensures emitted { NoneEmitted core.old core.new }
     ensures read { NoneRead core.old core.new }
     ensures settled { OnOk result (Settled core.new.plan core.new.machine) }
+    ensures plants { OnOk result (Plants core.old core.new) }
 {
-    if core.tree().root().is_some() {
-        return Ok(());
-    }
     law::known(core);
     match core.spawn(alloc, None, Label::empty(alloc)) {
         Ok(_) => Ok(()),
-        // The next window has not begun.
+        // A root is live, or the next window has not begun.
         Err(CoreFault::Refused(_)) => Ok(()),
         Err(CoreFault::Memory) => Err(AllocError),
     }

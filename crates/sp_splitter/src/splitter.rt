@@ -150,6 +150,8 @@ impl Splitter {
         ensures turned { IfOk result (λ finished. Turned (record {
           instances = self.old.instances;
           batch = self.old.batch;
+          taught_before = taught self.old.predictor;
+          taught = taught self.new.predictor;
           means = means self.new.predictor;
           chances = self.new.chances;
           kept_before = self.old.kept.items;
