@@ -10,3 +10,4 @@ pub mod Behind
 pub mod Finished
 pub mod Added
 pub mod Going
+pub mod Over

@@ -5,12 +5,13 @@ ghost use Rattle.sp_core.specs.Running.{begun};
 ghost use Rattle.sp_spread.specs.Journaled.{MakesNoChild};
 ghost use Rattle.sp_split.specs.Driving.{Drove, FellShort};
 
-use crate::feeding::{Fed, feed};
+use crate::feeding::feed;
+use crate::stopping::why_over;
 use crate::working::work_off;
 use crate::{Memory, Went, Why};
 use sp_chance::Predictor;
 use sp_core::Core;
-use sp_ports::{Intake, OutFault, Outlet};
+use sp_ports::{Intake, Outlet};
 use sp_window::finished_windows_stay;
 use std::alloc::Global;
 
@@ -49,15 +50,9 @@ fn run<I: Intake, O: Outlet>(
         core.finished();
         finished_windows_stay();
         let fed = feed(alloc, core, batch, intake)?;
-        match work_off(alloc, core, predictor, outlet) {
-            Ok(()) => {}
-            Err(OutFault::Failed) => return Ok(Why::Refused),
-            Err(OutFault::Memory) => return Ok(Why::Memory),
-        }
-        match fed {
-            Fed::More => {}
-            Fed::End => return Ok(Why::Whole),
-            Fed::Stop => return Ok(Why::Stopped),
+        let put = work_off(alloc, core, predictor, outlet);
+        if let Some(why) = why_over(fed, put, true) {
+            return Ok(why);
         }
     }
     Ok(Why::Memory)

@@ -12,6 +12,7 @@ mod joining;
 mod lent;
 mod office;
 mod serving;
+mod stopping;
 mod turning;
 mod working;
 

@@ -13,6 +13,7 @@ use crate::feeding::Fed;
 use crate::filling::fill;
 use crate::handing::put_windows;
 use crate::office::Office;
+use crate::stopping::why_over;
 use crate::{Memory, Went, Why};
 use sp_core::Core;
 use sp_hub::{Hub, Naming, Poster, Seat, Taken};
@@ -181,17 +182,10 @@ fn run<I: Intake, O: Outlet, L: Naming, G: Gate, R: Wait>(
         desk.splitter.core.finished();
         finished_windows_stay();
         fed = fill(alloc, &mut desk.splitter, fed, intake)?;
-        match turn_once(rt, alloc, hub, desk, outlet) {
-            Ok(()) => {}
-            Err(OutFault::Failed) => return Ok(Why::Refused),
-            Err(OutFault::Memory) => return Ok(Why::Memory),
-        }
-        if all_finished(&desk.splitter.core) {
-            match fed {
-                Fed::More => {}
-                Fed::End => return Ok(Why::Whole),
-                Fed::Stop => return Ok(Why::Stopped),
-            }
+        let put = turn_once(rt, alloc, hub, desk, outlet);
+        let all = all_finished(&desk.splitter.core);
+        if let Some(why) = why_over(fed, put, all) {
+            return Ok(why);
         }
         help(office, &desk.by, &mut desk.seat, fed != Fed::More);
     }
