@@ -5,7 +5,7 @@ ghost use Rattle.sp_io.specs.Outside.{SourceState};
 ghost use Rattle.sp_plan.specs.Compiled.{IsCompiled};
 ghost use Rattle.sp_core.specs.Running.{begun};
 ghost use Rattle.sp_intake.specs.Kept.{plan_in};
-ghost use Rattle.sp_intake.specs.Asked.{standing};
+ghost use Rattle.sp_intake.specs.Asked.{standing, IsFresh};
 ghost use Rattle.sp_intake.specs.Standing.{ReadsFrom};
 ghost use Rattle.sp_answer.specs.Outcome.{ending};
 ghost use Rattle.sp_answer.specs.Promise.{filed, Served};
@@ -47,14 +47,29 @@ fn status_of_end(why: Why, stop: Option<Stop>) -> Status
     }
 }
 
-// A core for the plan, before its first step.
-fn core_of(alloc: Global, plan: &Arc<Plan>, live: u32) -> Result<Core, Memory>
-    requires compiled { IsCompiled (arc_value plan.now) }
+// What a run of a plan begins with: the plan, a core before its first step, and what reads the input.
+#[derive(Drop)]
+struct Start {
+    plan: Arc<Plan>,
+    core: Core,
+    events: EventReader,
+}
+
+// All of it for a plan and the most versions that may be live.
+fn start_of(alloc: Global, plan: Plan, live: u32) -> Result<Start, Memory>
+    requires compiled { IsCompiled plan }
     requires some { 1 ≤ live }
     requires most { live ≤ 4096 }
-    ensures { IfOk result (λ core. core ≡ begun (arc_value plan.now) live) }
+    ensures plan { IfOk result (λ start. arc_value start.plan ≡ plan) }
+    ensures core { IfOk result (λ start. start.core ≡ begun plan live) }
+    ensures fresh { IfOk result (λ start. IsFresh plan start.events) }
+    ensures plan_in { IfOk result (λ start. plan_in start.events.reader.kept ≡ plan) }
+    ensures none { IfOk result (λ start. start.events.stops ≡ 0) }
 {
-    Core::new(alloc, plan.clone()?, live)
+    let plan = shared(alloc, plan)?;
+    let core = Core::new(alloc, plan.clone()?, live)?;
+    let events = EventReader::new(alloc, &plan)?;
+    Ok(Start { plan, core, events })
 }
 
 // Drives a core from the input to the output.
@@ -132,16 +147,10 @@ pub(crate) fn run_plan<S: Source, K: Sink, G: Gate, R: Threads + Wait + Sync>(
     ensures report { WhereDone (ReportsPlan plan (speed_seen speed.now)
         (S.state input.old).left (S.state input.new).left) result.status result.ended }
 {
-    let alloc = shop.alloc;
-    let Ok(plan) = shared(alloc, plan) else {
+    let Ok(start) = start_of(shop.alloc, plan, speed.live) else {
         return Answer::of(Status::Memory);
     };
-    let Ok(core) = core_of(alloc, &plan, speed.live) else {
-        return Answer::of(Status::Memory);
-    };
-    let Ok(events) = EventReader::new(alloc, &plan) else {
-        return Answer::of(Status::Memory);
-    };
+    let Start { plan, core, events } = start;
     let mut reading = Input::over(input, events);
     let taken = 0;
     let mut lines = Lines { plan, out, taken };
