@@ -58,13 +58,14 @@ fn run<I: Intake, O: Outlet>(
     Ok(Why::Memory)
 }
 
-/// Runs a core that has done no step from an intake to an outlet, on this thread: events are fed, up to
-/// `batch` at a time, 1 to 1,024, then the windows that they closed are finished, and their matches put; until
-/// the intake gives no more. The predictor learns from what was read. It always returns, and no speculative
-/// version is made. `Whole` comes only where the intake reached the end of its input, `Stopped` only where its
-/// count of stops rose, `Refused` only where the outlet's count of faults did; the windows that are closed are
-/// finished for the first two, and all their matches were taken. After want of memory the outlet took the first
-/// matches of what the events given come to.
+/// Runs a core that has done no step from an intake to an outlet, on this thread, until the intake gives no more.
+/// It always returns, and no speculative version is made. `Whole` comes only where the intake reached the end of
+/// its input, `Stopped` only where its count of stops rose, `Refused` only where the outlet's count of faults did;
+/// the windows that are closed are finished for the first two, and all their matches were taken. After want of
+/// memory the outlet took the first matches of what the events given come to.
+///
+/// Besides, and no clause says so: at most `batch` events, 1 to 1,024, are fed before the windows that they closed
+/// are finished, and the predictor learns from what was read.
 pub(crate) fn drive_alone<I: Intake, O: Outlet>(
     alloc: Global,
     mut core: Core,

@@ -1,11 +1,10 @@
 // A splitter and its instances side by side, at a hub of their own.
 ghost use Rattle.std.specs.Prelude.{◌≡◌, ◌≤◌, ◌<◌, ◌+◌, [], None, List, length, vec_len, vec_capacity};
-ghost use Rattle.std.specs.List.{All, count_by};
+ghost use Rattle.std.specs.List.{All};
 ghost use Rattle.std.specs.Thread.{IsSync};
 ghost use Rattle.sp_io.specs.Outside.{Rose};
-ghost use Rattle.sp_hub.specs.History.{IsLegal, is_call};
 ghost use Rattle.sp_core.specs.Running.{begun};
-ghost use Rattle.sp_split.specs.Serving.{Ends, MayServe, Serves, ending};
+ghost use Rattle.sp_split.specs.Serving.{Ends, MayServe, Serves, WoundUp, ending};
 
 use crate::attending::{Crew, attend_all};
 use crate::office::Office;
@@ -113,8 +112,7 @@ fn wind_up<L: Naming>(
 ) -> History
     requires whole { vec_len others + 1 ≡ hub.seats }
     requires room { vec_len others < vec_capacity others }
-    ensures legal { IsLegal result.entries }
-    ensures calls { by.calls ≤ count_by is_call result.entries }
+    ensures { WoundUp hub.seats by.calls result }
 {
     let mut seats = others;
     seats.push_reserved(mine);

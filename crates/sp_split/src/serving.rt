@@ -114,9 +114,9 @@ fn do_listed<L: Naming, G: Gate, R: Wait>(
     true
 }
 
-// Does the jobs that are listed, at most as many as may be out: for each of them no instance was free. Where none
-// is listed, waits for a piece if nothing else can be done before one comes home: the input is over, or as many
-// pieces are out as may be.
+// Does jobs that are listed, which no instance has taken yet, at most as many as may be out. Where none is listed, waits
+// for a piece if nothing else can be done before one comes home: the input is over, or as many pieces are out as
+// may be. No clause says which of this it did, only that the seat holds nothing behind it.
 fn help<L: Naming, G: Gate, R: Wait>(
     office: &Office<'_, L, G, R>,
     by: &Poster<Piece, L>,
@@ -192,10 +192,10 @@ fn run<I: Intake, O: Outlet, L: Naming, G: Gate, R: Wait>(
     unreachable!()
 }
 
-/// Runs a splitter whose core has done no step, from an intake to an outlet, and closes its hub: events are fed,
-/// up to `batch` at a time, a turn is taken, and the matches of the windows that it finished are put, until the
-/// intake gives no more and every closed window is finished. The jobs that are listed after a turn the splitter does
-/// itself.
+/// Runs a splitter whose core has done no step, from an intake to an outlet, until the intake gives no more and every
+/// closed window is finished, or a match is refused, or memory runs out. Turn after turn events are fed, a turn is
+/// taken, the matches of the windows that it finished are put, and then the splitter does jobs that are still listed.
+/// Behind the last turn it closes its hub.
 pub(crate) fn serve<I: Intake, O: Outlet, L: Naming, G: Gate, R: Wait>(
     office: &Office<'_, L, G, R>,
     desk: Desk<L>,

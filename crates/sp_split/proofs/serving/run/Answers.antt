@@ -9,7 +9,7 @@ use Rattle.sp_group.specs.Steps.{Spread}
 use Rattle.sp_splitter.specs.Stages.{IsSpreading}
 use Rattle.sp_split.proofs.Going.{going_none, fell_short}
 use Rattle.sp_split.proofs.Over.{drove_over, fed_turn, going_on, put_on, went_any}
-use Rattle.sp_split.proofs.Turns.{on_any, fed_later, unended_first, spreading_first, read_first}
+use Rattle.sp_split.proofs.Turns.{on_any, fed_later, unended_first, spreading_first, few_first, few_turn, read_first}
 use Rattle.sp_split.proofs.serving.run.Goals as goal
 
 pub loop-init : goal.loop-init
@@ -22,6 +22,7 @@ loop-init g c =
       going = going_none (λ (events : List Event). g.I.Intake.gave first events first) start (g.O.Outlet.state c.args.outlet.now) c.requires.fresh (g.I.Intake.gave_none first);
       fed = unended_first start c.requires.fresh;
       spreading = spreading_first start c.requires.fresh c.args.desk.now.splitter.instances;
+      few = few_first start c.requires.fresh c.args.desk.now.splitter.instances;
       read = read_first start c.requires.fresh c.args.desk.now.by.calls;
       can = c.requires.can;
       instances = refl;
@@ -78,6 +79,7 @@ returns-in-Some-clause-came g c =
     let went = went_any c.turn_once-put.result n mid last _ _ _ own.done own.failed own.short in
     record {
       spread = subst (λ (k : ℕ). Spread last.plan last.bound k last.journal) same (went.spread (subst (λ (k : ℕ). IsSpreading k mid) (sym same) (c.fill.ensures.filled.goes N c.loop.invariant.spreading)));
+      few = few_turn N n mid last went same (let few = c.loop.invariant.few in let out = c.fill.ensures.filled.out in omega arith);
       read = let more = own.read in let before = c.fill.ensures.filled.read in let few = c.loop.invariant.read in omega arith;
     }
 
@@ -111,6 +113,7 @@ loop-preserved g c =
       fed = fed_later fed mid.machine.ended last.machine.ended whole stopped went.ended
           (c.in_ok-fed.ensures.is (g.I.Intake.stops first) c.loop.invariant.never_falls c.loop.invariant.fed);
       spreading = subst (λ (k : ℕ). IsSpreading k last) same (goes (subst (λ (k : ℕ). IsSpreading k mid) (sym same) (c.fill.ensures.filled.goes N c.loop.invariant.spreading)));
+      few = few_turn N n mid last went same (let few = c.loop.invariant.few in let out = c.fill.ensures.filled.out in omega arith);
       read = let more = own.read in let before = c.fill.ensures.filled.read in let few = c.loop.invariant.read in omega arith;
       can = put_on _ fed put all c.in_default.ensures own.can;
       instances = own.rest.0 ∙ same;
