@@ -8,11 +8,10 @@ ghost use Rattle.sp_split.specs.Driving.{Drove, FellShort};
 use crate::feeding::feed;
 use crate::stopping::why_over;
 use crate::working::work_off;
-use crate::{Memory, Went, Why};
+use crate::{Memory, Went, Why, law};
 use sp_chance::Predictor;
 use sp_core::Core;
 use sp_ports::{Intake, Outlet};
-use sp_window::finished_windows_stay;
 use std::alloc::Global;
 
 // Runs a core that has done no step, as `drive` says; answers why the run has ended.
@@ -45,10 +44,8 @@ fn run<I: Intake, O: Outlet>(
 {
     // An intake ends long before so many turns.
     for _ in 0..u64::MAX {
-        // They tell what every core keeps.
-        core.plan();
-        core.finished();
-        finished_windows_stay();
+        law::steps_lead_to(core);
+        law::finished_windows_stay();
         let fed = feed(alloc, core, batch, intake)?;
         let put = work_off(alloc, core, predictor, outlet);
         if let Some(why) = why_over(fed, put, true) {

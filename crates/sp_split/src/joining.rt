@@ -9,13 +9,12 @@ ghost use Rattle.sp_split.specs.Serving.{Ends, MayServe, Serves, WoundUp, ending
 use crate::attending::{Crew, attend_all};
 use crate::office::Office;
 use crate::serving::{Desk, Served, serve};
-use crate::{Ended, Memory, Went};
+use crate::{Ended, Memory, Went, law};
 use sp_hub::{History, Hub, Naming, Opened, Poster, Seat};
 use sp_instance::Gate;
 use sp_piece::{Job, Piece};
 use sp_ports::{Intake, Outlet};
 use sp_splitter::Splitter;
-use sp_spread::returns_follow_readings;
 use std::alloc::{AllocError, Global};
 use std::sync::Wait;
 use std::thread;
@@ -156,8 +155,7 @@ pub(crate) fn under<
     ensures same_out { (O.plan result.1.outlet ≡ O.plan ways.outlet)
         × (O.token result.1.outlet ≡ O.token ways.outlet) }
 {
-    // It counts readings, and the returns behind them.
-    returns_follow_readings();
+    law::returns_follow_readings();
     let (hub, by, seats) = match Hub::<Job, Piece, L>::new(alloc, opened) {
         Ok(made) => made,
         Err(AllocError) => return (Err(AllocError), ways),

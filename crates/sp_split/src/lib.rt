@@ -9,6 +9,7 @@ mod feeding;
 mod filling;
 mod handing;
 mod joining;
+mod law;
 mod lent;
 mod office;
 mod serving;

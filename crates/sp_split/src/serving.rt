@@ -14,14 +14,13 @@ use crate::filling::fill;
 use crate::handing::put_windows;
 use crate::office::Office;
 use crate::stopping::why_over;
-use crate::{Memory, Went, Why};
+use crate::{Memory, Went, Why, law};
 use sp_core::Core;
 use sp_hub::{Hub, Naming, Poster, Seat, Taken};
 use sp_instance::{Gate, do_job};
 use sp_piece::{Job, Piece};
 use sp_ports::{Intake, OutFault, Outlet};
 use sp_splitter::Splitter;
-use sp_window::finished_windows_stay;
 use std::alloc::{AllocError, Global};
 use std::sync::Wait;
 
@@ -177,10 +176,8 @@ fn run<I: Intake, O: Outlet, L: Naming, G: Gate, R: Wait>(
     } = *office;
     let mut fed = Fed::More;
     for _ in rt.forever() {
-        // They tell what every core keeps.
-        desk.splitter.core.plan();
-        desk.splitter.core.finished();
-        finished_windows_stay();
+        law::steps_lead_to(&desk.splitter.core);
+        law::finished_windows_stay();
         fed = fill(alloc, &mut desk.splitter, fed, intake)?;
         let put = turn_once(rt, alloc, hub, desk, outlet);
         let all = all_finished(&desk.splitter.core);

@@ -14,6 +14,7 @@ ghost use Rattle.sp_commands.specs.Drill.{DrillOutcome, WritesSummary};
 ghost use Rattle.sp_top.specs.Summing.{CanSum, SumsUp};
 ghost use Rattle.sp_top.specs.Report.{ReportsDrill, WhereDone};
 
+use crate::law;
 use crate::run::run_plan;
 use crate::workshop::{Answer, Workshop};
 use sp_answer::Status;
@@ -22,13 +23,12 @@ use sp_chance::Predictor;
 use sp_cli::Speed;
 use sp_commands::status_of_refusal;
 use sp_core::Core;
-use sp_cut::rows_stay;
-use sp_drill::{drill_query_has_plan, generated_rows_are_read, query};
+use sp_drill::query;
 use sp_emit::summary_text;
 use sp_gen::generate;
 use sp_instance::Gate;
 use sp_io::{ByteSource, Discard, Sink};
-use sp_load::{QueryText, Refusal, one_reading, plan_of_text};
+use sp_load::{QueryText, Refusal, plan_of_text};
 use sp_plan::{Memory, Plan};
 use std::alloc::{AllocError, Global};
 use std::sync::Wait;
@@ -39,9 +39,9 @@ fn drill_plan(alloc: Global) -> Result<Plan, Refusal>
     ensures plan { IfOk result (IsPlanFor drill_query) }
     ensures memory { IfErr result (λ refusal. refusal ≡ Refusal.Memory) }
 {
-    // laws: the query has a plan, and no text has both a plan and a fault
-    drill_query_has_plan();
-    one_reading();
+    // the query has a plan, and no text has both a plan and a fault
+    law::drill_query_has_plan();
+    law::one_reading();
     plan_of_text(alloc, &QueryText::Word(query()))
 }
 
@@ -93,11 +93,10 @@ fn run_rows<G: Gate, R: Threads + Wait + Sync>(
     ensures report { WhereDone (ReportsDrill events seed (speed_seen speed.now))
         result.status result.ended }
 {
-    // laws: each plan of the query reads the rows to their end, and a row stays a row whatever comes
-    // behind
-    drill_query_has_plan();
-    generated_rows_are_read();
-    rows_stay();
+    // each plan of the query reads the rows to their end, and a row stays a row whatever comes behind
+    law::drill_query_has_plan();
+    law::generated_rows_are_read();
+    law::rows_stay();
     match task_of(shop.alloc, events, seed) {
         Ok(task) => {
             let Task { plan, mut rows } = task;
@@ -177,9 +176,9 @@ pub(crate) fn drill<K: Sink, G: Gate, R: Threads + Wait + Sync>(
     ensures report { WhereDone (ReportsDrill events seed (speed_seen speed.now))
         result.status result.ended }
 {
-    // laws: the query has a plan, and its run has read as many events as there are rows
-    drill_query_has_plan();
-    generated_rows_are_read();
+    // the query has a plan, and its run has read as many events as there are rows
+    law::drill_query_has_plan();
+    law::generated_rows_are_read();
     let mut answer = run_rows(shop, events, seed, speed, predictor);
     sum_up(shop.alloc, &mut answer, out);
     answer

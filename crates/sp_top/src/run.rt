@@ -18,6 +18,7 @@ ghost use Rattle.sp_top.specs.Report.{ReportsPlace, ReportsPlan, WhereDone};
 ghost use Rattle.sp_commands.specs.Run.{IsPlanRun, RunOutcome};
 
 use crate::asked::Run;
+use crate::law;
 use crate::lines::Lines;
 use crate::workshop::{Answer, Workshop};
 use sp_answer::Status;
@@ -31,7 +32,6 @@ use sp_io::{Files, Sink, Source};
 use sp_load::plan_at;
 use sp_plan::{Memory, Plan};
 use sp_split::{Why, drive};
-use sp_window::growth;
 use std::alloc::Global;
 use std::sync::{Arc, Wait};
 use std::thread::Threads;
@@ -104,15 +104,13 @@ fn drive_core<S: Source, K: Sink, G: Gate, R: Threads + Wait + Sync>(
 {
     let (instances, batch) = (speed.instances, speed.batch);
     let Workshop { rt, alloc, gate } = shop;
-    // A law: while the input has not ended, the matches so far begin those of any longer input.
-    growth();
+    // while the input has not ended, the matches so far begin those of any longer input
+    law::growth();
     match drive(
         *rt, *alloc, core, instances, batch, predictor, input, lines, *gate,
     ) {
         Ok(ended) => {
-            // They tell what every core keeps, and that the journal leads to its state.
-            ended.core.finished();
-            ended.core.journal();
+            law::steps_lead_to(&ended.core);
             let status = status_of_end(ended.why, input.stop());
             let ended = Some(ended);
             Answer { status, ended }

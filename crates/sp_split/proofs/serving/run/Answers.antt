@@ -3,7 +3,6 @@ use Rattle.std.proofs.lemmas.Result.{err_from_is_err_and}
 use Rattle.sp_io.specs.Outside.{Rose}
 use Rattle.sp_plan.specs.declared.event.Event.{Event}
 use Rattle.sp_plan.specs.declared.plan.Plan.{Plan}
-use Rattle.sp_plan.specs.Compiled.{IsCompiled}
 use Rattle.sp_ports.specs.Giving.{AreGood}
 use Rattle.sp_group.specs.Steps.{Spread}
 use Rattle.sp_splitter.specs.Stages.{IsSpreading}
@@ -48,7 +47,7 @@ returns-in_err-fed-clause-short g c =
     let good = subst (λ (q : Plan). AreGood q events) c.requires.intake_plan (g.I.Intake.good first events c.fill.new.intake lost.1) in
     rw p.1 (fell_short _ G (g.I.Intake.ended c.fill.new.intake) start c.loop.desk.splitter.core mid old s lost.0
     c.loop.invariant.going c.in_err-fed.ensures.unended
-    c.finished.ensures.reached (subst IsCompiled c.plan.ensures.plan c.plan.ensures.compiled) c.finished_windows_stay.ensures c.fill.ensures.filled.on lost.1 good)
+    c.steps_lead_to.ensures.reached c.steps_lead_to.ensures.compiled c.finished_windows_stay.ensures c.fill.ensures.filled.on lost.1 good)
 
 pub returns-in-Some-clause-ended : goal.returns-in-Some-clause-ended
 returns-in-Some-clause-ended g c =
