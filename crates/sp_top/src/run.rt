@@ -119,11 +119,6 @@ fn drive_core<S: Source, K: Sink, G: Gate, R: Threads + Wait + Sync>(
     }
 }
 
-// Does nothing: the use of a reference that came back ties it to the one that was lent.
-fn take_back<T>(lent: &mut T)
-    ensures { lent.new ≡ lent.old }
-{}
-
 /// Runs a plan over the input.
 pub(crate) fn run_plan<S: Source, K: Sink, G: Gate, R: Threads + Wait + Sync>(
     shop: &Workshop<'_, G, R>,
@@ -153,8 +148,9 @@ pub(crate) fn run_plan<S: Source, K: Sink, G: Gate, R: Threads + Wait + Sync>(
     let taken = 0;
     let mut lines = Lines { plan, out, taken };
     let answer = drive_core(shop, core, speed, predictor, &mut reading, &mut lines);
-    take_back(reading.into_source());
-    take_back(lines.into_sink());
+    // The references that come back are used, which ties them to those that were lent.
+    let _source = reading.into_source();
+    let _sink = lines.into_sink();
     answer
 }
 
