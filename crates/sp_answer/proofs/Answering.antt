@@ -6,7 +6,7 @@ use Rattle.sp_answer.specs.declared.status.Status.TheVariants.{Done, Memory, Usa
 use Rattle.sp_answer.specs.Outcome.{Outcome, Ending, ending, ending_of, line_of}
 use Rattle.sp_answer.specs.Ran.{Outside, ReadsNoFurther, Ran, Made}
 use Rattle.sp_answer.specs.Promise.{Filed, FileTold, Answered, by_memory, by_file, by_refusal, by_run, by_itself, Served}
-use Rattle.sp_answer.proofs.Grew.{within_none, grew_whole}
+use Rattle.sp_io.proofs.Grew.{within_none, grew_whole}
 
 -- ---- runs
 

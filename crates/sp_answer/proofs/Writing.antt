@@ -6,7 +6,7 @@ use Rattle.sp_io.specs.Outside.{SinkState, Grew, GrewWithin, Rose}
 use Rattle.sp_answer.specs.Written.{WritesText}
 use Rattle.sp_answer.specs.declared.written.Written.{Written}
 use Rattle.sp_answer.specs.declared.written.Written.TheVariants.{All, Failed}
-use Rattle.sp_answer.proofs.Grew.{grew_more, grew_whole, within_all, within_more}
+use Rattle.sp_io.proofs.Grew.{grew_more, grew_whole, within_all, within_more}
 
 -- memory ran out between two lines
 pub out_of_memory : (text : List ℕ) (old new : SinkState) (result : Result Written AllocError) → IsErr result → GrewWithin old.held text new.held → new.faults ≡ old.faults → WritesText text old new result

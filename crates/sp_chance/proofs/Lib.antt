@@ -6,3 +6,4 @@ mod Columns
 mod Ring
 mod Worked
 mod Ordered
+pub mod Teaching

@@ -3,3 +3,4 @@ pub mod Counted
 pub mod Recent
 pub mod Learned
 pub mod Shares
+pub mod Taught

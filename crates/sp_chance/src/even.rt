@@ -18,6 +18,8 @@ impl Predictor for Even {
 
     ghost means = { λ _ _ _. 32768 };
 
+    ghost taught = { λ _ _. Unit {0} };
+
     fn name(&self) -> &str {
         "even"
     }

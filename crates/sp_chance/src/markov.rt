@@ -81,6 +81,8 @@ impl Predictor for Markov {
 
     ghost means = { λ m left events. chance_of m.built left events };
 
+    ghost taught = { λ m pairs. m ≡ learned_all fresh pairs };
+
     fn name(&self) -> &str {
         "markov"
     }

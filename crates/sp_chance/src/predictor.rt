@@ -1,4 +1,5 @@
-ghost use Rattle.std.specs.Prelude.{◌≡◌, ℕ, List};
+ghost use Rattle.std.specs.Prelude.{◌≡◌, ◌∷◌, ℕ, List, []};
+ghost use Rattle.sp_chance.specs.Taught.{TaughtOn};
 
 /// Tells how likely it is that an open group completes. Nothing rests on its numbers but the choice of the
 /// work that is done first.
@@ -9,6 +10,9 @@ pub trait Predictor: Drop + Send {
     /// What `chance` answers for each pair of numbers.
     ghost means: { Self → ℕ → ℕ → ℕ };
 
+    /// Whether these may be the pairs that it was taught, in their order. Where it keeps nothing of them, any may be.
+    ghost taught: { Self → List (ℕ × ℕ) → Type 0 };
+
     /// The name by which it is chosen.
     fn name(&self) -> &str
         ensures { result.now ≡ named self.now };
@@ -16,11 +20,13 @@ pub trait Predictor: Drop + Send {
     /// A group that wanted `from` events wants `to` after one more. The name stays; nothing is promised of
     /// the numbers.
     fn learn(&mut self, from: u32, to: u32)
-        ensures { named self.new ≡ named self.old };
+        ensures name { named self.new ≡ named self.old }
+        ensures taught { TaughtOn (taught self.old) ((from, to) ∷ []) (taught self.new) };
 
     /// Learns each of these pairs, in their order.
     fn learn_all(&mut self, pairs: &[(u32, u32)])
-        ensures { named self.new ≡ named self.old }
+        ensures name { named self.new ≡ named self.old }
+        ensures taught { TaughtOn (taught self.old) pairs.now (taught self.new) }
     {
         for (from, to) in pairs {
             self.learn(*from, *to);

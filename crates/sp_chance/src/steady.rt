@@ -31,6 +31,8 @@ impl Predictor for Steady {
 
     ghost means = { λ share _ _. share };
 
+    ghost taught = { λ _ _. Unit {0} };
+
     fn name(&self) -> &str {
         "steady"
     }

@@ -5,7 +5,7 @@ use Rattle.std.specs.List.{flat_map}
 use Rattle.std.proofs.lemmas.Grind.{flat_map-append}
 use Rattle.std.proofs.lemmas.List.{append-nil, take_more, drop_more}
 use Rattle.sp_io.specs.Outside.{Told, Grew, GrewWithin}
-use Rattle.sp_answer.proofs.Grew.{grew_more, within_all, within_more}
+use Rattle.sp_io.proofs.Grew.{grew_more, within_all, within_more}
 use Rattle.sp_trace.specs.Traced.{joined}
 
 module _ {X : Type 0} (line : X → List ℕ) (ms : List X) (i : ℕ) where

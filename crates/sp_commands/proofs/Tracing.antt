@@ -1,13 +1,13 @@
 -- A trace as what is promised of it: its lines step by step, and its texts.
-use Rattle.std.proofs.Common.{◌⊎◌, ◌≡◌, ◌≢◌, inl, inr, ℕ, ◌+◌, ◌<◌, Bool, true, false, List, [], ◌∷◌, ◌++◌, length, get_or, take, drop, refl, sym, ◌∙◌, ap, subst, append_assoc, append-nil, take-append-drop}
-use Rattle.std.specs.Prelude.{Result, if◌then◌else◌}
+use Rattle.std.proofs.Common.{◌⊎◌, ◌≡◌, ◌≢◌, inl, inr, ℕ, ◌+◌, ◌<◌, Bool, true, false, List, [], ◌∷◌, ◌++◌, length, get_or, take, drop, Ok, Err, refl, sym, ◌∙◌, ap, subst, append_assoc, append-nil, take-append-drop}
+use Rattle.std.specs.Prelude.{Result, IsErr, if◌then◌else◌}
 use Rattle.std.specs.declared.alloc.AllocError.{AllocError}
 use Rattle.std.specs.List.{All, fold}
 use Rattle.std.proofs.lemmas.Grind.{flat_map-append}
 use Rattle.std.proofs.lemmas.List.{take_more, drop_more}
 use Rattle.std.proofs.lemmas.List.Elements.{All-nil, All-cons}
 use Rattle.std.proofs.lemmas.List.Sums.{fold-append}
-use Rattle.sp_io.specs.Outside.{ToldFiles, SinkState, HoldsLonger}
+use Rattle.sp_io.specs.Outside.{ToldFiles, SinkState, HoldsLonger, Grew, GrewWithin}
 use Rattle.sp_plan.specs.declared.event.Event.{Event}
 use Rattle.sp_plan.specs.declared.plan.Plan.{Plan}
 use Rattle.sp_intake.specs.Reading.{is_end}
@@ -26,9 +26,12 @@ use Rattle.sp_answer.specs.Ran.{Outside}
 use Rattle.sp_answer.specs.Promise.{Filed, Answered, by_memory as memory_answered, by_refusal as refusal_answered, by_run as run_answered, SameCounts, Served}
 use Rattle.sp_answer.specs.Written.{WritesText}
 use Rattle.sp_answer.specs.declared.written.Written.{Written}
+use Rattle.sp_answer.specs.declared.written.Written.TheVariants.{All as Whole, Failed}
 use Rattle.sp_answer.specs.declared.status.Status.{Status}
 use Rattle.sp_answer.specs.declared.status.Status.TheVariants.{Done}
 use Rattle.sp_answer.proofs.Answering.{answered_weaker}
+use Rattle.sp_io.proofs.Grew.{within_more}
+use Rattle.sp_answer.proofs.Writing.{out_of_memory, cut_within, piece_grew, piece_quiet}
 use Rattle.sp_commands.specs.Commands.{files_at}
 use Rattle.sp_commands.specs.Ends.{status_of, status_of_refusal}
 use Rattle.sp_commands.specs.Trace.{TraceOutcome, long_query, long_schedule, of_texts, TextsOutcome, faulty, longest_schedule, trace_text, HasSchedule, RefusesTexts, RefusesTrace, OneRose, AnswersTexts, by_memory, by_refusal, by_run}
@@ -70,6 +73,32 @@ module _ (g : Tracing) (xs : List TraceStep) (i : ℕ) (x : TraceStep) (inside :
 
   pub after_more : fold after g (take (i + 1) xs) ≡ after here x
   after_more = ap (fold after g) (take_more xs i x inside ∙ ap (λ (y : TraceStep). take i xs ++ y ∷ []) (sym is)) ∙ fold-append after g (take i xs) (x ∷ [])
+
+-- memory ran out, and the output did not fail
+err_not_failed : (result : Result Written AllocError) → IsErr result → result ≢ Ok Failed
+err_not_failed (Ok written) failed is = absurd (cc failed)
+err_not_failed (Err e) failed is = cc
+
+-- one step was printed behind what had been printed
+module _ (g : Tracing) (xs : List TraceStep) (i : ℕ) (x : TraceStep) (inside : i < length xs) (is : x ≡ get_or xs i x) (old mid new : SinkState)
+    (grew : Grew old.held (text_from g (take i xs)) mid.held) (quiet : mid.faults ≡ old.faults) where
+  abbrev own : List ℕ
+  own = joined (lines_for (fold after g (take i xs)) x)
+
+  pub one_grew : WritesText own mid new (Ok Whole) → Grew old.held (text_from g (take (i + 1) xs)) new.held
+  one_grew writes = subst (λ (l : List ℕ). Grew old.held l new.held) (sym (text_more g xs i x inside is)) (piece_grew _ (text_from g (take i xs)) own _ (text_rest g xs i x inside is) old mid new grew quiet writes)
+
+  pub one_quiet : WritesText own mid new (Ok Whole) → new.faults ≡ old.faults
+  one_quiet writes = piece_quiet _ (text_from g (take i xs)) own _ (text_rest g xs i x inside is) old mid new grew quiet writes
+
+  pub one_cut : WritesText own mid new (Ok Failed) → WritesText (text_from g xs) old new (Ok Failed)
+  one_cut writes = cut_within _ (text_from g (take i xs)) own _ (text_rest g xs i x inside is) old mid new grew quiet writes
+
+  pub one_short : (own_end end : Result Written AllocError) → IsErr own_end → IsErr end → WritesText own mid new own_end → WritesText (text_from g xs) old new end
+  one_short own_end end own_failed failed writes =
+      out_of_memory _ old new end failed
+      (subst (λ (l : List ℕ). GrewWithin old.held l new.held) (sym (text_rest g xs i x inside is)) (within_more old.held mid.held new.held (text_from g (take i xs)) own _ grew writes.within))
+      (writes.not_failed (err_not_failed own_end own_failed) ∙ quiet)
 
 -- the steps of a schedule can stand in one
 pub steps_stand : (lines : List (List ℕ)) (steps : List TraceStep) → AreSteps lines steps → All CanStand steps

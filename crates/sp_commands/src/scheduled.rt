@@ -1,11 +1,11 @@
 // The command `trace`: the machine over the input, as a schedule steps it.
-ghost use Rattle.std.specs.Prelude.{◌≡◌, ◌≢◌, ◌≤◌, ℕ, List, [], ◌∷◌, ◌++◌, false, length, IfOk, IfErr, Err};
+ghost use Rattle.std.specs.Prelude.{◌≡◌, ◌≢◌, ◌≤◌, ℕ, List, [], ◌∷◌, ◌++◌, false, length, IfOk, IfErr, OnOk, Err};
 ghost use Rattle.std.specs.Arc.{arc_value};
 ghost use Rattle.std.specs.List.{All};
 ghost use Rattle.sp_plan.specs.Compiled.{IsCompiled};
 ghost use Rattle.sp_plan.specs.Events.{AllFit, NeverGoesBack};
 ghost use Rattle.sp_sched.specs.Schedules.{CanStand, IsSchedule};
-ghost use Rattle.sp_trace.specs.Traced.{traced};
+ghost use Rattle.sp_trace.specs.Traced.{after, joined, lines_for, lines_from, traced};
 ghost use Rattle.sp_load.specs.Places.{place_of, text_of, longest_query, HasText};
 ghost use Rattle.sp_load.specs.Queries.{IsPlanFor};
 ghost use Rattle.sp_answer.specs.Outcome.{ending};
@@ -106,6 +106,43 @@ fn task_of(alloc: Global, texts: &Texts) -> Result<Task, Status>
     }
 }
 
+// Prints what a step of the schedule does.
+fn print_step<K: Sink>(
+    alloc: Global,
+    tracer: &mut Tracer,
+    step: &TraceStep,
+    out: &mut K,
+) -> Result<Written, Memory>
+    requires can_stand { CanStand step.now }
+    ensures text { WritesText (joined (lines_for tracer.old step.now))
+        (K.state out.old) (K.state out.new) result }
+    ensures ok { OnOk result (tracer.new ≡ after tracer.old step.now) }
+{
+    let lines = tracer.step(alloc, step)?;
+    Ok(write_texts(&lines, out))
+}
+
+// Prints what each step does, one after another.
+fn print_steps<K: Sink>(
+    alloc: Global,
+    tracer: &mut Tracer,
+    steps: &[TraceStep],
+    out: &mut K,
+) -> Result<Written, Memory>
+    requires steps { All CanStand steps.now }
+    ensures { WritesText (joined (lines_from tracer.old steps.now))
+        (K.state out.old) (K.state out.new) result }
+{
+    for step in steps {
+        let written = print_step(alloc, tracer, step, out)?;
+        match written {
+            Written::All => {}
+            Written::Failed => return Ok(Written::Failed),
+        }
+    }
+    Ok(Written::All)
+}
+
 // Prints the run of a plan over all events, line by line.
 fn print_trace<K: Sink>(
     alloc: Global,
@@ -125,14 +162,7 @@ fn print_trace<K: Sink>(
         WritesText text (K.state out.old) (K.state out.new) result }
 {
     let mut tracer = Tracer::new(alloc, plan, live, events)?;
-    for step in steps {
-        let lines = tracer.step(alloc, step)?;
-        match write_texts(&lines, out) {
-            Written::All => {}
-            Written::Failed => return Ok(Written::Failed),
-        }
-    }
-    Ok(Written::All)
+    print_steps(alloc, &mut tracer, steps, out)
 }
 
 // Reads the input whole, and prints the run of the task over its events where it was read to its end.

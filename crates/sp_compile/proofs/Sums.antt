@@ -8,12 +8,13 @@ use Rattle.sp_plan.specs.declared.plan.Expr.{Expr}
 use Rattle.sp_plan.specs.Bounds.{bound, greatest}
 use Rattle.sp_plan.specs.Comparable.{HasScale}
 use Rattle.sp_plan.specs.Values.{BoundEvents, value}
+use Rattle.sp_compile.specs.declared.arithmetic.Scaled.{Scaled}
 use Rattle.sp_compile.specs.declared.fault.CompileFault.{CompileFault}
 use Rattle.sp_compile.specs.declared.fault.CompileFault.TheVariants as f
 use Rattle.sp_compile.specs.declared.sort.Sort.{Sort}
 use Rattle.sp_compile.specs.declared.sort.Sort.TheVariants as s
-use Rattle.sp_compile.specs.Sorts.{limited, sum_sort}
-use Rattle.sp_compile.specs.Parts.{IsSound, IsScaled, IsRaised, RaisedAnswer, raises, Aligned}
+use Rattle.sp_compile.specs.Sorts.{limited, product_sort, sum_sort}
+use Rattle.sp_compile.specs.Parts.{IsSound, IsScaled, IsNumberOf, IsRaised, RaisedAnswer, raises, Aligned}
 
 -- a number within limits
 pub record Within (scale most : ℕ) (sort : Sort) : Type 0 where
@@ -32,6 +33,18 @@ within span scale most sort e = within_tests span scale most sort (nat_le scale 
 pub scaled : (p : Expr × Sort) → IsSound p → IsScaled p.1
 scaled (expr, s.Text) x = tt
 scaled (expr, s.Number scale most) x = x.bounded.1
+
+-- what the product and the sum of two numbers are, and how many decimals more they get for the sum
+module _ (one two : Scaled) (left right : Sort) (a : IsNumberOf one left) (b : IsNumberOf two right) where
+  pub product_of : (span : Span) → product_sort span left right ≡ limited span (one.scale + two.scale) (one.bound * two.bound)
+  product_of span = (λ i. product_sort span (a.is i) (b.is i))
+
+  pub sum_of : (span : Span)
+      → sum_sort span left right ≡ limited span (max one.scale two.scale) (one.bound * 10 ^ (max one.scale two.scale - one.scale) + two.bound * 10 ^ (max one.scale two.scale - two.scale))
+  sum_of span = (λ i. sum_sort span (a.is i) (b.is i))
+
+  pub raises_of : raises left right ≡ (max one.scale two.scale - one.scale, max one.scale two.scale - two.scale)
+  raises_of = (λ i. raises (a.is i) (b.is i))
 
 -- what is raised for a sum keeps its limits
 pub record Fits (left right : Expr × Sort) (by more : ℕ) : Type 0 where

@@ -12,12 +12,13 @@ use Rattle.sp_query.specs.declared.query.QueryColumn.{QueryColumn}
 use Rattle.sp_query.specs.declared.tree.Tree.{Tree, out-Tree}
 use Rattle.sp_query.specs.declared.tree.Node.{Node}
 use Rattle.sp_query.specs.declared.tree.Node.TheVariants as n
+use Rattle.sp_compile.specs.declared.arithmetic.Scaled.{Scaled}
 use Rattle.sp_compile.specs.declared.fault.CompileFault.{CompileFault}
 use Rattle.sp_compile.specs.declared.fault.CompileFault.TheVariants as f
 use Rattle.sp_compile.specs.declared.sort.Sort.{Sort}
 use Rattle.sp_compile.specs.declared.sort.Sort.TheVariants as s
 use Rattle.sp_compile.specs.Scopes.{Scope, column_place, name_place}
-use Rattle.sp_compile.specs.Sorts.{Verdict, sum_sort, negative_sort, operator_sort}
+use Rattle.sp_compile.specs.Sorts.{Verdict, sum_sort, product_sort, negative_sort, operator_sort}
 use Rattle.sp_compile.specs.Meaning.{Datum, number, text, datum_of, combined, negative}
 use Rattle.sp_compile.specs.Answers.{datum, IsBounded, HasSort, bound_names}
 use Rattle.sp_compile.specs.Stands.{plan_column}
@@ -35,6 +36,16 @@ limit_of_sum _ _ = None
 abbrev pub IsScaled : Sort → Type 0
 IsScaled s.Text = Unit {0}
 IsScaled (s.Number scale bound) = scale ≤ 36
+
+-- The sort is a number of this scale and bound, with at most 36 decimals.
+pub record IsNumberOf (one : Scaled) (sort : Sort) : Type 0 where
+  pub is : sort ≡ s.Number one.scale one.bound
+  pub few : one.scale ≤ 36
+
+-- two numbers, or the fault that sums and products of other things have
+abbrev pub NumbersAnswer : Span → Sort → Sort → Result (Scaled × Scaled) CompileFault → Type 0
+NumbersAnswer span left right (Ok p) = IsNumberOf p.0 left × IsNumberOf p.1 right
+NumbersAnswer span left right (Err fault) = (product_sort span left right ≡ Err fault) × (sum_sort span left right ≡ Err fault)
 
 -- how many decimals more two numbers get for a sum
 abbrev pub raises : Sort → Sort → ℕ × ℕ

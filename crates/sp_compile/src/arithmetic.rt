@@ -5,7 +5,7 @@ ghost use Rattle.sp_query.specs.declared.tree.Node.TheVariants as n;
 ghost use Rattle.sp_compile.specs.Sorts.{is_arithmetic, operator_sort, negative_sort, product_sort, sum_sort};
 ghost use Rattle.sp_compile.specs.Meaning.{combined, negative};
 ghost use Rattle.sp_compile.specs.Answers.{HasSort};
-ghost use Rattle.sp_compile.specs.Parts.{within_limit, limit_of_sum, raises, IsScaled, IsSound, comes_to, BothSorted, MadeAnswer, RaisedAnswer, AlignedAnswer};
+ghost use Rattle.sp_compile.specs.Parts.{within_limit, limit_of_sum, raises, IsScaled, IsSound, comes_to, BothSorted, MadeAnswer, RaisedAnswer, AlignedAnswer, NumbersAnswer};
 
 use crate::boxed::{boxed, boxed_pair};
 use crate::expression::both;
@@ -76,24 +76,46 @@ pub(crate) fn minus(
     }
 }
 
+// The scale of a number, and its bound.
+#[derive(Clone, Copy, Drop)]
+struct Scaled {
+    scale: u8,
+    bound: u128,
+}
+
+// What two numbers are. A text is none.
+fn numbers(span: Span, left: Sort, right: Sort) -> Result<(Scaled, Scaled), CompileFault>
+    requires left { IsScaled left }
+    requires right { IsScaled right }
+    ensures { NumbersAnswer span left right result }
+{
+    match (left, right) {
+        (
+            Sort::Number { scale, bound },
+            Sort::Number {
+                scale: other,
+                bound: more,
+            },
+        ) => Ok((
+            Scaled { scale, bound },
+            Scaled {
+                scale: other,
+                bound: more,
+            },
+        )),
+        _ => Err(CompileFault::WrongKind(span)),
+    }
+}
+
 // What the product of two numbers is.
 fn sort_of_product(span: Span, left: Sort, right: Sort) -> Result<Sort, CompileFault>
     requires left { IsScaled left }
     requires right { IsScaled right }
     ensures { result ≡ product_sort span left right }
 {
-    let (
-        Sort::Number { scale, bound },
-        Sort::Number {
-            scale: other,
-            bound: more,
-        },
-    ) = (left, right)
-    else {
-        return Err(CompileFault::WrongKind(span));
-    };
-    let scale = scale + other;
-    match product_bound(bound, more) {
+    let (one, two) = numbers(span, left, right)?;
+    let scale = one.scale + two.scale;
+    match product_bound(one.bound, two.bound) {
         Some(bound) if scale <= MOST_DECIMALS => Ok(Sort::Number { scale, bound }),
         _ => Err(CompileFault::TooWide(span)),
     }
@@ -140,19 +162,13 @@ fn alignment_of(span: Span, left: Sort, right: Sort) -> Result<Alignment, Compil
         (λ fault. sum_sort span left right ≡ Err fault) }
     ensures raises { IfOk result (λ a. (a.left, a.right) ≡ raises left right) }
 {
-    let (
-        Sort::Number { scale, bound },
-        Sort::Number {
-            scale: other,
-            bound: more,
-        },
-    ) = (left, right)
-    else {
-        return Err(CompileFault::WrongKind(span));
-    };
-    let to = scale.max(other);
-    let (left, right) = (to - scale, to - other);
-    match sum_bound(raised_bound(bound, left), raised_bound(more, right)) {
+    let (one, two) = numbers(span, left, right)?;
+    let to = one.scale.max(two.scale);
+    let (left, right) = (to - one.scale, to - two.scale);
+    match sum_bound(
+        raised_bound(one.bound, left),
+        raised_bound(two.bound, right),
+    ) {
         Some(bound) => Ok(Alignment {
             left,
             right,
@@ -180,42 +196,6 @@ fn aligned(
     Ok((one, two, alignment.sort))
 }
 
-// The sum of two numbers.
-fn sum(
-    alloc: Global,
-    span: Span,
-    left: (Expr, Sort),
-    right: (Expr, Sort),
-) -> Result<(Expr, Sort), CompileFault>
-    requires left { IsSound left }
-    requires right { IsSound right }
-    ensures { MadeAnswer (sum_sort span left.1 right.1)
-        (λ event bound. combined n.Add (comes_to left event bound) (comes_to right event bound))
-        (BothSorted left right) result }
-{
-    let (one, other, sort) = aligned(alloc, span, left, right)?;
-    let (one, other) = boxed_pair(alloc, one, other)?;
-    Ok((Expr::Add(one, other), sort))
-}
-
-// The difference of two numbers.
-fn difference(
-    alloc: Global,
-    span: Span,
-    left: (Expr, Sort),
-    right: (Expr, Sort),
-) -> Result<(Expr, Sort), CompileFault>
-    requires left { IsSound left }
-    requires right { IsSound right }
-    ensures { MadeAnswer (sum_sort span left.1 right.1)
-        (λ event bound. combined n.Sub (comes_to left event bound) (comes_to right event bound))
-        (BothSorted left right) result }
-{
-    let (one, other, sort) = aligned(alloc, span, left, right)?;
-    let (one, other) = boxed_pair(alloc, one, other)?;
-    Ok((Expr::Sub(one, other), sort))
-}
-
 // A sum, a difference or a product.
 pub(crate) fn arithmetic(
     alloc: Global,
@@ -231,9 +211,13 @@ pub(crate) fn arithmetic(
         (λ event bound. combined node.now (comes_to left event bound) (comes_to right event bound))
         (BothSorted left right) result }
 {
+    if let Node::Mul = node {
+        return product(alloc, span, left, right);
+    }
+    let (one, other, sort) = aligned(alloc, span, left, right)?;
+    let (one, other) = boxed_pair(alloc, one, other)?;
     match node {
-        Node::Mul => product(alloc, span, left, right),
-        Node::Sub => difference(alloc, span, left, right),
-        _ => sum(alloc, span, left, right),
+        Node::Sub => Ok((Expr::Sub(one, other), sort)),
+        _ => Ok((Expr::Add(one, other), sort)),
     }
 }

@@ -12,7 +12,7 @@ mod definitions;
 mod elements;
 mod expression;
 mod fault;
-mod law;
+pub mod law;
 mod leaf;
 mod lookup;
 mod opening;

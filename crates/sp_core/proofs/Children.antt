@@ -12,6 +12,7 @@ use Rattle.sp_group.specs.Machine as machine
 use Rattle.sp_group.specs.Refusing.{child_with, id_of, same_list}
 use Rattle.sp_tree.specs.Grown.{Entry, AreRooted, IsChild, LacksChild, kin, root_in}
 use Rattle.sp_rules.specs.Kept.{Child, Shape, Stands}
+use Rattle.sp_rules.proofs.Spawning.{same_is}
 use Rattle.sp_core.specs.Holding.{version_of}
 use Rattle.sp_core.proofs.Entries.{version_is}
 
@@ -35,17 +36,6 @@ no_root (e ∷ es) rooted none = absurd (one e.version.parent rooted.0 none (no_
     one (Some p) there none rest =
         let gone : false ≡ true = subst (λ (xs : List (Entry Version)). is_some (entry_at kin xs p) ≡ true) (rest none) there in
         absurd (cc)
-
-same_is : (ms ns : List ℕ) → same_list ms ns ≡ true → ms ≡ ns
-same_is [] [] same = refl
-same_is [] (n ∷ ns) same = absurd (cc)
-same_is (m ∷ ms) [] same = absurd (cc)
-same_is (m ∷ ms) (n ∷ ns) same =
-    let both = and_parts (m == n) (same_list ms ns) same in
-    let test : (m == n) ≡ true = both.0 in
-    let head : m ≡ n = grind (arith, nat_tests) in
-    let rest = same_is ms ns both.1 in
-    cc
 
 same_itself : (ns : List ℕ) → same_list ns ns ≡ true
 same_itself [] = refl

@@ -434,7 +434,14 @@ module _ (laws : HomeLaws) (h : Holding) (p : Pieced) (a : Coming h p) (b : Brou
         ∙ ap (λ (j : List step.Entry). let x : Running = record { plan = h.plan; bound = h.tree.bound; machine = machine_then; journal = j } in x) journal_is
 
     pub given_home : IsGiven (running h) (running after) p g.Home
-    given_home = (a.ticket, version_of e, record { out = a.out; live = (comes laws h p a).live }, a.carries, running_home)
+    given_home = (
+      a.ticket,
+      version_of e,
+      record { out = a.out; live = (comes laws h p a).live },
+      a.carries,
+      running_home,
+      record { reading = returns_is.accepts_reads; returning = returns_is.accepts_return },
+    )
 
 -- it is a place among the tickets
 pub place_within : (ls : List Lent) (n place : ℕ) → IsPlaceOf (map ticket_of ls) n place → place < length ls

@@ -16,7 +16,7 @@ use Rattle.sp_tree.specs.Decided.{DecisionsAddUp, rule_of, with_groups}
 use Rattle.sp_tree.specs.Grown.{Entry, Grown, groups_of, kin, pruned}
 use Rattle.sp_version.specs.declared.version.Version.{Version}
 use Rattle.sp_core.specs.Homecoming.{CanDecide, ended_in, is_grouped, outcome_of}
-use Rattle.sp_core.proofs.RisingLists.{Rises, rises}
+use Rattle.sp_rules.proofs.RisingLists.{Rises, rises}
 
 or_left : (a b : Bool) → a ≡ true → (a || b) ≡ true
 or_left true b h = refl

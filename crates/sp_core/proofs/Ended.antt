@@ -15,7 +15,7 @@ use Rattle.sp_tree.specs.Grown.{AreGrown, Entry, Grown, kin, with_value, written
 use Rattle.sp_core.specs.declared.lent.Lent.{Lent}
 use Rattle.sp_core.specs.Carrying.{ticket_of}
 use Rattle.sp_core.specs.Holding.{Holding, Holds, IsCore, machine_of, running, version_of}
-use Rattle.sp_core.specs.Returning.{IsPlaceOf, none_out_where, with_none_out}
+use Rattle.sp_core.specs.Returning.{IsPlaceOf, none_out_where, with_none_out, without_ticket}
 use Rattle.sp_core.specs.Rooms.{matches_held, numbers_held}
 use Rattle.sp_core.specs.Running.{after, once}
 use Rattle.sp_core.proofs.Carried.{IsOutFor, here, lent_is, out_there, ticket_there}
@@ -148,6 +148,10 @@ module _ (h : Holding) (n : ℕ) (d : Lent) (left : List Lent) (a : IsOutAt h n 
   leaves_if : (o : Option (Entry Version)) → entry_at kin h.tree.entries d.version ≡ o → Leaves h n d (none_out_where h.tree d.version o)
   leaves_if None at = leaves_none at
   leaves_if (Some e) at = leaves_live e at
+
+  -- so nothing but the ticket goes
+  pub machine_left : effect h.plan (machine_of h) (s.Return n) ≡ without_ticket (machine_of h) n
+  machine_left = ap (returned h.plan (machine_of h) n) a.out ∙ (leaves_if (entry_at kin h.tree.entries d.version) refl).comes
 
   module _ (room : ℕ) where
     abbrev after_return : Grown Version → Holding

@@ -39,7 +39,8 @@ use Rattle.sp_core.proofs.Journal.{reached, replayed_on}
 use Rattle.sp_core.proofs.Numbering.{numbered_on}
 use Rattle.sp_core.proofs.Entries.{found_of_all}
 use Rattle.sp_core.proofs.Pruning.{all_pruned, sum_without}
-use Rattle.sp_core.proofs.RisingLists.{among_numbers, numbers_rise, union_is}
+use Rattle.sp_core.proofs.RisingLists.{union_is}
+use Rattle.sp_rules.proofs.RisingLists.{among_numbers, numbers_rise}
 use Rattle.sp_core.proofs.Roots.{Done, done_is, root_id}
 use Rattle.sp_core.proofs.Settled.{Settles, settles}
 

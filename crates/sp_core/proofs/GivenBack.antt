@@ -7,7 +7,7 @@ use Rattle.sp_group.specs.Machine.{Ticket, Version, ticket_at, version_at}
 use Rattle.sp_core.specs.declared.given.Given.TheVariants as g
 use Rattle.sp_core.specs.declared.lent.Lent.{Lent}
 use Rattle.sp_core.specs.Carrying.{ticket_of}
-use Rattle.sp_core.specs.Returning.{IsCarried, IsGiven}
+use Rattle.sp_core.specs.Returning.{IsCarried, IsGiven, without_ticket}
 use Rattle.sp_core.specs.Running.{Running, after}
 
 -- the tickets that are found under one number are of one version
@@ -25,8 +25,9 @@ module _ (old new : Running) (p : Pieced) (lent : Lent) (id : ℕ) (out : ticket
       one (Some v) gone = absurd (cc)
 
   -- it is, and the job is not what was lent
-  pub differs : is_some (version_at old.machine.versions id) ≡ true → ¬ IsCarried old p.job → IsGiven old new p (g.Differs lent p)
-  differs live other = one (version_at old.machine.versions id) refl live
+  pub differs : new.machine ≡ without_ticket old.machine p.job.ticket → is_some (version_at old.machine.versions id) ≡ true → ¬ IsCarried old p.job
+      → IsGiven old new p (g.Differs lent p)
+  differs left live other = one (version_at old.machine.versions id) refl live
     where
       one : (o : Option Version) → version_at old.machine.versions id ≡ o → is_some o ≡ true → IsGiven old new p (g.Differs lent p)
       one None at there = absurd (cc)
@@ -39,4 +40,5 @@ module _ (old new : Running) (p : Pieced) (lent : Lent) (id : ℕ) (out : ticket
             refl,
             refl,
             is,
+            left,
           )

@@ -22,7 +22,7 @@ use Rattle.sp_core.proofs.Least.{least_alike}
 use Rattle.sp_core.proofs.Entries.{version_found}
 use Rattle.sp_core.proofs.Pruning.{promoted_pruned}
 use Rattle.sp_core.proofs.Renewing.{at_entry}
-use Rattle.sp_core.proofs.RisingLists.{among_numbers}
+use Rattle.sp_rules.proofs.RisingLists.{among_numbers}
 use Rattle.sp_core.proofs.Roots.{Done, root_id}
 use Rattle.sp_core.proofs.Settled.{no_root}
 

@@ -21,7 +21,7 @@ use Rattle.sp_group.specs.Rising.{has_number, with_number, with_numbers}
 use Rattle.sp_rules.specs.ByGroups.{using_runs}
 use Rattle.sp_core.specs.Holding.{unnumbered}
 use Rattle.sp_core.specs.Homecoming.{completions, spent_run, unnumbered_told, used_told}
-use Rattle.sp_core.proofs.RisingLists.{among_numbers, numbers_rise}
+use Rattle.sp_rules.proofs.RisingLists.{among_numbers, numbers_rise}
 
 -- what moves tell is what their accounts tell
 all_seen : (moves : List Moves) → flat_map (λ (m : Moves). map seen m.list.items) moves ≡ all_told (map seen_moves moves)

@@ -88,7 +88,7 @@ module _ (laws : BenchLaws) (c : Running) (m : Machine) (ps qs : List Pieced) (x
         let after = step c.plan c.bound (on_bench c ps).machine x in
         let there : ticket_at after.tickets p.job.ticket ≡ Some u = ap (λ (n : Machine). ticket_at n.tickets p.job.ticket) led ∙ out in
         let lives : version_at after.versions t.version ≡ Some v = ap (λ (n : Machine). version_at n.versions t.version) led ∙ live in
-        let stays = laws.stays c.plan c.bound (on_bench c ps).machine x p.job.ticket t u v on.compiled (reached_by laws c ps on).kept taken.fits known.found there lives in
+        let stays = (laws.stays c.plan c.bound (on_bench c ps).machine x p.job.ticket t u on.compiled (reached_by laws c ps on).kept taken.fits known.found there).1 v lives in
         let was = known.held.carries stays.before stays.live in
         let events : m.events ≡ after.events = ap (λ (n : Machine). n.events) (sym led) in
         let runs : inner c.plan c.machine.events stays.before ≡ inner c.plan m.events v = sym stays.runs ∙ ap (λ (es : List Event). inner c.plan es v) (sym events) in

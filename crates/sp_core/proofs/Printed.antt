@@ -126,35 +126,29 @@ entries_are h core =
     ap reverse (each_alike entry_seen (version_seen h.plan m) version_of h.tree.entries
     (λ k d inside. entry_is h.plan m (get_or h.tree.entries k d) (core.versions k d inside)))
 
+-- the line of a version, of these copies
+abbrev line_of : ℕ → Option ℕ → Version → List ℕ → List ℕ → List (ℕ × List ℕ) → VersionSeen
+line_of id parent held copied skipped groups = record {
+  id = id;
+  parent = parent;
+  window = held.window;
+  label = copied;
+  position = held.position;
+  skipped = skipped;
+  done = held.done;
+  out = held.out;
+  groups = groups;
+}
+
 -- the line of a version that is found
 pub line_is : (es : List (Entry Version)) (id : ℕ) (held : Version) (label copied skipped : List ℕ) (parent : Option ℕ) (groups : List (ℕ × List ℕ))
     → Some label ≡ label_of (entry_at kin es id) → Some held ≡ value_of (entry_at kin es id) → parent ≡ parent_of (entry_at kin es id)
     → copied ≡ label → skipped ≡ held.skipped.list → groups ≡ groups_held held.matcher
-    → Some (record {
-      id = id;
-      parent = parent;
-      window = held.window;
-      label = copied;
-      position = held.position;
-      skipped = skipped;
-      done = held.done;
-      out = held.out;
-      groups = groups;
-    }) ≡ option_map entry_seen (entry_at kin es id)
+    → Some (line_of id parent held copied skipped groups) ≡ option_map entry_seen (entry_at kin es id)
 line_is es id held label copied skipped parent groups labelled holds below same passed grouped = one (entry_at kin es id) refl labelled holds below
   where
     one : (o : Option (Entry Version)) → entry_at kin es id ≡ o → Some label ≡ label_of o → Some held ≡ value_of o → parent ≡ parent_of o
-        → Some (record {
-          id = id;
-          parent = parent;
-          window = held.window;
-          label = copied;
-          position = held.position;
-          skipped = skipped;
-          done = held.done;
-          out = held.out;
-          groups = groups;
-        }) ≡ option_map entry_seen o
+        → Some (line_of id parent held copied skipped groups) ≡ option_map entry_seen o
     one None is l v p = absurd (cc)
     one (Some e) is l v p =
         let own : e.version.id ≡ id = has_id id es e is in

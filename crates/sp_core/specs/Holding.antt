@@ -1,35 +1,27 @@
 -- What a core keeps, and for which state of the machine it stands.
-use Rattle.std.specs.Prelude.{◌≡◌, ℕ, ◌+◌, ◌≤◌, Bool, List, [], map, length}
+use Rattle.std.specs.Prelude.{◌≡◌, ℕ, ◌+◌, ◌≤◌, Bool, List, map, length}
 use Rattle.std.specs.List.{All, AllZip}
-use Rattle.std.specs.List.Sorted.{IsStrictlyIncreasing}
 use Rattle.std.specs.Arc.{arc_value}
 use Rattle.sp_base.specs.Numbers.{NumberList}
 use Rattle.sp_plan.specs.declared.event.Event.{Event}
 use Rattle.sp_plan.specs.declared.found.Match.{Match}
 use Rattle.sp_plan.specs.declared.plan.Plan.{Plan}
 use Rattle.sp_plan.specs.Compiled.{IsCompiled}
-use Rattle.sp_plan.specs.Same.{SamePlan}
-use Rattle.sp_plan.specs.Runs.{State, is_among, matched_runs}
-use Rattle.sp_plan.specs.Groups.{used_by_all}
-use Rattle.sp_plan.specs.Sequential.{match_of}
-use Rattle.sp_plan.specs.WindowNumbers.{first}
 use Rattle.sp_window.specs.Standing as window
 use Rattle.sp_match.specs.declared.known.Known.{Known}
 use Rattle.sp_match.specs.public.Known.{IsKnown}
-use Rattle.sp_match.specs.public.Matching.{Stands}
 use Rattle.sp_version.specs.declared.version.Version.{Version}
 use Rattle.sp_group.specs.declared.step.Entry as step
-use Rattle.sp_group.specs.Rising.{with_numbers}
-use Rattle.sp_group.specs.Machine as machine
-use Rattle.sp_group.specs.Machine.{Machine, Ticket, opening, inner, is_group, out_for}
+use Rattle.sp_group.specs.Machine.{Machine, opening}
 use Rattle.sp_group.specs.Steps.{steps}
-use Rattle.sp_tree.specs.Grown.{Grown, Entry, AreGrown}
+use Rattle.sp_tree.specs.Grown.{Grown, AreGrown}
 use Rattle.sp_rules.specs.Schedules.{Fits}
 use Rattle.sp_core.specs.declared.machine.Core.TheInside.{Inside}
 use Rattle.sp_core.specs.declared.lent.Lent.{Lent}
 use Rattle.sp_core.specs.Running.{Running, flat}
 use Rattle.sp_core.specs.Carrying.{ticket_of}
 use Rattle.sp_core.specs.Rooms.{room, entries_owed, matches_held, numbers_held}
+pub use Rattle.sp_core.specs.Showing.{Holds, unnumbered, version_of}
 
 -- the values of what a core keeps; the tickets with the newest first; the rooms are how many entries and matches more can be taken in
 -- without memory
@@ -67,18 +59,6 @@ holding c = record {
   emitted_room = room c.emitted;
 }
 
--- the version of the machine for which an entry of the tree stands
-abbrev pub version_of : Entry Version → machine.Version
-version_of e = record {
-  id = e.version.id;
-  parent = e.version.parent;
-  window = e.value.window;
-  label = e.version.label;
-  position = e.value.position;
-  skipped = e.value.skipped.list;
-  done = e.value.done;
-}
-
 -- the state of the machine for which a core stands
 abbrev pub machine_of : Holding → Machine
 machine_of h = record {
@@ -95,23 +75,6 @@ machine_of h = record {
 
 abbrev pub running : Holding → Running
 running h = record { plan = h.plan; bound = h.tree.bound; machine = machine_of h; journal = h.journal }
-
--- the matches of a window's runs, which are not numbered yet
-abbrev pub unnumbered : Plan → ℕ → State → List Match
-unnumbered q window s = map (λ run. match_of q window (0, run)) (matched_runs s)
-
--- A version holds what its runs come to: a matcher that stands for them, their matches twice, and what these used; its open groups are
--- those of the runs, and its ticket is the one that is out for it.
-pub record Holds (q : Plan) (events : List Event) (tickets : List Ticket) (e : Entry Version) : Type 0 where
-  pub first : e.value.first ≡ first q events e.value.window
-  pub plan : SamePlan e.value.matcher.plan q
-  pub stands : Stands e.value.matcher (inner q events (version_of e))
-  pub matches : e.value.matches.items ≡ unnumbered q e.value.window (inner q events (version_of e))
-  pub copies : e.value.copies.items ≡ unnumbered q e.value.window (inner q events (version_of e))
-  pub used : e.value.used.list ≡ with_numbers [] (used_by_all q (inner q events (version_of e)))
-  pub out : e.value.out ≡ out_for tickets e.version.id
-  pub groups : (r : ℕ) → is_among e.version.groups r ≡ is_group q (inner q events (version_of e)) r
-  pub rising : IsStrictlyIncreasing e.version.groups
 
 -- The journal's steps could be taken one after another, and lead to the state of the machine.
 pub record IsReplayed (h : Holding) : Type 0 where

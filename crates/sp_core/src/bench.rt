@@ -4,8 +4,7 @@ ghost use Rattle.sp_core.specs.OnBench.{ticket_in, unread};
 ghost use Rattle.sp_group.specs.Seen.{seen, seen_ticket, state_seen, ticket_seen};
 ghost use Rattle.sp_rules.specs.Schedules.{Reached};
 
-use crate::stepping::bench_laws;
-use crate::{Answer, Core, CoreFault, Memory};
+use crate::{Answer, Core, CoreFault, Memory, law};
 use sp_group::{State, Step, TicketLine};
 use sp_piece::Piece;
 use sp_plan::Listed;
@@ -96,7 +95,7 @@ impl Bench {
         ensures state { IfOk result (λ s. seen s ≡ state_seen self.now.plan self.now.machine) }
         ensures reached { Reached self.now.plan self.now.bound self.now.machine }
     {
-        bench_laws();
+        law::bench_laws();
         let mut state = self.core.state(alloc)?;
         state.tickets = with_readings(state.tickets, &self.pieces);
         Ok(state)

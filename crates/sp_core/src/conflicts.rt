@@ -10,9 +10,8 @@ ghost use Rattle.sp_core.specs.Suppressing.{conflict_at, least_suppressed, ready
 
 use crate::lent::lent_under;
 use crate::withheld::{least_withheld, withheld_within};
-use crate::{Core, Memory};
-use sp_base::{Numbers, rising_same};
-use sp_rules::every_schedule;
+use crate::{Core, Memory, law};
+use sp_base::Numbers;
 use sp_version::least_unskipped;
 use std::alloc::Global;
 
@@ -68,7 +67,8 @@ impl Core {
             (λ numbers. numbers.list
             ≡ suppressed_within self.now.plan self.now.machine version first count) }
     {
-        rising_same();
+        // Rising lists are the same where they have the same members.
+        law::rising_same();
         let mut numbers = Numbers::new(alloc);
         let mut below = version;
         while let Some(parent) = self.tree.parent(below) {
@@ -86,7 +86,9 @@ impl Core {
     pub(crate) fn conflict_of(&self, version: u64) -> Option<u32>
         ensures { result ≡ conflict_at self.now.plan self.now.machine version }
     {
-        every_schedule();
+        // The state is one to which steps lead: what a version read, and what is lent to it, is within its
+        // window.
+        law::every_schedule();
         let held = self.tree.get(version)?;
         let read = self.least_suppressed(version, held.first, held.position, &held.skipped);
         if read.is_some() {

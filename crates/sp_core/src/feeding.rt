@@ -6,11 +6,10 @@ ghost use Rattle.sp_core.specs.Faults.{IsFault};
 ghost use Rattle.sp_core.specs.Running.{IsDone, after, refused};
 
 use crate::rooms::{enter, make_room};
-use crate::{Core, CoreFault, Memory};
+use crate::{Core, CoreFault, Memory, law};
 use sp_group::{Refusal, Step};
 use sp_match::known_of;
 use sp_plan::Event;
-use sp_rules::{compiled_plans_are_lawful, every_schedule};
 use std::alloc::Global;
 
 // The greatest number of events.
@@ -48,8 +47,10 @@ impl Core {
         ensures ok { OnOk result (self.new ≡ after self.old (s.Feed event)) }
         ensures err { OnErr result (self.new ≡ self.old) }
     {
-        every_schedule();
-        compiled_plans_are_lawful();
+        // The state is one to which steps lead, and an event more leaves the runs of its versions as they
+        // are.
+        law::every_schedule();
+        law::compiled_plans_are_lawful();
         self.events.reserve(1)?;
         self.known.reserve(1)?;
         make_room(&mut self.journal, self.tree.live())?;
@@ -70,7 +71,8 @@ impl Core {
         ensures err { OnErr result (self.new ≡ self.old) }
         ensures fault { IfErr result (λ refusal. refused self.old s.End ≡ Some refusal) }
     {
-        every_schedule();
+        // The state is one to which steps lead.
+        law::every_schedule();
         if self.ended {
             return Err(Refusal::AfterEnd);
         }

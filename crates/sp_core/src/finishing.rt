@@ -13,11 +13,10 @@ ghost use Rattle.sp_core.specs.Running.{IsDone, refused};
 
 use crate::rolling::begin_anew;
 use crate::rooms::enter;
-use crate::{Core, Emitted};
-use sp_base::{Numbers, rising_same};
+use crate::{Core, Emitted, law};
+use sp_base::Numbers;
 use sp_group::{Label, Refusal, Step};
 use sp_plan::Match;
-use sp_rules::every_schedule;
 use sp_tree::Tree;
 use sp_version::Version;
 use std::mem;
@@ -131,7 +130,9 @@ impl Core {
             ≡ heir_conflict self.now.plan self.now.machine
             (machine.root_in self.now.machine.versions) }
     {
-        every_schedule();
+        // The state is one to which steps lead: a root that is done has one child at most, with the empty
+        // label.
+        law::every_schedule();
         let label = Label::empty(*self.journal.allocator());
         let child = self.tree.child(root, &label)?;
         self.conflict_of(child)
@@ -147,8 +148,10 @@ impl Core {
         ensures err { OnErr result (self.new ≡ self.old) }
         ensures fault { IfErr result (λ refusal. refused self.old s.Finish ≡ Some refusal) }
     {
-        every_schedule();
-        rising_same();
+        // The state is one to which steps lead; and rising lists are the same where they have the same
+        // members.
+        law::every_schedule();
+        law::rising_same();
         let finished = self.finished;
         let Some((root, window)) = self.done_root() else {
             return Err(Refusal::NotDone { finished });

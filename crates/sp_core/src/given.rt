@@ -10,7 +10,7 @@ pub enum Given {
     Stale { version: u64 },
     /// Its ticket is not out; nothing changed.
     NotOut { ticket: u64 },
-    /// Its job is not what was lent; both sides are handed back, the ticket has ended, and the version
-    /// stands as before the lease.
+    /// Its job is not what was lent; both sides are handed back, the ticket has ended, and all else of the
+    /// machine is as before, the version among it.
     Differs { lent: Lent, piece: Piece },
 }

@@ -6,14 +6,14 @@ ghost use Rattle.sp_group.specs.Family.{entry_at};
 ghost use Rattle.sp_tree.specs.Grown.{kin};
 ghost use Rattle.sp_core.specs.Homecoming.{AreLeft, AreNumbered, CanDecide, HasAll, HasOpenRuns, HasRoomFor, HasRuns, IsBrought, IsDecided, IsSameButRooms, IsTakenUp, IsWith, completions, completions_in, has_group, is_grouped, outcome_of, spent_run, unnumbered_told, used_told};
 
-use crate::Memory;
 use crate::rooms::count_of;
-use sp_base::{Numbers, rising_same};
+use crate::{Memory, law};
+use sp_base::Numbers;
 use sp_group::{Label, Outcome};
 use sp_match::{Matcher, Move, Moves, Run, match_of};
 use sp_piece::Piece;
 use sp_plan::Match;
-use sp_tree::{Tree, decisions_add_up};
+use sp_tree::Tree;
 use sp_version::Version;
 use std::alloc::Global;
 
@@ -92,7 +92,8 @@ fn add_used(alloc: Global, moves: &[Move], numbers: &mut Numbers) -> Result<(), 
     ensures { OnOk result (numbers.new.list
         ≡ with_numbers numbers.old.list (flat_map used_told (completions_in moves.now))) }
 {
-    rising_same();
+    // Rising lists are the same where they have the same members, and numbers rise.
+    law::rising_same();
     numbers.list();
     for one in moves {
         if let Move::Completed { used, .. } = one {
@@ -203,7 +204,8 @@ fn put_all(numbers: &mut Numbers, more: &[u32])
     requires { length more.now ≤ numbers.old.spare }
     ensures { numbers.new.list ≡ with_numbers numbers.old.list more.now }
 {
-    rising_same();
+    // Rising lists are the same where they have the same members, and numbers rise.
+    law::rising_same();
     numbers.list();
     for n in more {
         numbers.put(*n);
@@ -280,7 +282,8 @@ pub(crate) fn decide_ended(tree: &mut Tree<Version>, owner: u64, completed: &[u3
     requires { CanDecide tree.old owner }
     ensures { IsDecided tree.old owner completed.now tree.new }
 {
-    decisions_add_up::<Version>();
+    // Decisions one after another come to what they do together.
+    law::decisions_add_up::<Version>();
     let mut i = 0;
     while i < tree.groups(owner).len() {
         let run = tree.groups(owner)[i];

@@ -7,14 +7,12 @@ ghost use Rattle.sp_core.specs.Leasing.{HasBegun, IsLent, IsLeased, is_closed, w
 ghost use Rattle.sp_core.specs.Running.{IsDone, after, refused};
 
 use crate::rooms::{enter, make_room};
-use crate::{Core, CoreFault, Lent, Memory};
+use crate::{Core, CoreFault, Lent, Memory, law};
 use sp_group::{Refusal, Step};
-use sp_piece::{Job, same_plans_read_alike};
+use sp_piece::Job;
 use sp_plan::{Event, Listed};
-use sp_rules::{compiled_plans_are_lawful, every_schedule};
 use sp_tree::Tree;
 use sp_version::Version;
-use sp_window::{closed_come_first, windows_hold};
 use std::alloc::Global;
 
 // A ticket is out for a version from now on.
@@ -27,14 +25,15 @@ fn put_out_for(tree: &mut Tree<Version>, version: u64, ticket: u64)
 }
 
 impl Core {
-    // How many events of a window were fed, and whether it is closed.
-    fn fed_of(&self, number: u32) -> (u32, bool)
+    /// How many events of a window that has begun were fed, and whether it is closed: no event can join it any more.
+    pub fn fed_of(&self, number: u32) -> (u32, bool)
         requires begun { HasBegun self.now number }
         ensures fed { result.0 ≡ size self.now.plan self.now.machine.events number }
         ensures closed { result.1 ≡ is_closed self.now number }
     {
-        windows_hold();
-        closed_come_first();
+        // A window that has begun is there, and the closed ones are those that come first.
+        law::windows_hold();
+        law::closed_come_first();
         let Some(window) = self.windows.get(number) else {
             unreachable!()
         };
@@ -48,7 +47,8 @@ impl Core {
     pub(crate) fn lease_refusal(&self, version: u64) -> Option<Refusal>
         ensures { (count : ℕ) → result ≡ refused self.now (s.Lease version count) }
     {
-        every_schedule();
+        // The state is one to which steps lead: the window of a live version has begun.
+        law::every_schedule();
         let Some(held) = self.tree.get(version) else {
             return Some(Refusal::NotLive { version });
         };
@@ -73,8 +73,9 @@ impl Core {
         ensures lent { IfOk result (IsLent self.now version count) }
         ensures version { IfOk result (λ lent. lent.version ≡ version) }
     {
-        every_schedule();
-        windows_hold();
+        // The state is one to which steps lead: a version has read no more of its window than was fed.
+        law::every_schedule();
+        law::windows_hold();
         let Some(held) = self.tree.get(version) else {
             unreachable!()
         };
@@ -99,9 +100,11 @@ impl Core {
         ensures job { IfOk result (IsLeased self.now lent.now.version count) }
         ensures events { IfOk result (λ job. length job.events ≡ lent.now.count) }
     {
-        every_schedule();
-        compiled_plans_are_lawful();
-        same_plans_read_alike();
+        // The state is one to which steps lead: what is lent was fed. Where plans are the same they read
+        // alike.
+        law::every_schedule();
+        law::compiled_plans_are_lawful();
+        law::same_plans_read_alike();
         let Some(held) = self.tree.get(lent.version) else {
             unreachable!()
         };
@@ -121,13 +124,16 @@ impl Core {
         })
     }
 
-    // Enters the lease.
-    fn put_out(&mut self, alloc: Global, lent: Lent, count: u32) -> Result<(), Memory>
+    // Enters the lease, and answers the job that carries what is lent.
+    fn put_out(&mut self, alloc: Global, lent: Lent, count: u32) -> Result<Job, Memory>
         requires lent { IsLent self.old lent.version count lent }
         requires passes { refused self.old (s.Lease lent.version count) ≡ None }
         ensures ok { OnOk result (self.new ≡ after self.old (s.Lease lent.version count)) }
+        ensures job { IfOk result (IsLeased self.old lent.version count) }
+        ensures events { IfOk result (λ job. length job.events ≡ lent.count) }
         ensures err { OnErr result (self.new ≡ self.old) }
     {
+        let job = self.job(alloc, &lent, count)?;
         let version = lent.version;
         let ticket = lent.ticket;
         make_room(&mut self.journal, self.tree.live())?;
@@ -137,7 +143,7 @@ impl Core {
         self.next_ticket += 1;
         put_out_for(&mut self.tree, version, ticket);
         enter(&mut self.journal, Step::Lease { version, count }, 1);
-        Ok(())
+        Ok(job)
     }
 
     // A lease that is not refused; answers what went out, and the job that carries it.
@@ -155,9 +161,8 @@ impl Core {
         ensures err { OnErr result (self.new ≡ self.old) }
     {
         let lent = self.lent(alloc, version, count)?;
-        let job = self.job(alloc, &lent, count)?;
         let told = lent.copy(alloc)?;
-        self.put_out(alloc, lent, count)?;
+        let job = self.put_out(alloc, lent, count)?;
         Ok((told, job))
     }
 
@@ -177,8 +182,6 @@ impl Core {
             return Err(CoreFault::Refused(refusal));
         }
         let lent = self.lent(alloc, version, count)?;
-        let job = self.job(alloc, &lent, count)?;
-        self.put_out(alloc, lent, count)?;
-        Ok(job)
+        Ok(self.put_out(alloc, lent, count)?)
     }
 }

@@ -16,7 +16,7 @@ pub struct Lent {
     pub version: u64,
     /// The number of the first event lent; where none was lent, the number after the last one read.
     pub first: u32,
-    /// How many events were lent, at most 1,024.
+    /// How many events were lent.
     pub count: u32,
     /// The numbers of those of them that are to be skipped.
     pub snapshot: Numbers,

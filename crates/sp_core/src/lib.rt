@@ -13,6 +13,7 @@ mod feeding;
 mod finishing;
 mod given;
 mod homecoming;
+mod law;
 mod leasing;
 mod lent;
 mod looking;

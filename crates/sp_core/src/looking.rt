@@ -6,13 +6,12 @@ ghost use Rattle.sp_window.specs.Standing.{Stands};
 ghost use Rattle.sp_group.specs.Rising.{with_numbers};
 ghost use Rattle.sp_group.specs.Steps.{replay};
 ghost use Rattle.sp_rules.specs.Schedules.{Reached};
-ghost use Rattle.sp_core.specs.Showing.{IsTreeOf};
+ghost use Rattle.sp_core.specs.Showing.{AreUnread, IsTreeOf};
 
-use crate::Core;
+use crate::{Core, law};
 use sp_base::Numbers;
 use sp_group::Entry;
 use sp_plan::{Event, Match, Plan};
-use sp_rules::every_schedule;
 use sp_tree::Tree;
 use sp_version::Version;
 use sp_window::Windows;
@@ -49,12 +48,15 @@ impl Core {
     }
 
     /// How many windows are finished. They are closed; the state of the machine is one to which steps lead, and
-    /// keeps what each of these keeps.
+    /// keeps what each of these keeps. Nothing is read of a ticket that is out: what was read under it counts once
+    /// it has come home.
     pub fn finished(&self) -> u32
         ensures number { result ≡ self.now.machine.finished }
         ensures reached { Reached self.now.plan self.now.bound self.now.machine }
+        ensures unread { AreUnread self.now.machine.tickets }
     {
-        every_schedule();
+        // The state is one to which steps lead.
+        law::every_schedule();
         self.finished
     }
 
@@ -73,7 +75,8 @@ impl Core {
         ensures sequential { result.now
             ≡ (seq self.now.plan self.now.machine.events self.now.machine.finished).matches }
     {
-        every_schedule();
+        // The state is one to which steps lead.
+        law::every_schedule();
         &self.emitted
     }
 
@@ -84,7 +87,8 @@ impl Core {
             ≡ with_numbers []
             (seq self.now.plan self.now.machine.events self.now.machine.finished).consumed }
     {
-        every_schedule();
+        // The state is one to which steps lead.
+        law::every_schedule();
         &self.consumed
     }
 }

@@ -8,7 +8,6 @@ use sp_base::Numbers;
 use sp_group::Entry;
 use sp_match::Known;
 use sp_plan::{Event, Match, Plan};
-use sp_rules::every_schedule;
 use sp_tree::Tree;
 use sp_version::Version;
 use sp_window::Windows;

@@ -5,25 +5,19 @@ ghost use Rattle.sp_group.specs.Machine.{Ticket, ticket_at, version_at};
 ghost use Rattle.sp_core.specs.Carrying.{ticket_of};
 ghost use Rattle.sp_rules.specs.Returning.{readings};
 ghost use Rattle.sp_tree.specs.Grown.{AreGrown};
-ghost use Rattle.sp_core.specs.Returning.{CanComeHome, HasValues, IsCarried, IsGiven, IsHome, IsPlaceOf, reading_entries, with_none_out};
+ghost use Rattle.sp_core.specs.Returning.{CanComeHome, HasValues, IsCarried, IsGiven, IsHome, IsPlaceOf, reading_entries, with_none_out, without_ticket};
 ghost use Rattle.sp_core.specs.Rooms.{room};
 ghost use Rattle.sp_core.specs.Running.{after, once};
-ghost use Rattle.sp_core.specs.Settling.{CanBring, CanSettle, HomeLaws, IsFrom, IsSameTree, IsSettled, IsWithin};
+ghost use Rattle.sp_core.specs.Settling.{CanBring, CanSettle, IsFrom, IsSameTree, IsSettled, IsWithin};
 
 use crate::homecoming::{Brought, bring, decide_ended, take_up};
 use crate::rooms::{enter, make_room, make_rooms_for};
-use crate::{Core, Given, Lent, Memory};
-use sp_base::rising_same;
+use crate::{Core, Given, Lent, Memory, law};
 use sp_group::{Entry, Label, Step};
-use sp_piece::{Job, Piece, readings_tell_matches, same_plans_read_alike};
+use sp_piece::{Job, Piece};
 use sp_plan::Event;
-use sp_rules::{
-    coming_home_adds_matches, compiled_plans_are_lawful, every_schedule, pieces_come_home,
-    readings_and_return, returns_by_groups, versions_have_groups,
-};
 use sp_tree::Tree;
 use sp_version::Version;
-use sp_window::windows_hold;
 use std::alloc::{AllocError, Global};
 
 // Whether a job has the values of what went out.
@@ -43,22 +37,6 @@ fn put_back_for(tree: &mut Tree<Version>, version: u64)
     if let Some(held) = tree.get_mut(version) {
         held.out = None;
     }
-}
-
-// Law: all that the layers below say of pieces that come home.
-fn home_laws()
-    ensures { HomeLaws }
-{
-    every_schedule();
-    compiled_plans_are_lawful();
-    pieces_come_home();
-    readings_and_return();
-    returns_by_groups();
-    versions_have_groups();
-    coming_home_adds_matches();
-    same_plans_read_alike();
-    readings_tell_matches();
-    rising_same();
 }
 
 // How many readings of its ticket a piece has made.
@@ -149,12 +127,14 @@ impl Core {
         None
     }
 
-    // Whether a job is what is out under its ticket, for a live version.
-    fn is_carried(&self, job: &Job) -> bool
+    /// Whether a job is what is out under its ticket, for a live version, so that its piece can come home. Compares
+    /// each event, and the runs.
+    pub fn is_carried(&self, job: &Job) -> bool
         ensures { IsTrue result ↔ IsCarried self.now job.now }
     {
-        every_schedule();
-        windows_hold();
+        // The state is one to which steps lead: what is out for a live version was fed.
+        law::every_schedule();
+        law::windows_hold();
         let Some(place) = self.place_of(job.ticket) else {
             return false;
         };
@@ -175,9 +155,11 @@ impl Core {
         ensures lent { IfOk result
             (λ lent. ticket_at self.old.machine.tickets ticket ≡ Some (ticket_of lent)) }
         ensures ok { OnOk result (self.new ≡ after self.old (s.Return ticket)) }
+        ensures left { OnOk result (self.new.machine ≡ without_ticket self.old.machine ticket) }
         ensures err { OnErr result (self.new ≡ self.old) }
     {
-        every_schedule();
+        // The state is one to which steps lead: no other ticket is out for its version.
+        law::every_schedule();
         let Some(place) = self.place_of(ticket) else {
             unreachable!()
         };
@@ -188,8 +170,8 @@ impl Core {
         Ok(lent)
     }
 
-    /// A piece comes home whose job is what is out under its ticket, for a live version, as its caller knows: what
-    /// it read is the version's, and the ticket ends. Nothing is compared. After want of memory, which hands the
+    /// A piece comes home whose job is what is out under its ticket, for a live version, as its caller knows, or
+    /// asks by `is_carried`: what it read is the version's, and the ticket ends. Nothing is compared. After want of memory, which hands the
     /// piece back, the ticket is still out and the core is as before.
     pub fn come_home(&mut self, alloc: Global, piece: Piece) -> Result<(), Piece>
         requires { CanComeHome self.old piece }
@@ -197,7 +179,7 @@ impl Core {
         ensures err { OnErr result (self.new ≡ self.old) }
         ensures back { IfErr result (λ back. back ≡ piece) }
     {
-        home_laws();
+        law::home_laws();
         let ticket = piece.job().ticket;
         let times = readings_of(&piece);
         let Some(place) = self.place_of(ticket) else {

@@ -6,10 +6,9 @@ ghost use Rattle.sp_tree.specs.Grown.{AreGrown, kin};
 ghost use Rattle.sp_core.specs.Renewing.{IsAnew};
 ghost use Rattle.sp_core.specs.Running.{IsDone, refused};
 
-use crate::Core;
 use crate::rooms::enter;
+use crate::{Core, law};
 use sp_group::{Refusal, Step};
-use sp_rules::every_schedule;
 use sp_tree::Tree;
 use sp_version::Version;
 
@@ -42,7 +41,8 @@ impl Core {
         ensures err { OnErr result (self.new ≡ self.old) }
         ensures fault { IfErr result (λ refusal. refused self.old (s.Roll version) ≡ Some refusal) }
     {
-        every_schedule();
+        // The state is one to which steps lead.
+        law::every_schedule();
         if self.tree.get(version).is_none() {
             return Err(Refusal::NotLive { version });
         }

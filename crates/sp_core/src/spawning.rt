@@ -7,12 +7,9 @@ ghost use Rattle.sp_core.specs.Running.{IsDone, after, refused};
 ghost use Rattle.sp_core.specs.Spawning.{spawned_window};
 
 use crate::rooms::{enter, make_room};
-use crate::{Core, CoreFault, Memory};
+use crate::{Core, CoreFault, Memory, law};
 use sp_group::{Label, Refusal, Step};
-use sp_plan::plans_are_themselves;
-use sp_rules::every_schedule;
 use sp_version::Version;
-use sp_window::{closed_come_first, windows_are_few, windows_hold};
 use std::alloc::{AllocError, Global};
 
 // Whether a run has one of the open groups.
@@ -34,9 +31,11 @@ impl Core {
     fn root_refusal(&self, label: &Label) -> Option<Refusal>
         ensures { result ≡ refused self.now (s.Spawn None label.now) }
     {
-        every_schedule();
-        closed_come_first();
-        windows_are_few();
+        // The state is one to which steps lead: no more windows are finished than are closed, and these are
+        // few.
+        law::every_schedule();
+        law::closed_come_first();
+        law::windows_are_few();
         if let Some(child) = self.tree.root() {
             return Some(Refusal::LabelTaken { child });
         }
@@ -55,8 +54,9 @@ impl Core {
     fn child_refusal(&self, parent: u64, label: &Label) -> Option<Refusal>
         ensures { result ≡ refused self.now (s.Spawn (Some parent) label.now) }
     {
-        every_schedule();
-        windows_are_few();
+        // The state is one to which steps lead: the window of a live version is one of few.
+        law::every_schedule();
+        law::windows_are_few();
         let Some(held) = self.tree.get(parent) else {
             return Some(Refusal::NotLive { version: parent });
         };
@@ -93,9 +93,11 @@ impl Core {
         ensures id { IfOk result (λ id. id ≡ self.old.machine.next_id) }
         ensures err { OnErr result (self.new ≡ self.old) }
     {
-        every_schedule();
-        windows_hold();
-        plans_are_themselves();
+        // The state is one to which steps lead, a window that has begun is there, and a plan is the same as
+        // itself.
+        law::every_schedule();
+        law::windows_hold();
+        law::plans_are_themselves();
         let Some(place) = self.windows.get(window) else {
             unreachable!()
         };
@@ -143,9 +145,10 @@ impl Core {
     fn window_under(&self, parent: Option<u64>) -> u32
         ensures { result ≡ spawned_window self.now.machine parent }
     {
-        every_schedule();
-        closed_come_first();
-        windows_are_few();
+        // The state is one to which steps lead: the numbers of windows are small.
+        law::every_schedule();
+        law::closed_come_first();
+        law::windows_are_few();
         match parent {
             None => self.finished + 1,
             Some(parent) => match self.tree.get(parent) {

@@ -5,24 +5,14 @@ ghost use Rattle.sp_group.specs.declared.step.Step.TheVariants as s;
 ghost use Rattle.sp_group.specs.Steps.{event_answer};
 ghost use Rattle.sp_piece.specs.Pieced.{after_step};
 ghost use Rattle.sp_core.specs.Benched.{CanTake, IsAnswerTo, IsBenchFault, IsTaken, answered};
-ghost use Rattle.sp_core.specs.OnBench.{BenchLaws, HasCome, IsReadFault, IsReadable, came, ticket_in};
+ghost use Rattle.sp_core.specs.OnBench.{HasCome, IsReadFault, IsReadable, came, ticket_in};
 ghost use Rattle.sp_core.specs.Rooms.{room};
 
-use crate::{Answer, Bench, CoreFault, Given};
+use crate::{Answer, Bench, CoreFault, Given, law};
 use sp_group::{Label, Refusal};
 use sp_piece::{Piece, Stepped};
 use sp_plan::Event;
-use sp_rules::{every_schedule, lent_stays, readings_and_return};
 use std::alloc::Global;
-
-// Law: all that the rules say of the pieces of a bench.
-pub(crate) fn bench_laws()
-    ensures { BenchLaws }
-{
-    every_schedule();
-    lent_stays();
-    readings_and_return();
-}
 
 // Reads the next event of a piece that was not given up, or the closing behind the last one.
 fn read_on(alloc: Global, piece: &mut Piece) -> Result<Answer, CoreFault>
@@ -74,7 +64,7 @@ impl Bench {
         ensures err { OnErr result (self.new ≡ self.old) }
         ensures fault { IfErr result (IsBenchFault self.old (s.Feed event)) }
     {
-        bench_laws();
+        law::bench_laws();
         Ok(Answer::Fed(self.core.feed(alloc, event)?))
     }
 
@@ -85,7 +75,7 @@ impl Bench {
         ensures err { OnErr result (self.new ≡ self.old) }
         ensures fault { IfErr result (IsBenchFault self.old s.End) }
     {
-        bench_laws();
+        law::bench_laws();
         self.core.end()?;
         Ok(Answer::Ended)
     }
@@ -102,7 +92,7 @@ impl Bench {
         ensures err { OnErr result (self.new ≡ self.old) }
         ensures fault { IfErr result (IsBenchFault self.old (s.Spawn parent label)) }
     {
-        bench_laws();
+        law::bench_laws();
         // They tell what every label keeps.
         label.runs();
         Ok(Answer::Spawned(self.core.spawn(alloc, parent, label)?))
@@ -120,7 +110,7 @@ impl Bench {
         ensures err { OnErr result (self.new ≡ self.old) }
         ensures fault { IfErr result (IsBenchFault self.old (s.Lease version count)) }
     {
-        bench_laws();
+        law::bench_laws();
         if let Some(refusal) = self.core.lease_refusal(version) {
             return Err(CoreFault::Refused(refusal));
         }
@@ -137,7 +127,7 @@ impl Bench {
         ensures err { OnErr result (self.new ≡ self.old) }
         ensures fault { IfErr result (IsBenchFault self.old (s.Event ticket)) }
     {
-        bench_laws();
+        law::bench_laws();
         // A piece stands where the core's ticket does.
         match self.core.place_of(ticket) {
             Some(place) => read_on(alloc, &mut self.pieces[place]),
@@ -152,7 +142,7 @@ impl Bench {
         ensures err { OnErr result (self.new ≡ self.old) }
         ensures fault { IfErr result (IsBenchFault self.old (s.Return ticket)) }
     {
-        bench_laws();
+        law::bench_laws();
         // A piece stands where the core's ticket does.
         let Some(place) = self.core.place_of(ticket) else {
             return Err(CoreFault::Refused(Refusal::NoTicket { ticket }));
@@ -174,7 +164,7 @@ impl Bench {
         ensures err { OnErr result (self.new ≡ self.old) }
         ensures fault { IfErr result (IsBenchFault self.old (s.Roll version)) }
     {
-        bench_laws();
+        law::bench_laws();
         Ok(Answer::Rolled(self.core.roll(version)?))
     }
 
@@ -185,7 +175,7 @@ impl Bench {
         ensures err { OnErr result (self.new ≡ self.old) }
         ensures fault { IfErr result (IsBenchFault self.old s.Finish) }
     {
-        bench_laws();
+        law::bench_laws();
         Ok(Answer::Finished(self.core.finish()?))
     }
 }

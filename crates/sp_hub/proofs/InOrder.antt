@@ -1,6 +1,5 @@
 -- What a legal history says, in words nearer to its subject.
 use Rattle.std.proofs.Common.{◌≡◌, ℕ, zero, suc, ◌+◌, List, [], ◌∷◌, ◌++◌, length, take, drop, map, Some, refl, sym, ap, ◌∙◌, subst, append_assoc, arith}
-use Rattle.std.specs.List.{flat_map}
 use Rattle.std.specs.Prelude.{slice_get}
 use Rattle.std.proofs.lemmas.List.{append-nil, length-append, take-append-drop}
 use Rattle.std.proofs.lemmas.Grind.{flat_map-append}
@@ -9,7 +8,7 @@ use Rattle.std.proofs.Math.Seq.{take-append-add, take-append_seam, take-length, 
 use mathlib.Core.List.{IsPrefix}
 use Rattle.sp_hub.specs.declared.entry.HubEntry.{HubEntry}
 use Rattle.sp_hub.specs.declared.entry.HubEntry.TheVariants.{Post, Take, Put, Collect, Close}
-use Rattle.sp_hub.specs.History.{post_of, take_of, posted, taken, brought, collected, slips, ticket_by, put_by, collected_from, IsLegal}
+use Rattle.sp_hub.specs.History.{post_of, take_of, posted, taken, brought, collected, slips, ticket_by, tickets_by, AreCollected, IsLegal}
 use Rattle.sp_hub.proofs.Histories.{flat_map-push}
 
 prefix_at : (xs ys : List ℕ) (t : ℕ) → IsPrefix (xs ++ t ∷ []) ys → slice_get ys (length xs) ≡ Some t
@@ -47,10 +46,17 @@ first_slips entries legal =
     let pre : IsPrefix (collected entries) (brought entries) = subst (λ (l : List HubEntry). IsPrefix (collected l) (brought l)) (take-length entries) (legal.collects (length entries)) in
     map_take (λ (s : ℕ × ℕ). s.1) (length (collected entries)) (slips entries) ∙ ap (take (length (collected entries))) (tickets entries ∙ sym pre.1) ∙ take-append_seam (collected entries) pre.0
 
--- what was collected from a seat is the beginning of what it put, in its order
-pub collected_in_order : (seat : ℕ) (entries : List HubEntry) → IsPrefix (collected_from seat entries) (put_by seat entries)
-collected_in_order seat entries =
-    let n = length (collected entries) in (
-      flat_map (ticket_by seat) (drop n (slips entries)),
-      sym (flat_map-append (ticket_by seat) (take n (slips entries)) (drop n (slips entries))) ∙ ap (flat_map (ticket_by seat)) (take-append-drop n (slips entries)),
+-- of a legal history what was collected are the first slips, and those of a seat are the first that it put
+pub collected_in_order : (entries : List HubEntry) → IsLegal entries → (pairs : List (ℕ × ℕ)) × AreCollected pairs entries
+collected_in_order entries legal =
+    let n = length (collected entries) in
+    let all = slips entries in (
+      take n all,
+      record {
+        tickets = first_slips entries legal;
+        first = λ seat. (
+          tickets_by seat (drop n all),
+          sym (flat_map-append (ticket_by seat) (take n all) (drop n all)) ∙ ap (tickets_by seat) (take-append-drop n all),
+        );
+      },
     )

@@ -1,3 +1,4 @@
 mod Histories
 mod InOrder
 pub mod Seats
+mod Worked

@@ -58,16 +58,17 @@ collects p (Some piece) = record p { waiting = p.waiting - 1; calls = p.calls + 
 
 -- the seat after it asked for a job
 abbrev pub takes : {J : Type 0} → (J → ℕ) → Sitting → Taken J → Sitting
-takes ticket_of s (taken.Job job) = record s { holding = Some (ticket_of job); calls = s.calls + 1 }
-takes ticket_of s _ = s
+takes ticket_of s (taken.Job job) = record s { holding = Some (ticket_of job); calls = s.calls + 1; over = false }
+takes ticket_of s taken.Empty = record s { over = false }
+takes ticket_of s taken.Closed = record s { over = true }
 
 -- the seat after it put a piece
 abbrev pub puts : Sitting → Sitting
 puts s = record s { holding = None; calls = s.calls + 1 }
 
--- a seat that made no entry yet
+-- a seat that asked for nothing yet
 abbrev pub fresh_seat : ℕ → Sitting
-fresh_seat number = record { number = number; holding = None; calls = 0 }
+fresh_seat number = record { number = number; holding = None; calls = 0; over = false }
 
 -- the seats of a new hub, numbered from 0
 abbrev pub fresh_seats : ℕ → List Sitting

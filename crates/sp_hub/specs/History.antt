@@ -1,5 +1,5 @@
 -- The history of a hub.
-use Rattle.std.specs.Prelude.{ℕ, ◌≤◌, ◌==◌, if◌then◌else◌, length, Bool, true, false, not, List, [], ◌∷◌, take}
+use Rattle.std.specs.Prelude.{◌≡◌, ℕ, ◌≤◌, ◌==◌, if◌then◌else◌, Bool, true, false, not, List, [], ◌∷◌, take, map}
 use Rattle.std.specs.List.{count_by, flat_map}
 use mathlib.Core.List.{IsPrefix}
 use Rattle.sp_hub.specs.declared.entry.HubEntry.{HubEntry}
@@ -70,10 +70,15 @@ slips entries = flat_map slip_of entries
 abbrev pub ticket_by : ℕ → ℕ × ℕ → List ℕ
 ticket_by seat slip = if slip.0 == seat then slip.1 ∷ [] else []
 
+-- of seats and tickets, the tickets of one seat, in order
+abbrev pub tickets_by : ℕ → List (ℕ × ℕ) → List ℕ
+tickets_by seat pairs = flat_map (ticket_by seat) pairs
+
 -- the tickets that a seat put, in order
 abbrev pub put_by : ℕ → List HubEntry → List ℕ
-put_by seat entries = flat_map (ticket_by seat) (slips entries)
+put_by seat entries = tickets_by seat (slips entries)
 
--- the tickets that were collected from a seat, in order: the first slips are those that were collected
-abbrev pub collected_from : ℕ → List HubEntry → List ℕ
-collected_from seat entries = flat_map (ticket_by seat) (take (length (collected entries)) (slips entries))
+-- Seats and tickets are what was collected: the tickets are those that were, in order, and those of each seat are the first that it put.
+pub record AreCollected (pairs : List (ℕ × ℕ)) (entries : List HubEntry) : Type 0 where
+  pub tickets : map (λ pair. pair.1) pairs ≡ collected entries
+  pub first : (seat : ℕ) → IsPrefix (tickets_by seat pairs) (put_by seat entries)

@@ -1,9 +1,8 @@
 -- What a legal history says, in words nearer to its subject.
 use Rattle.std.specs.Prelude.{◌≡◌, ℕ, List, ◌∷◌, ◌++◌, length, Some, slice_get}
-use mathlib.Core.List.{IsPrefix}
 use Rattle.sp_hub.specs.declared.entry.HubEntry.{HubEntry}
 use Rattle.sp_hub.specs.declared.entry.HubEntry.TheVariants.{Take}
-use Rattle.sp_hub.specs.History.{posted, taken, put_by, collected_from, IsLegal}
+use Rattle.sp_hub.specs.History.{posted, taken, AreCollected, IsLegal}
 
 -- The n-th job that was taken is the n-th that was posted, which stands before it.
 abbrev pub TakesFollowPosts : Type 0
@@ -11,6 +10,6 @@ TakesFollowPosts =
     (entries before after : List HubEntry) (seat ticket : ℕ) → IsLegal entries → entries ≡ before ++ Take seat ticket ∷ after
     → slice_get (posted before) (length (taken before)) ≡ Some ticket
 
--- What was collected from a seat is the beginning of what it put, in its order.
+-- Each ticket that was collected came from a seat, and those of a seat are the first that it put, in its order.
 abbrev pub CollectedInOrder : Type 0
-CollectedInOrder = (seat : ℕ) (entries : List HubEntry) → IsPrefix (collected_from seat entries) (put_by seat entries)
+CollectedInOrder = (entries : List HubEntry) → IsLegal entries → (pairs : List (ℕ × ℕ)) × AreCollected pairs entries

@@ -19,11 +19,12 @@ pub record Posting : Type 0 where
   pub closed : Bool
   pub calls : ℕ
 
--- what a seat knows: its number, the ticket that it holds, and how many entries it made
+-- what a seat knows: its number, the ticket that it holds, how many entries it made, and whether its last answer was that no job will come
 pub record Sitting : Type 0 where
   pub number : ℕ
   pub holding : Option ℕ
   pub calls : ℕ
+  pub over : Bool
 
 -- the history replays to the state, the ledger counts its entries, and it has room for those that are sure to come
 pub record Keeps {J P : Type 0} (job_ticket : J → ℕ) (piece_ticket : P → ℕ) (jobs : List J) (home : List P) (closed : Bool) (entries : List HubEntry) (total room : ℕ) : Type 0 where

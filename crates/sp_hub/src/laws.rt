@@ -141,9 +141,11 @@ impl<J: Named, P: Named, L: Naming> Locked<J, P, L> {
                 });
                 seat.tally.count(&mut self.book);
                 seat.holding = Some(ticket);
+                seat.over = false;
                 Taken::Job(job)
             }
             None => {
+                seat.over = self.closed;
                 if self.closed {
                     Taken::Closed
                 } else {

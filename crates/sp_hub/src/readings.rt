@@ -5,7 +5,8 @@ pub fn takes_follow_posts()
     ensures { TakesFollowPosts }
 {}
 
-/// Law: what was collected from a seat is the beginning of what it put, in its order.
+/// Law: of a legal history each ticket collected came from a seat, and those of a seat are the first that it put,
+/// in its order.
 pub fn collected_in_order()
     ensures { CollectedInOrder }
 {}

@@ -12,6 +12,7 @@ use std::sync::ledger::Share;
 pub struct Seat<P: Named, L: Naming> {
     pub(crate) number: u32,
     pub(crate) holding: Option<u64>,
+    pub(crate) over: bool,
     pub(crate) tally: Tally<L>,
     brings: PhantomData<P>,
 }
@@ -21,7 +22,7 @@ impl<P: Named, L: Naming> Model for Seat<P, L> {
 
     ghost Value = { Sitting };
 
-    ghost view = { λ s. record { number = s.number; holding = s.holding; calls = s.tally } };
+    ghost view = { λ s. record { number = s.number; holding = s.holding; calls = s.tally; over = s.over } };
 }
 
 impl<P: Named, L: Naming> Seat<P, L> {
@@ -32,6 +33,7 @@ impl<P: Named, L: Naming> Seat<P, L> {
         Seat {
             number,
             holding: None,
+            over: false,
             tally: Tally::new(share),
             brings: PhantomData,
         }
@@ -56,6 +58,13 @@ impl<P: Named, L: Naming> Seat<P, L> {
         ensures { result ≡ self.now.holding }
     {
         self.holding
+    }
+
+    /// Whether no job will come: it was answered so when it asked last.
+    pub fn is_over(&self) -> bool
+        ensures { result ≡ self.now.over }
+    {
+        self.over
     }
 
     /// How many entries of the history are its own.

@@ -1,8 +1,8 @@
 //! What stands behind a hub's lock.
-ghost use Rattle.std.specs.Prelude.{◌≡◌, ◌<◌, ◌↔◌, true, false, Some, IfErr, if◌then◌else◌, is_ok, length};
+ghost use Rattle.std.specs.Prelude.{◌≡◌, ◌+◌, ◌-◌, ◌^◌, ◌<◌, ◌↔◌, true, false, Some, IfErr, if◌then◌else◌, is_ok, length, min};
 ghost use Rattle.std.specs.List.{count_by};
 ghost use Rattle.sp_hub.specs.History.{IsLegal, is_call};
-ghost use Rattle.sp_hub.specs.Calls.{posts, puts};
+ghost use Rattle.sp_hub.specs.Calls.{after_post, after_put, posts, puts};
 
 use crate::entry::HubEntry;
 use crate::laws::Locked;
@@ -20,14 +20,14 @@ use std::sync::ledger::Share;
 #[derive(Drop)]
 pub(crate) struct Shared<J: Named, P: Named, L: Naming> {
     pub(crate) state: Locked<J, P, L>,
-    idle_seats: u32,
-    idle_posters: u32,
+    pub(crate) idle_seats: u32,
+    pub(crate) idle_posters: u32,
 }
 
 impl<J: Named, P: Named, L: Naming> Shared<J, P, L> {
     /// Nobody waits yet.
     pub(crate) fn new(state: Locked<J, P, L>) -> Shared<J, P, L>
-        ensures { result.state ≡ state }
+        ensures { result ≡ record { state = state; idle_seats = 0; idle_posters = 0 } }
     {
         Shared {
             state,
@@ -44,6 +44,10 @@ impl<J: Named, P: Named, L: Naming> Shared<J, P, L> {
         requires open { by.old.closed ≡ false }
         ensures by { by.new ≡ (if is_ok result.0 then posts by.old (J.ticket_of job) else by.old) }
         ensures back { IfErr result.0 (λ j. j ≡ job) }
+        ensures state { self.new.state ≡ (if is_ok result.0 then
+            after_post self.old.state job (J.ticket_of job) else self.old.state) }
+        ensures idle { (self.new.idle_seats ≡ self.old.idle_seats)
+            × (self.new.idle_posters ≡ self.old.idle_posters) }
         ensures wakes { (result.1 ≡ true) ↔
             ((0 < self.old.idle_seats) × (1 < length self.new.state.jobs)) }
     {
@@ -57,6 +61,11 @@ impl<J: Named, P: Named, L: Naming> Shared<J, P, L> {
         requires { seat.old.holding ≡ Some (P.ticket_of piece) }
         ensures seat { seat.new ≡ (if is_ok result.0 then puts seat.old else seat.old) }
         ensures back { IfErr result.0 (λ p. p ≡ piece) }
+        ensures state { self.new.state ≡ (if is_ok result.0 then
+            after_put self.old.state seat.old.number piece (P.ticket_of piece)
+            else self.old.state) }
+        ensures idle { (self.new.idle_seats ≡ self.old.idle_seats)
+            × (self.new.idle_posters ≡ self.old.idle_posters) }
         ensures wakes { (result.1 ≡ true) ↔ (0 < self.old.idle_posters) }
     {
         let answer = self.state.put(seat, piece);
@@ -78,22 +87,34 @@ impl<J: Named, P: Named, L: Naming> Shared<J, P, L> {
     }
 
     /// A seat is about to wait for a job.
-    pub(crate) fn seat_waits(&mut self) {
+    pub(crate) fn seat_waits(&mut self)
+        ensures { self.new ≡ record self.old {
+          idle_seats = min (self.old.idle_seats + 1) (2 ^ 32 - 1);
+        } }
+    {
         self.idle_seats = self.idle_seats.saturating_add(1);
     }
 
     /// A seat waits no more.
-    pub(crate) fn seat_goes_on(&mut self) {
+    pub(crate) fn seat_goes_on(&mut self)
+        ensures { self.new ≡ record self.old { idle_seats = self.old.idle_seats - 1 } }
+    {
         self.idle_seats = self.idle_seats.saturating_sub(1);
     }
 
     /// The poster is about to wait for a piece.
-    pub(crate) fn poster_waits(&mut self) {
+    pub(crate) fn poster_waits(&mut self)
+        ensures { self.new ≡ record self.old {
+          idle_posters = min (self.old.idle_posters + 1) (2 ^ 32 - 1);
+        } }
+    {
         self.idle_posters = self.idle_posters.saturating_add(1);
     }
 
     /// The poster waits no more.
-    pub(crate) fn poster_goes_on(&mut self) {
+    pub(crate) fn poster_goes_on(&mut self)
+        ensures { self.new ≡ record self.old { idle_posters = self.old.idle_posters - 1 } }
+    {
         self.idle_posters = self.idle_posters.saturating_sub(1);
     }
 }

@@ -6,12 +6,11 @@ use sp_piece::{Job, Piece};
 use std::sync::Wait;
 
 /// A seat at its hub. The seat is lent.
+#[derive(Drop)]
 pub struct Seated<'a, L: Naming, R: Wait> {
     pub rt: &'a R,
     pub hub: &'a Hub<Job, Piece, L>,
     pub seat: &'a mut Seat<Piece, L>,
-    /// Whether the hub answered the last time that it is closed and no job is left.
-    pub over: bool,
 }
 
 impl<'a, L: Naming, R: Wait> Workplace for Seated<'a, L, R> {
@@ -19,7 +18,7 @@ impl<'a, L: Naming, R: Wait> Workplace for Seated<'a, L, R> {
 
     ghost holding = { λ s. s.seat.now.holding };
 
-    ghost over = { λ s. s.over };
+    ghost over = { λ s. s.seat.now.over };
 
     ghost did = { λ old jobs pieces new. CountsLent old.seat.ghost_name new.seat.ghost_name
         old.seat.now jobs pieces new.seat.now };
@@ -31,9 +30,7 @@ impl<'a, L: Naming, R: Wait> Workplace for Seated<'a, L, R> {
     }
 
     fn take(&mut self) -> Taken<Job> {
-        let taken = self.hub.take(self.rt, self.seat);
-        self.over = matches!(taken, Taken::Closed);
-        taken
+        self.hub.take(self.rt, self.seat)
     }
 
     fn put(&mut self, piece: Piece) {

@@ -34,7 +34,7 @@ pub fn work_at<W: Workplace, G: Gate, R: Wait>(rt: &R, alloc: Global, place: &mu
     unreachable!()
 }
 
-/// Does the jobs of a hub at a seat until the hub is closed and empty.
+/// Does the jobs of a hub at a seat until it is answered that the hub is closed and empty.
 pub fn work<L: Naming, G: Gate, R: Wait>(
     rt: &R,
     alloc: Global,
@@ -44,31 +44,16 @@ pub fn work<L: Naming, G: Gate, R: Wait>(
 )
     requires { seat.old.holding ≡ None }
     ensures free { seat.new.holding ≡ None }
+    ensures over { seat.new.over ≡ true }
     ensures all { PutAll seat.old seat.new }
 {
-    let mut place = Seated {
-        rt,
-        hub,
-        seat,
-        over: false,
-    };
+    let mut place = Seated { rt, hub, seat };
     work_at(rt, alloc, &mut place, gate);
-    let Seated {
-        rt: _,
-        hub: _,
-        seat,
-        over: _,
-    } = place;
-    take_back(seat);
 }
 
-// Does nothing. This use of the reference that came back ties it to the parameter that was lent.
-fn take_back<T>(x: &mut T)
-    ensures { x.new ≡ x.old }
-{}
-
 /// An instance for each seat, each on a thread of its own where one can be made, else one after another, until
-/// the hub is closed and empty; where there is no seat, nothing is done. No seat is lost, whatever memory is refused.
+/// each is answered that the hub is closed and empty; where there is no seat, nothing is done. No seat is lost,
+/// whatever memory is refused.
 pub fn work_all<L: Naming + Send + Sync, G: Gate, R: Threads + Wait + Sync>(
     rt: &R,
     alloc: Global,
@@ -80,6 +65,7 @@ pub fn work_all<L: Naming + Send + Sync, G: Gate, R: Threads + Wait + Sync>(
     ensures len { vec_len seats.new ≡ vec_len seats.old }
     ensures capacity { vec_capacity seats.new ≡ vec_capacity seats.old }
     ensures free { All (λ s. s.holding ≡ None) seats.new.items }
+    ensures over { All (λ s. s.over ≡ true) seats.new.items }
 {
     let count = seats.len();
     if count == 0 {
@@ -91,7 +77,7 @@ pub fn work_all<L: Naming + Send + Sync, G: Gate, R: Threads + Wait + Sync>(
         count,
         &|_: usize, seat: &mut Seat<Piece, L>|
             requires { seat.old.holding ≡ None }
-            ensures { seat.new.holding ≡ None }
+            ensures { (seat.new.holding ≡ None) × (seat.new.over ≡ true) }
         { work(rt, alloc, hub, seat, gate) },
     );
 }

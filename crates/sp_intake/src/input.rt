@@ -60,11 +60,7 @@ pub fn read_input<S: Source>(
 {
     let mut reading = Input::over(input, EventReader::new(alloc, plan)?);
     let given = reading.read_all(alloc);
-    take_back(reading.into_source());
+    // The reference that comes back is used, which ties it to the one that was lent.
+    let _source = reading.into_source();
     given
 }
-
-// Does nothing: the use of a reference that came back ties it to the one that was lent.
-pub(crate) fn take_back<T>(lent: &mut T)
-    ensures { lent.new ≡ lent.old }
-{}

@@ -7,7 +7,7 @@ ghost use Rattle.sp_intake.specs.Standing.{ReadSoFar};
 
 use crate::events::EventReader;
 use crate::giving::Input;
-use crate::input::{Stop, take_back};
+use crate::input::Stop;
 use sp_io::Source;
 use sp_plan::{Memory, Plan};
 use sp_ports::Intake;
@@ -40,6 +40,7 @@ fn skip_events<S: Source>(
     let mut input = Input::over(source, EventReader::new(alloc, plan)?);
     skip(alloc, &mut input, count);
     let stop = input.stop();
-    take_back(input.into_source());
+    // The reference that comes back is used, which ties it to the one that was lent.
+    let _source = input.into_source();
     Ok(stop)
 }

@@ -1,19 +1,16 @@
-ghost use Rattle.std.specs.Prelude.{◌≡◌, ℕ, ◌-◌, ◌<◌, ◌≤◌, ◌^◌, ◌↔◌, List, [], drop, take, Some, None, Option, length, IfOk, IfSome, OnOk, OnErr, IsErr, true, false};
+ghost use Rattle.std.specs.Prelude.{◌≡◌, ℕ, ◌-◌, ◌<◌, ◌≤◌, ◌^◌, ◌↔◌, List, [], take, Some, None, Option, length, IfOk, IfSome, OnOk, OnErr, IsErr, true, false};
 ghost use Rattle.sp_io.specs.Outside.{Gave, IsUsedUp, Rose};
 
-use crate::{Failed, Source};
+use crate::{ByteSource, Failed, Source};
 
 /// Bytes in memory, given in pieces. It can be made to fail once so many bytes were given.
 #[derive(Drop)]
 pub struct MemSource {
-    bytes: Vec<u8>,
-    given: usize,
+    inner: ByteSource,
     piece: u32,
     fail_after: Option<u64>,
     failed: u64,
-    ended: bool,
     ghost gives: { 0 < piece },
-    ghost within: { given ≤ length bytes.items },
 }
 
 impl MemSource {
@@ -30,12 +27,14 @@ impl MemSource {
         ensures fails { until_fault result ≡ fail_after }
     {
         MemSource {
-            bytes,
-            given: 0,
+            inner: ByteSource {
+                bytes,
+                given: 0,
+                ended: false,
+            },
             piece,
             fail_after,
             failed: 0,
-            ended: false,
         }
     }
 }
@@ -80,23 +79,13 @@ impl Source for MemSource {
     {
         let mut room = into.len().min(self.piece as usize);
         if let Some(limit) = self.fail_after {
-            if self.given as u64 >= limit {
+            let given = self.inner.given as u64;
+            if given >= limit {
                 self.failed = self.failed.saturating_add(1);
                 return Err(Failed);
             }
-            room = room.min((limit - self.given as u64) as usize);
+            room = room.min((limit - given) as usize);
         }
-        if self.ended {
-            return Ok(0);
-        }
-        let count = room.min(self.bytes.len() - self.given);
-        if count == 0 {
-            self.ended = true;
-            return Ok(0);
-        }
-        let end = self.given + count;
-        into[..count].copy_from_slice(&self.bytes[self.given..end]);
-        self.given = end;
-        Ok(count)
+        Ok(self.inner.give(into, room))
     }
 }

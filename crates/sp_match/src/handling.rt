@@ -1,5 +1,5 @@
 // The handling of an event: all open runs are offered it, and then it may start one.
-ghost use Rattle.std.specs.Prelude.{◌≡◌, ◌<◌, [], length, map, take, IfOk, OnOk};
+ghost use Rattle.std.specs.Prelude.{◌≡◌, ◌<◌, [], length, map, take, IfOk, IsTrue, OnOk};
 ghost use Rattle.sp_plan.specs.Runs.{State};
 ghost use Rattle.sp_plan.specs.Moves as definitions;
 ghost use Rattle.sp_match.specs.public.Seen.{all_seen};
@@ -50,32 +50,9 @@ fn handle(
     }
 }
 
-/// All that an event does and tells, as `handle` has it. What was told before is forgotten.
-pub(crate) fn handle_told(
-    offer: &Offer,
-    shared: &mut Stock,
-    runs: &mut Vec<Run>,
-    count: u32,
-    list: &mut Vec<Move>,
-) -> Result<bool, Memory>
-    requires offer { IsOffer offer.now }
-    requires ready { IsReady offer.now.plan.now offer.now.number count (all_kept runs.old.items) }
-    requires below { count < offer.now.number }
-    ensures handled { IfOk result (λ began. IsHandled offer.now.plan.now (numbered offer.now) count
-        (all_kept runs.old.items) began (all_kept runs.new.items) (all_seen list.new.items)) }
-    ensures quiet { OnOk result
-        (all_seen list.new.items ≡ [] → all_kept runs.new.items ≡ all_kept runs.old.items) }
-    ensures undoes { Undoes offer.now.plan.now (all_kept runs.old.items)
-        (take (length runs.old.items) (all_kept runs.new.items)) }
-{
-    list.clear();
-    shared.begin();
-    handle(offer, shared, runs, count, list)
-}
-
-/// All that an event does and tells, as `handle` has it, and what the runs want that were open when it
-/// came. `lefts` is a room that is used again.
-pub(crate) fn handle_all(
+/// All that an event does and tells, as `handle` has it, and where it is WANTED, what the runs want that were
+/// open when it came. What was told before is forgotten. `lefts` is a room that is used again.
+pub(crate) fn handle_all<const WANTED: bool>(
     offer: &Offer,
     shared: &mut Stock,
     runs: &mut Vec<Run>,
@@ -90,7 +67,7 @@ pub(crate) fn handle_all(
         (all_kept runs.old.items) began (all_kept runs.new.items) (all_seen moves.new.list.items)) }
     ensures quiet { OnOk result (all_seen moves.new.list.items ≡ []
         → all_kept runs.new.items ≡ all_kept runs.old.items) }
-    ensures wanted { OnOk result ((s : State)
+    ensures wanted { IsTrue WANTED → OnOk result ((s : State)
         → s.open_runs ≡ map started (all_kept runs.old.items) → s.started ≡ count
         → moves.new.wanted.items ≡ definitions.still_wanted offer.now.plan.now s
         (definitions.moves offer.now.plan.now s (numbered offer.now))) }
@@ -98,8 +75,11 @@ pub(crate) fn handle_all(
         (take (length runs.old.items) (all_kept runs.new.items)) }
 {
     moves.clear();
-    want_before(offer.plan, runs, lefts)?;
     shared.begin();
+    if !WANTED {
+        return handle(offer, shared, runs, count, &mut moves.list);
+    }
+    want_before(offer.plan, runs, lefts)?;
     let began = handle(offer, shared, runs, count, &mut moves.list)?;
     want_after(offer.plan, lefts, runs, &mut moves.wanted)?;
     Ok(began)

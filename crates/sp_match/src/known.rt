@@ -8,7 +8,7 @@ ghost use Rattle.sp_match.specs.public.Known.{IsKnown, known_by, may_take};
 ghost use Rattle.sp_match.specs.inside.Taking.{IsMask};
 
 use crate::offer::first_name;
-use sp_plan::{Bound, Event, Plan, fitting_events_are_small, may_hold, what_may_not_hold_does_not};
+use sp_plan::{Bound, Event, Plan, law, may_hold};
 use std::alloc::Global;
 
 /// What is known of an event by the plan alone, whatever the open runs have bound.
@@ -59,8 +59,10 @@ pub fn known_beside(alloc: Global, plan: &Plan, event: &Event, none: &Bound) -> 
     ensures value { result ≡ known_by plan.now event.now }
     ensures sure { IsKnown plan.now event.now result }
 {
-    fitting_events_are_small();
-    what_may_not_hold_does_not();
+    // The numbers of an event that fits are small, which predicates ask for.
+    law::fitting_events_are_small();
+    // Where no predicate may hold of it, none does, whatever is bound.
+    law::what_may_not_hold_does_not();
     if first_name(plan, event, none).is_some() {
         Known::Any
     } else if may_be_taken(alloc, plan, event) {

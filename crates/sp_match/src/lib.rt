@@ -10,7 +10,7 @@ mod completing;
 mod found;
 mod handling;
 mod known;
-mod laws;
+pub mod law;
 mod leaving;
 mod matcher;
 mod moves;
@@ -25,7 +25,7 @@ mod wanting;
 
 pub use found::{as_match, match_of, places_of};
 pub use known::{Known, known_beside, known_of};
-pub use laws::{
+pub use law::{
     abandonments_are_told, closing_ends_runs, completions_are_matches, handling_is_lawful,
     moves_are_handling, moves_lead_on, numbers_stay_below, one_event_more, open_has_no_match,
     runs_are_sound, several_are_lawful,

@@ -8,16 +8,16 @@ ghost use Rattle.sp_match.specs.public.Seen.{all_seen, seen_run};
 
 use crate::Memory;
 use crate::all_runs::{copies, same_runs};
-use crate::handling::{handle_all, handle_told};
+use crate::handling::handle_all;
 use crate::known::{Known, names_ahead};
 use crate::leaving::abandon_all;
-use crate::moves::{Move, Moves};
+use crate::moves::Moves;
 use crate::offer::Offer;
 use crate::run::Run;
 use crate::settling::{end_all, settle, undo};
 use crate::stock::Stock;
 use crate::wanting::{left, want_as_before};
-use sp_plan::{Event, Plan, fitting_events_are_small, plans_are_themselves};
+use sp_plan::{Event, Plan, law};
 use std::alloc::Global;
 use std::marker::Model;
 use std::sync::Arc;
@@ -107,63 +107,6 @@ impl Matcher {
         self.count = 0;
     }
 
-    // All that the next visible event does, of which this is known. The moves are cleared first, and tell of
-    // it then, and of what the runs want.
-    fn offer_known_into(
-        &mut self,
-        alloc: Global,
-        number: u32,
-        event: &Event,
-        known: Known,
-        moves: &mut Moves,
-    ) -> Result<(), Memory>
-        requires fits { fits self.old.plan event.now ≡ true }
-        requires below { Below number (runs_of self.old) }
-        requires known { IsKnown self.old.plan event.now known }
-        ensures stands { OnOk result (IsAfter (number, event.now) self.old self.new) }
-        ensures told { OnOk result
-            (TellsEvent (number, event.now) self.old (all_seen moves.new.list.items)) }
-        ensures wanted { OnOk result
-            (TellsWanted (number, event.now) self.old moves.new.wanted.items) }
-        ensures below { OnOk result (Below (number + 1) (runs_of self.new)) }
-        ensures plan { self.new.plan ≡ self.old.plan }
-        ensures err { OnErr result (self.new ≡ self.old) }
-        ensures cleared { OnErr result
-            ((moves.new.list.items ≡ []) × (moves.new.wanted.items ≡ [])) }
-    {
-        fitting_events_are_small();
-        let open = self.runs.len();
-        let may = names_ahead(alloc, &self.plan, event, open);
-        let offer = Offer {
-            alloc,
-            plan: &self.plan,
-            number,
-            event,
-            known,
-            may: &may,
-        };
-        match handle_all(
-            &offer,
-            &mut self.stock,
-            &mut self.runs,
-            &mut self.lefts,
-            self.count,
-            moves,
-        ) {
-            Ok(started) => {
-                let is_quiet = moves.list.is_empty();
-                settle(&self.plan, &mut self.runs, &mut self.stock, is_quiet);
-                self.count = count_after(self.count, started);
-                Ok(())
-            }
-            Err(memory) => {
-                undo(&mut self.runs, open);
-                moves.clear();
-                Err(memory)
-            }
-        }
-    }
-
     /// Handles the next visible event: the open runs are offered it, the oldest first, and then it may
     /// start one. The moves are cleared first, and tell of it then; their room is used again. After want
     /// of memory the matcher is as before, and there are no moves.
@@ -187,7 +130,7 @@ impl Matcher {
         ensures cleared { OnErr result
             ((moves.new.list.items ≡ []) × (moves.new.wanted.items ≡ [])) }
     {
-        self.offer_known_into(alloc, number, event, Known::Any, moves)
+        self.offer_known::<true>(alloc, number, event, Known::Any, moves)
     }
 
     /// Whether an event of which this is known changes nothing, as far as that tells: no run takes it, none
@@ -218,28 +161,32 @@ impl Matcher {
         want_as_before(&self.plan, &self.runs, wanted)
     }
 
-    /// Handles the next visible event, of which this is known, as `offer_into` does, and tells its moves,
-    /// but not what the runs want. After want of memory the matcher is as before, and there are no moves.
-    pub fn offer_known(
+    /// Handles the next visible event, of which this is known, as `offer_into` does, but tells what the runs
+    /// want only where that is WANTED. After want of memory the matcher is as before, and there are no moves.
+    pub fn offer_known<const WANTED: bool>(
         &mut self,
         alloc: Global,
         number: u32,
         event: &Event,
         known: Known,
-        list: &mut Vec<Move>,
+        moves: &mut Moves,
     ) -> Result<(), Memory>
         requires fits { fits self.old.plan event.now ≡ true }
         requires below { Below number (runs_of self.old) }
         requires known { IsKnown self.old.plan event.now known }
         ensures stands { OnOk result (IsAfter (number, event.now) self.old self.new) }
         ensures told { OnOk result
-            (TellsEvent (number, event.now) self.old (all_seen list.new.items)) }
+            (TellsEvent (number, event.now) self.old (all_seen moves.new.list.items)) }
+        ensures wanted { IsTrue WANTED → OnOk result
+            (TellsWanted (number, event.now) self.old moves.new.wanted.items) }
         ensures below { OnOk result (Below (number + 1) (runs_of self.new)) }
         ensures plan { self.new.plan ≡ self.old.plan }
         ensures err { OnErr result (self.new ≡ self.old) }
-        ensures cleared { OnErr result (list.new.items ≡ []) }
+        ensures cleared { OnErr result
+            ((moves.new.list.items ≡ []) × (moves.new.wanted.items ≡ [])) }
     {
-        fitting_events_are_small();
+        // The numbers of an event that fits are small, which predicates ask for.
+        law::fitting_events_are_small();
         let open = self.runs.len();
         let may = names_ahead(alloc, &self.plan, event, open);
         let offer = Offer {
@@ -250,16 +197,23 @@ impl Matcher {
             known,
             may: &may,
         };
-        match handle_told(&offer, &mut self.stock, &mut self.runs, self.count, list) {
+        match handle_all::<WANTED>(
+            &offer,
+            &mut self.stock,
+            &mut self.runs,
+            &mut self.lefts,
+            self.count,
+            moves,
+        ) {
             Ok(started) => {
-                let is_quiet = list.is_empty();
+                let is_quiet = moves.list.is_empty();
                 settle(&self.plan, &mut self.runs, &mut self.stock, is_quiet);
                 self.count = count_after(self.count, started);
                 Ok(())
             }
             Err(memory) => {
                 undo(&mut self.runs, open);
-                list.clear();
+                moves.clear();
                 Err(memory)
             }
         }
@@ -303,7 +257,7 @@ impl Matcher {
         ensures err { OnErr result (self.new ≡ self.old) }
     {
         let mut moves = Moves::new(alloc);
-        self.offer_known_into(alloc, number, event, known, &mut moves)?;
+        self.offer_known::<true>(alloc, number, event, known, &mut moves)?;
         Ok(moves)
     }
 
@@ -367,7 +321,8 @@ impl Matcher {
         ensures shared { self.now.plan ≡ other.now.plan
             → IsTrue result ↔ (self.now ≡ other.now) }
     {
-        plans_are_themselves();
+        // So where both share a plan, only the runs count.
+        law::plans_are_themselves();
         if !self.same_runs(other) {
             return false;
         }

@@ -4,30 +4,31 @@ use Rattle.std.proofs.lemmas.List.{map_more, take_all}
 use Rattle.std.proofs.lemmas.List.Elements.{All-nil, All-cons, All-append, All-filter}
 use Rattle.sp_plan.specs.Runs.{is_among}
 use Rattle.sp_tree.specs.Grown.{Entry, LacksChild}
-use Rattle.sp_pick.specs.Picking.{best, turned, is_likely, is_turned, candidates, as_label, rises, IsTaken, IsFirstFree}
+use Rattle.sp_group.specs.Rising.{IsLabel}
+use Rattle.sp_pick.specs.Picking.{best, turned, is_likely, is_turned, candidates, IsTaken, IsFirstFree}
 use Rattle.sp_pick.specs.Turning.{turned_round}
 use Rattle.sp_pick.proofs.Searched.{among_at}
-use Rattle.sp_pick.proofs.Turned.{above_zero, all_among, parts_at, turned_filter, turned_back}
+use Rattle.sp_pick.proofs.Turned.{label_rises, parts_at, turned_filter, turned_back}
 
 -- the run at an index is none that is 0
-pub not_zero : (gs : List ℕ) (i : ℕ) → rises 0 gs ≡ true → i < length gs → get_or gs i 0 ≢ 0
-not_zero gs i rise within = above_zero 0 gs rise i 0 within
+pub not_zero : (gs : List ℕ) (i : ℕ) → IsLabel gs → i < length gs → get_or gs i 0 ≢ 0
+not_zero gs i label within = label.given i 0 within
 
 -- a label over some of the groups has open ones alone
-pub some_open : (all gs label : List ℕ) (p : ℕ → Bool) → gs ≡ as_label all → label ≡ filter p gs → All (λ r. is_among all r ≡ true) label
+pub some_open : (all gs label : List ℕ) (p : ℕ → Bool) → gs ≡ all → label ≡ filter p gs → All (λ r. is_among all r ≡ true) label
 some_open all gs label p are is =
-    subst (λ (l : List ℕ). All (λ r. is_among all r ≡ true) l) (sym (is ∙ ap (filter p) are)) (All-filter p (λ r. is_among all r ≡ true) (as_label all) (all_among all))
+    subst (λ (l : List ℕ). All (λ r. is_among all r ≡ true) l) (sym (is ∙ ap (filter p) are)) (All-filter p (λ r. is_among all r ≡ true) all (λ k d within. among_at all k d within))
 
 -- the best label with a run turned round, and turned back
-pub turned_at : (shares : ℕ → ℕ) (gs label : List ℕ) (i : ℕ) (after : List ℕ) → rises 0 gs ≡ true → i < length gs → label ≡ best shares gs → after ≡ turned_round label (get_or gs i 0)
+pub turned_at : (shares : ℕ → ℕ) (gs label : List ℕ) (i : ℕ) (after : List ℕ) → IsLabel gs → i < length gs → label ≡ best shares gs → after ≡ turned_round label (get_or gs i 0)
     → after ≡ turned shares gs (get_or gs i 0)
-turned_at shares gs label i after rise within is made =
-    made ∙ ap (λ (l : List ℕ). turned_round l (get_or gs i 0)) is ∙ turned_filter (is_likely shares) (get_or gs i 0) 0 gs rise (among_at gs i 0 within)
+turned_at shares gs label i after own within is made =
+    made ∙ ap (λ (l : List ℕ). turned_round l (get_or gs i 0)) is ∙ turned_filter (is_likely shares) (get_or gs i 0) 0 gs (label_rises gs own) (among_at gs i 0 within)
 
-pub back_at : (shares : ℕ → ℕ) (gs label : List ℕ) (i : ℕ) (after : List ℕ) → rises 0 gs ≡ true → i < length gs → label ≡ turned shares gs (get_or gs i 0) → after ≡ turned_round label (get_or gs i 0)
+pub back_at : (shares : ℕ → ℕ) (gs label : List ℕ) (i : ℕ) (after : List ℕ) → IsLabel gs → i < length gs → label ≡ turned shares gs (get_or gs i 0) → after ≡ turned_round label (get_or gs i 0)
     → after ≡ best shares gs
-back_at shares gs label i after rise within is made =
-    made ∙ ap (λ (l : List ℕ). turned_round l (get_or gs i 0)) is ∙ turned_filter (is_turned shares (get_or gs i 0)) (get_or gs i 0) 0 gs rise (among_at gs i 0 within)
+back_at shares gs label i after own within is made =
+    made ∙ ap (λ (l : List ℕ). turned_round l (get_or gs i 0)) is ∙ turned_filter (is_turned shares (get_or gs i 0)) (get_or gs i 0) 0 gs (label_rises gs own) (among_at gs i 0 within)
     ∙ turned_back (is_likely shares) (get_or gs i 0) gs
 
 module _ {V : Type 0} (es : List (Entry V)) (p : ℕ) (shares : ℕ → ℕ) where

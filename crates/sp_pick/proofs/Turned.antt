@@ -1,5 +1,5 @@
 -- Labels over the open groups of a version, the membership of one group turned round, and the first label that is free.
-use Rattle.std.proofs.Common.{◌≡◌, ◌≢◌, ℕ, zero, suc, ◌+◌, ◌<◌, ◌≤◌, Bool, true, false, not, cond, ◌==◌, ◌||◌, List, [], ◌∷◌, ◌++◌, map, length, get_or, take, drop, refl, sym, ap, subst, ◌∙◌, arith, inl, inr, All, filter}
+use Rattle.std.proofs.Common.{◌≡◌, ◌≢◌, ℕ, zero, suc, ◌+◌, ◌<◌, ◌≤◌, Bool, true, false, not, cond, ◌==◌, ◌&&◌, ◌||◌, List, [], ◌∷◌, ◌++◌, map, length, get_or, take, drop, refl, sym, ap, subst, ◌∙◌, arith, inl, inr, All, filter}
 use Rattle.std.specs.Prelude.{nat_lt}
 use Rattle.std.specs.List.Sorted.{IsStrictlyIncreasing}
 use Rattle.std.proofs.lemmas.Bool.{false≢true, and_parts, and_from, or_parts, ltb-true, lt-ltb, eq-eqb, eqb-true, cases_lt}
@@ -7,9 +7,13 @@ use Rattle.std.proofs.lemmas.Bool.Decides.{nat_tests}
 use Rattle.std.proofs.lemmas.List.Elements.{All-nil, All-cons}
 use Rattle.sp_plan.specs.Runs.{is_among}
 use Rattle.sp_group.specs.Rising.{IsLabel, with_number}
-use Rattle.sp_pick.specs.Picking.{rises, as_label}
 use Rattle.sp_pick.specs.Turning.{turned_round}
 use Rattle.sp_pick.proofs.Searched.{among_at}
+
+-- whether numbers rise strictly from above the last one
+abbrev pub rises : ℕ → List ℕ → Bool
+rises last [] = true
+rises last (run ∷ runs) = nat_lt last run && rises run runs
 
 -- the test with one number turned round
 abbrev pub but_for : ℕ → (ℕ → Bool) → ℕ → Bool
@@ -23,7 +27,7 @@ lower low high (x ∷ xs) h r =
     and_from (nat_lt low x) (rises x xs) (lt-ltb low x (omega arith)) parts.1
 
 -- some of rising numbers rise
-pub filter_rises : (p : ℕ → Bool) (last : ℕ) (xs : List ℕ) → rises last xs ≡ true → rises last (filter p xs) ≡ true
+filter_rises : (p : ℕ → Bool) (last : ℕ) (xs : List ℕ) → rises last xs ≡ true → rises last (filter p xs) ≡ true
 filter_rises p last [] r = refl
 filter_rises p last (x ∷ xs) r =
     let parts = and_parts (nat_lt last x) (rises x xs) r in
@@ -60,7 +64,7 @@ above_zero last (x ∷ xs) rise =
     let above = ltb-true last x parts.0 in
     All-cons (λ r. r ≢ 0) x xs (λ is. absurd (omega arith)) (above_zero x xs parts.1)
 
-pub is_label : (xs : List ℕ) → rises 0 xs ≡ true → IsLabel xs
+is_label : (xs : List ℕ) → rises 0 xs ≡ true → IsLabel xs
 is_label xs rise = record { rising = increase 0 xs rise; given = above_zero 0 xs rise }
 
 -- what is above the turned number is as it was
@@ -169,15 +173,7 @@ parts_at f [] i d within = absurd (omega arith)
 parts_at f (x ∷ xs) zero d within = refl
 parts_at f (x ∷ xs) (suc i) d within = ap (λ (l : List (List ℕ)). f x ∷ l) (parts_at f xs i d (omega arith))
 
--- the groups that count are among all
-pub all_among : (xs : List ℕ) → All (λ r. is_among xs r ≡ true) (as_label xs)
-all_among xs = one (rises 0 xs)
-  where
-    one : (b : Bool) → All (λ r. is_among xs r ≡ true) (cond b xs [])
-    one true = λ k d h. among_at xs k d h
-    one false = All-nil (λ r. is_among xs r ≡ true)
-
--- groups that are a label's count as they are
+-- a label rises from above 0, and so do some of its runs
 tail_increases : (x : ℕ) (xs : List ℕ) → IsStrictlyIncreasing (x ∷ xs) → IsStrictlyIncreasing xs
 tail_increases x xs h k within = subst (λ n. get_or (x ∷ xs) n 0 < get_or (x ∷ xs) (n + 1) 0 → get_or xs k 0 < get_or xs (k + 1) 0) (one k) (moved k) (h (k + 1) (omega arith))
   where
@@ -199,9 +195,12 @@ rise_from last (x ∷ xs) h low =
     one : 1 ≡ 0 + 1
     one = refl
 
-pub labels_count : (gs : List ℕ) → IsLabel gs → as_label gs ≡ gs
-labels_count gs h = ap (λ (b : Bool). cond b gs []) (rise_from 0 gs h.rising (λ some. let other = h.given 0 0 some in above (get_or gs 0 0) other))
+pub label_rises : (gs : List ℕ) → IsLabel gs → rises 0 gs ≡ true
+label_rises gs h = rise_from 0 gs h.rising (λ some. let other = h.given 0 0 some in above (get_or gs 0 0) other)
   where
     above : (n : ℕ) → n ≢ 0 → 0 < n
     above zero other = absurd (other refl)
     above (suc n) other = omega arith
+
+pub label_filter : (p : ℕ → Bool) (gs : List ℕ) → IsLabel gs → IsLabel (filter p gs)
+label_filter p gs h = is_label (filter p gs) (filter_rises p 0 gs (label_rises gs h))

@@ -32,14 +32,6 @@ is_turned shares turn run = if run == turn then not (is_likely shares run) else 
 abbrev pub turned : (ℕ → ℕ) → List ℕ → ℕ → List ℕ
 turned shares groups turn = filter (is_turned shares turn) groups
 
--- Groups as a label has them, rising strictly from above 0. A tree keeps them so; others would count for nothing.
-abbrev pub rises : ℕ → List ℕ → Bool
-rises last [] = true
-rises last (run ∷ runs) = nat_lt last run && rises run runs
-
-abbrev pub as_label : List ℕ → List ℕ
-as_label groups = if rises 0 groups then groups else []
-
 -- the labels that a next child may have, the best one first
 abbrev pub candidates : (ℕ → ℕ) → List ℕ → List (List ℕ)
 candidates shares groups = best shares groups ∷ map (turned shares groups) groups
@@ -111,4 +103,4 @@ module _ {V : Type 0} where
 
   -- what the next child of a parent may have for a label
   abbrev pub candidates_in : (ℕ → ℕ → ℕ) → List (Entry V) → ℕ → List (List ℕ)
-  candidates_in shares es p = candidates (shares p) (as_label (groups_of (entry_at kin es p)))
+  candidates_in shares es p = candidates (shares p) (groups_of (entry_at kin es p))

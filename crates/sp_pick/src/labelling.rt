@@ -1,8 +1,9 @@
-ghost use Rattle.std.specs.Prelude.{◌≡◌, ◌≢◌, IsSome, IfOk, IfSome, OnOk, IsTrue, All, MatchBool, true};
+ghost use Rattle.std.specs.Prelude.{◌≡◌, ◌≢◌, IsSome, IfOk, IfSome, OnOk, All, MatchBool, true};
 ghost use Rattle.sp_group.specs.Family.{entry_at};
+ghost use Rattle.sp_group.specs.Rising.{IsLabel};
 ghost use Rattle.sp_chance.specs.Shares.{share_of};
-ghost use Rattle.sp_tree.specs.Grown.{kin, groups_of, is_open, LacksChild};
-ghost use Rattle.sp_pick.specs.Picking.{best, candidates_in, is_likely, as_label, rises, IsNext, IsTaken};
+ghost use Rattle.sp_tree.specs.Grown.{kin, is_open, LacksChild};
+ghost use Rattle.sp_pick.specs.Picking.{best, candidates_in, IsNext, IsTaken};
 ghost use Rattle.sp_pick.specs.Turning.{turned_round};
 
 use crate::Memory;
@@ -29,7 +30,7 @@ pub fn next_label<V>(
     ensures open { IfOk result
         (λ next. IfSome next (λ label. All (λ run. is_open tree.now parent run ≡ true) label)) }
 {
-    let groups = open_groups(tree, parent);
+    let groups = tree.groups(parent);
     let mut label = best_label(alloc, chances, parent, groups)?;
     if is_free(tree, parent, &label) {
         return Ok(Some(label));
@@ -44,28 +45,6 @@ pub fn next_label<V>(
     Ok(None)
 }
 
-// The open groups of a version. They are those of a label, as the tree keeps them.
-fn open_groups<V>(tree: &Tree<V>, id: u64) -> &[u32]
-    ensures groups { result.now ≡ as_label (groups_of (entry_at kin tree.now.entries id)) }
-    ensures label { IsTrue (rises 0 result.now) }
-{
-    let groups = tree.groups(id);
-    if are_rising(groups) { groups } else { &[] }
-}
-
-fn are_rising(runs: &[u32]) -> bool
-    ensures { result ≡ rises 0 runs.now }
-{
-    let mut last = 0;
-    for run in runs {
-        if *run <= last {
-            return false;
-        }
-        last = *run;
-    }
-    true
-}
-
 // The label of the groups that are likelier to complete than not.
 fn best_label(
     alloc: Global,
@@ -73,7 +52,7 @@ fn best_label(
     parent: u64,
     groups: &[u32],
 ) -> Result<Label, Memory>
-    requires { IsTrue (rises 0 groups.now) }
+    requires { IsLabel groups.now }
     ensures { IfOk result (λ label. label ≡ best (share_of chances.now parent) groups.now) }
 {
     let mut likely = Vec::new(alloc);

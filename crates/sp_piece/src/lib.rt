@@ -5,13 +5,13 @@
 
 mod going;
 mod job;
-mod laws;
+pub mod law;
 mod piece;
 mod reading;
 mod stepped;
 
 pub use job::Job;
-pub use laws::{readings_tell_matches, same_plans_read_alike};
+pub use law::{readings_tell_matches, same_plans_read_alike};
 pub use piece::Piece;
 use std::alloc::AllocError;
 pub use stepped::Stepped;

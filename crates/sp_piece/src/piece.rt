@@ -186,7 +186,7 @@ impl Piece {
         led(&self.matcher, &self.job.before)
     }
 
-    /// Marks that memory was refused. It can be read on.
+    /// Gives the piece up, since memory was refused: no step reads any more of it.
     pub fn give_up(&mut self)
         ensures { self.new ≡ refused self.old }
     {

@@ -1,6 +1,7 @@
 mod LastBound
 mod Blocks
 mod Pages
+mod Released
 pub mod Worked
 mod WorkedMoves
 mod WorkedReading

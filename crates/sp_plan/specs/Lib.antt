@@ -3,6 +3,7 @@ pub mod Values
 pub mod Kept
 pub mod Blocks
 pub mod Pages
+pub mod Released
 pub mod Windows
 pub mod WindowNumbers
 pub mod Runs

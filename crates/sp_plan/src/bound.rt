@@ -2,6 +2,7 @@ ghost use Rattle.std.specs.Prelude.{◌≡◌, ◌++◌, ◌∷◌, [], ◌<◌,
 ghost use Rattle.std.specs.Option.{option_map, option_copied};
 ghost use Rattle.sp_plan.specs.Values.{last_bound};
 ghost use Rattle.sp_plan.specs.Blocks.{seen, IsBlock, Blocked};
+ghost use Rattle.sp_plan.specs.Released.{events_of, AreReleased};
 
 use crate::pairs::{Pair, Pairs};
 use crate::{Event, Memory, SharedEvent};
@@ -109,10 +110,12 @@ impl Bound {
         self.pairs.clear();
     }
 
-    /// Takes all events away as `clear` does, and puts handles of them into the list, those that no copy of
-    /// this value shares. Takes memory for the list alone: handles for which it is wanting are dropped.
+    /// Takes all events away as `clear` does, and puts handles of them behind those in the list, the last one
+    /// first: of those that stand in no page which a copy may share. Takes memory for the list alone: handles
+    /// for which it is wanting are dropped.
     pub fn release(&mut self, handles: &mut Vec<SharedEvent>)
-        ensures { self.new ≡ [] }
+        ensures none { self.new ≡ [] }
+        ensures handles { AreReleased (events_of self.old) handles.old.items handles.new.items }
     {
         self.pairs.release(handles);
     }

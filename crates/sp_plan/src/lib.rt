@@ -9,7 +9,7 @@ mod eval;
 mod event;
 mod fits;
 mod found;
-mod laws;
+pub mod law;
 mod pairs;
 mod places;
 mod plan;
@@ -21,7 +21,7 @@ pub use bound::Bound;
 pub use eval::{holds, value};
 pub use event::{Event, Value, Values};
 pub use found::Match;
-pub use laws::{
+pub use law::{
     fitting_events_are_small, known_is_right, plans_are_themselves, reading_is_state,
     same_predicates_hold_alike, what_may_not_hold_does_not,
 };

@@ -1,7 +1,8 @@
 // Pairs of a name and an event, in a list that its copies share page by page.
-ghost use Rattle.std.specs.Prelude.{◌≡◌, ◌++◌, ◌∷◌, [], ◌<◌, ◌≤◌, ◌-◌, length, take, drop, IfOk, OnOk, OnErr, slice_index_or};
+ghost use Rattle.std.specs.Prelude.{◌≡◌, ◌++◌, ◌∷◌, [], ◌<◌, ◌≤◌, ◌-◌, length, map, take, drop, IfOk, OnOk, OnErr, slice_index_or};
 ghost use Rattle.std.specs.Option.{option_copied};
 ghost use Rattle.sp_plan.specs.Blocks.{Blocked, named, last_named};
+ghost use Rattle.sp_plan.specs.Released.{AreReleased};
 
 use crate::{Memory, SharedEvent};
 use std::alloc::{AllocError, AllocFailed, Global};
@@ -231,10 +232,12 @@ impl Pairs {
         self.tail.clear();
     }
 
-    // Takes all pairs away as `clear` does, and puts the handles of those that stand in no page into the list.
-    // Handles for which memory is wanting are dropped.
+    // Takes all pairs away as `clear` does, and puts the handles of those that stand in no page behind those in
+    // the list, the last one first. Handles for which memory is wanting are dropped.
     pub(crate) fn release(&mut self, handles: &mut Vec<SharedEvent>)
-        ensures { self.new ≡ [] }
+        ensures none { self.new ≡ [] }
+        ensures handles { AreReleased (map (λ p. p.event) self.old)
+            handles.old.items handles.new.items }
     {
         self.pages.clear();
         self.paged = 0;

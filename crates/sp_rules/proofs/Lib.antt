@@ -25,3 +25,5 @@ pub mod ComingHome
 pub mod ByGroups
 pub mod Adding
 pub mod Lasting
+pub mod TicketsStay
+mod WorkedSilentReturn

@@ -87,6 +87,14 @@ pub find_none : (i : ℕ) (p : ℕ → Bool) (xs : List ℕ) → find (λ r. not
 find_none i p [] h k = absurd (cc)
 find_none i p (x ∷ xs) h k = grind (arith, nat_tests, find_none i p xs)
 
+-- and where each passes, none fails
+pub none_found : (p : ℕ → Bool) (xs : List ℕ) → ((i : ℕ) → is_among xs i ≡ true → p i ≡ true) → find (λ r. not (p r)) xs ≡ None
+none_found p [] each = refl
+none_found p (x ∷ xs) each =
+    let here = each x (grind (arith, nat_tests)) in
+    let rest = none_found p xs (λ i m. each i (grind (arith, nat_tests))) in
+    grind (arith, here, rest)
+
 pub least_none : (p : ℕ → Bool) (a n i : ℕ) → is_some (least p a n) ≡ false → a ≤ i → i < a + n → p i ≡ false
 least_none p a zero i e l h = absurd (omega arith)
 least_none p a (suc n) i e l h = grind (arith, nat_tests, least_none p (a + 1) n i)

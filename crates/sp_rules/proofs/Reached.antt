@@ -18,7 +18,7 @@ use Rattle.sp_rules.proofs.Finish.{finish_matches}
 use Rattle.sp_rules.proofs.Steps.{passes_if, not_false, opening_kept, steps_keep}
 use Rattle.sp_rules.proofs.Onward.{step_onward}
 use Rattle.sp_rules.proofs.Births.{step_born, step_stays}
-use Rattle.sp_rules.proofs.Losses.{return_loses}
+use Rattle.sp_rules.proofs.Losses.{loses_few}
 use Rattle.sp_rules.proofs.GoesOn.{root_clear, goes_on}
 use Rattle.sp_rules.proofs.Bound.{steps_few, keeps_bound}
 
@@ -105,8 +105,8 @@ reached q k bound xs low fits =
       onward = λ x fit. step_onward q k bound m x fit kept;
       born = λ x. step_born q k bound m x kept;
       stays = λ x. step_stays q bound m x kept;
-      loses = return_loses q k bound m kept;
+      loses = loses_few q k bound m kept;
       rolling = rolls_where_in_conflict q bound m kept;
       goes_on = goes_on q bound m kept;
-      bounded = keeps_bound q bound m (steps_few q k bound xs opening low fits (opening_kept q k) (omega arith));
+      bounded = keeps_bound q bound m kept (steps_few q k bound xs opening low fits (opening_kept q k) (omega arith));
     }

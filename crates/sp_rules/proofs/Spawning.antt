@@ -1,5 +1,5 @@
 -- A version that is spawned keeps what every state keeps.
-use Rattle.std.proofs.Common.{◌≡◌, ◌≢◌, ℕ, ◌+◌, ◌<◌, ◌≤◌, Bool, true, false, cond, ◌&&◌, List, [], ◌∷◌, Option, Some, None, ⊎_elim, refl, sym, ap, ◌∙◌, subst, arith}
+use Rattle.std.proofs.Common.{◌≡◌, ◌≢◌, ℕ, ◌+◌, ◌<◌, ◌≤◌, Bool, true, false, cond, ◌&&◌, ◌==◌, List, [], ◌∷◌, Option, Some, None, ⊎_elim, refl, sym, ap, ◌∙◌, subst, arith}
 use Rattle.std.proofs.lemmas.Bool.Decides.{nat_tests}
 use Rattle.std.proofs.lemmas.List.Elements.{All-nil}
 use Rattle.sp_plan.specs.declared.plan.Plan.{Plan}
@@ -10,7 +10,7 @@ use Rattle.sp_group.specs.Machine.{Version, Machine, version_at, root_in, is_out
 use Rattle.sp_group.specs.Refusing.{same_list, child_with, not_open}
 use Rattle.sp_group.specs.Effects.{fresh, spawned}
 use Rattle.sp_rules.specs.Kept.{Stands, Local, Sane, Kept}
-use Rattle.sp_rules.proofs.Lists.{and_both, find_none}
+use Rattle.sp_rules.proofs.Lists.{and_left, and_right, and_both, find_none}
 use Rattle.sp_rules.proofs.Tickets.{bare_out}
 use Rattle.sp_rules.proofs.Tree.{at_cases, at_id, supp_later}
 use Rattle.sp_rules.proofs.Locals.{local_grows, local_fresh, rootless}
@@ -76,12 +76,21 @@ spawn_root_keeps q s none there h =
           (at_cases (root_of s) s.versions id v at);
     }
 
+-- lists that are told to be the same are
+pub same_is : (ms ns : List ℕ) → same_list ms ns ≡ true → ms ≡ ns
+same_is [] [] h = refl
+same_is [] (n ∷ ns) h = absurd (cc)
+same_is (m ∷ ms) [] h = absurd (cc)
+same_is (m ∷ ms) (n ∷ ns) h =
+    let head : m ≡ n = let a = and_left (m == n) (same_list ms ns) h in grind (arith, nat_tests) in
+    ap (λ k. k ∷ ms) head ∙ ap (λ ks. n ∷ ks) (same_is ms ns (and_right (m == n) (same_list ms ns) h))
+
 same_refl : (l : List ℕ) → same_list l l ≡ true
 same_refl [] = refl
 same_refl (x ∷ xs) = grind (arith, nat_tests, same_refl xs)
 
 -- where no child has the label, no child has it
-not_taken : (vs : List Version) (p : ℕ) (l : List ℕ) → child_with vs p l ≡ None → (id : ℕ) (w : Version) → version_at vs id ≡ Some w → w.parent ≡ Some p → w.label ≡ l → ⊥
+pub not_taken : (vs : List Version) (p : ℕ) (l : List ℕ) → child_with vs p l ≡ None → (id : ℕ) (w : Version) → version_at vs id ≡ Some w → w.parent ≡ Some p → w.label ≡ l → ⊥
 not_taken [] p l h id w e o m = absurd (cc)
 not_taken (x ∷ vs) p l h id w e o m = one (is_parent p x.parent && same_list x.label l) refl h (not_taken vs p l)
   where

@@ -35,9 +35,9 @@ abbrev pub Shape : Plan → (Version → State) → ℕ → List Version → Typ
 Shape q f finished [] = ⊤
 Shape q f finished (v ∷ vs) = Placed q f finished vs v × Shape q f finished vs
 
--- A ticket that is out for a live version, for which these events are suppressed: it begins behind what the version has read, and stays
--- within its window; it has the closing only where it reaches the end of a closed window; its snapshot is suppressed and within what
--- it lends; and it has not read more than it has.
+-- A ticket that is out for a live version, for which these events are suppressed: the version is not done; the ticket begins behind what
+-- the version has read, stays within its window, and has the closing only where it reaches the end of a closed window; what its snapshot
+-- names is suppressed, and not before its first event; no more is read of it than it lends, and the closing only behind all that.
 pub record Lent (q : Plan) (events : List Event) (ended : Bool) (suppressed : ℕ → Bool) (v : Version) (t : Ticket) : Type 0 where
   pub begins : t.first ≡ first q events v.window + v.position
   pub fits : v.position + t.count ≤ size q events v.window
@@ -47,8 +47,9 @@ pub record Lent (q : Plan) (events : List Event) (ended : Bool) (suppressed : �
   pub reads : t.read ≤ t.count
   pub shuts : t.closing_read ≡ true → (t.closes ≡ true) × (t.read ≡ t.count)
 
--- A live version, for which these events are suppressed: its window has begun; what it skipped is suppressed and among what it read; where
--- it is done its window is closed, and it has read all of it; at most one ticket is out for it.
+-- A live version, for which these events are suppressed: its window has begun, and it has read no more of that than was fed; the numbers
+-- that it skipped rise, are suppressed, and are below that of the next event that it reads; where it is done its window is closed, and it
+-- has read all of it; at most one ticket is out for it, and that lends as a ticket of a live version does.
 pub record Local (q : Plan) (events : List Event) (ended : Bool) (tickets : List Ticket) (suppressed : ℕ → Bool) (v : Version) : Type 0 where
   pub there : (1 ≤ v.window) × (v.window ≤ count q events)
   pub reads : v.position ≤ size q events v.window

@@ -3,6 +3,7 @@
 use Rattle.std.specs.Prelude.{◌≡◌, ◌↔◌, ◌⊎◌, ⊤, ℕ, ◌+◌, ◌<◌, ◌≤◌, Bool, true, false, List, [], ◌∷◌, ◌++◌, length, Some, None}
 use Rattle.sp_plan.specs.declared.plan.Plan.{Plan}
 use Rattle.sp_plan.specs.Compiled.{IsCompiled}
+use Rattle.sp_plan.specs.Runs.{is_among}
 use Rattle.sp_plan.specs.Sequential.{seq, whole}
 use Rattle.sp_plan.specs.Windows.{closed}
 use Rattle.sp_plan.specs.WindowNumbers.{Good, count, size}
@@ -10,7 +11,7 @@ use Rattle.sp_group.specs.declared.refusal.Refusal.TheVariants as r
 use Rattle.sp_group.specs.declared.step.Step.{Step}
 use Rattle.sp_group.specs.declared.step.Step.TheVariants as s
 use Rattle.sp_group.specs.Rising.{IsLabel, with_numbers}
-use Rattle.sp_group.specs.Machine.{Version, Ticket, Machine, opening, version_at, ticket_at, root_in, is_suppressed, conflict}
+use Rattle.sp_group.specs.Machine.{Version, Ticket, Machine, opening, version_at, ticket_at, root_in, inner, is_group, is_read, is_suppressed, conflict}
 use Rattle.sp_group.specs.Refusing.{refusal}
 use Rattle.sp_group.specs.Effects.{new_matches, popped, finished_one}
 use Rattle.sp_group.specs.Steps.{step, steps}
@@ -32,12 +33,20 @@ abbrev pub Fits : Plan → ℕ → Machine → List Step → Type 0
 Fits q bound m [] = ⊤
 Fits q bound m (x ∷ xs) = FitsStep q bound m x × Fits q bound (step q bound m x) xs
 
--- What no step takes back: a version that is there after it, with an id given before it, was there before it, had read no more, and
--- nothing that was suppressed for it is so no longer.
+-- Nothing is taken back of a version on the way from one state to another: it stands behind no fewer events; each event that it had read it
+-- has read, and each that it had skipped it has skipped; where it was done it is done; and what was suppressed for it is so still.
+pub record TakesNothingBack (q : Plan) (m n : Machine) (id : ℕ) (before after : Version) : Type 0 where
+  pub position : before.position ≤ after.position
+  pub read : (i : ℕ) → is_read q m.events before i ≡ true → is_read q n.events after i ≡ true
+  pub skipped : (i : ℕ) → is_among before.skipped i ≡ true → is_among after.skipped i ≡ true
+  pub done : before.done ≡ true → after.done ≡ true
+  pub suppressed : (i : ℕ) → is_suppressed q m id i ≡ true → is_suppressed q n id i ≡ true
+
+-- What no step takes back: a version that is there after it, with an id given before it, was there before it, and nothing of it is taken
+-- back.
 abbrev pub Onward : Plan → Machine → Machine → Type 0
 Onward q m n = (id : ℕ) (after : Version) → version_at n.versions id ≡ Some after → id < m.next_id
-    → (before : Version) × (version_at m.versions id ≡ Some before) × (before.position ≤ after.position)
-    × ((i : ℕ) → is_suppressed q m id i ≡ true → is_suppressed q n id i ≡ true)
+    → (before : Version) × (version_at m.versions id ≡ Some before) × TakesNothingBack q m n id before after
 
 -- whether a step can give a version a new id
 abbrev pub gives_id : Step → Bool
@@ -80,6 +89,24 @@ abbrev pub LosesBelow : Plan → ℕ → Machine → Type 0
 LosesBelow q bound m = (number : ℕ) (t : Ticket) → ticket_at m.tickets number ≡ Some t → (id : ℕ) (v : Version) → version_at m.versions id ≡ Some v
     → ((w : Version) × (version_at (step q bound m (s.Return number)).versions id ≡ Some w)) ⊎ StandsBelow m.versions t.version id
 
+-- A roll loses no version but the one that begins anew and such as stand below it.
+abbrev pub LosesRolled : Plan → ℕ → Machine → Type 0
+LosesRolled q bound m = (rolled id : ℕ) (v : Version) → version_at m.versions id ≡ Some v
+    → ((w : Version) × (version_at (step q bound m (s.Roll rolled)).versions id ≡ Some w)) ⊎ ((id ≡ rolled) ⊎ StandsBelow m.versions rolled id)
+
+-- A finish loses no version but the root, where the version that it makes the root is in no conflict.
+abbrev pub LosesRoot : Plan → ℕ → Machine → Type 0
+LosesRoot q bound m = (root : Version) → root_in m.versions ≡ Some root
+    → ((next : Version) → root_in (popped q m root).versions ≡ Some next → conflict q (popped q m root) next ≡ None)
+    → (id : ℕ) (v : Version) → version_at m.versions id ≡ Some v
+    → ((w : Version) × (version_at (step q bound m s.Finish).versions id ≡ Some w)) ⊎ (id ≡ root.id)
+
+-- which versions a return, a roll and a finish lose
+pub record LosesFew (q : Plan) (bound : ℕ) (m : Machine) : Type 0 where
+  pub returns : LosesBelow q bound m
+  pub rolls : LosesRolled q bound m
+  pub finishes : LosesRoot q bound m
+
 -- A step of a ticket that is out for a version is accepted: its next reading, or its return.
 pub record IsReturning (q : Plan) (bound : ℕ) (m : Machine) (v : Version) : Type 0 where
   pub ticket : Ticket
@@ -118,11 +145,24 @@ pub record RollsWhereInConflict (q : Plan) (bound : ℕ) (m : Machine) : Type 0 
       × ((i : ℕ) → conflict q (popped q m v) u ≡ Some i → (w : Version) × (root_in (finished_one q m (Some v)).versions ≡ Some w) × (w.id ≡ m.next_id))
   pub root_clear : (v : Version) → root_in m.versions ≡ Some v → conflict q m v ≡ None
 
--- Live versions are at most as many as the bound; a step is refused as full only where a child is spawned at the bound.
+-- All but the bound lets a child be spawned: its parent is live, an event has opened the window behind the parent's, the label names open
+-- groups of the parent alone, and no child of the parent has it.
+pub record CouldBeSpawned (q : Plan) (m : Machine) (p : ℕ) (label : List ℕ) : Type 0 where
+  pub parent : Version
+  pub live : version_at m.versions p ≡ Some parent
+  pub begun : parent.window + 1 ≤ count q m.events
+  pub names : (run : ℕ) → is_among label run ≡ true → is_group q (inner q m.events parent) run ≡ true
+  pub free : (id : ℕ) (child : Version) → version_at m.versions id ≡ Some child → child.parent ≡ Some p → child.label ≡ label → ⊥
+
+-- Live versions are at most as many as the bound; a step is refused as full exactly where a child is spawned at the bound, and all but the
+-- bound would let it be.
 pub record KeepsBound (q : Plan) (bound : ℕ) (m : Machine) : Type 0 where
   pub few : length m.versions ≤ bound
   pub full : (x : Step) (live of : ℕ) → refusal q bound m x ≡ Some (r.Full live of)
-      → (live ≡ bound) × (of ≡ bound) × (length m.versions ≡ bound) × ((p : ℕ) × (label : List ℕ) × (x ≡ s.Spawn (Some p) label))
+      → (live ≡ bound) × (of ≡ bound) × (length m.versions ≡ bound)
+      × ((p : ℕ) × (label : List ℕ) × (x ≡ s.Spawn (Some p) label) × CouldBeSpawned q m p label)
+  pub at_bound : (p : ℕ) (label : List ℕ) → length m.versions ≡ bound → CouldBeSpawned q m p label
+      → refusal q bound m (s.Spawn (Some p) label) ≡ Some (r.Full bound bound)
 
 -- what holds of each state that steps lead to
 pub record Reached (q : Plan) (bound : ℕ) (m : Machine) : Type 0 where
@@ -131,7 +171,7 @@ pub record Reached (q : Plan) (bound : ℕ) (m : Machine) : Type 0 where
   pub onward : (x : Step) → FitsStep q bound m x → Onward q m (step q bound m x)
   pub born : (x : Step) → Born x m (step q bound m x)
   pub stays : (x : Step) → Stays x m (step q bound m x)
-  pub loses : LosesBelow q bound m
+  pub loses : LosesFew q bound m
   pub rolling : RollsWhereInConflict q bound m
   pub goes_on : HasWork q m → GoesOn q bound m
   pub bounded : KeepsBound q bound m

@@ -99,7 +99,7 @@ IsFault text f.Memory = Unit {0}
 abbrev pub schedule_text : List TraceStep → List ℕ
 schedule_text steps = flat_map (λ x. step_text x ++ codes "\n") steps
 
--- A text is a schedule of one list of steps, or it has one first bad line, and never both.
+-- A text is a schedule of one list of steps at most, has one first bad line at most, and never both.
 pub record OneSchedule : Type 0 where
   pub steps : (text : List ℕ) (one other : List TraceStep) → IsSchedule text one → IsSchedule text other → one ≡ other
   pub bad : (text : List ℕ) (one other : ℕ) → IsBadLine text one → IsBadLine text other → one ≡ other

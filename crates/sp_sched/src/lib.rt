@@ -4,7 +4,7 @@
 mod cut;
 mod fault;
 mod label;
-mod law;
+pub mod law;
 mod line;
 mod number;
 mod print;

@@ -10,7 +10,7 @@ ghost use Rattle.sp_seq.specs.Spans.{IsSpan};
 
 use crate::learning::learn;
 use crate::window::{Seats, Window, consume, match_window};
-use sp_match::Matcher;
+use sp_match::{Matcher, Moves};
 use sp_plan::{Event, Match, Memory, Plan};
 use sp_window::{Windows, closed_come_first, windows_hold};
 use std::alloc::Global;
@@ -90,7 +90,7 @@ fn match_windows(
         (λ matches. matches.items ≡ (whole (arc_value plan) events.now windows.now.ended).matches) }
 {
     let mut matcher = Matcher::new(alloc, plan.clone()?)?;
-    let mut moves = Vec::new(alloc);
+    let mut moves = Moves::new(alloc);
     let mut known = Vec::with_capacity(alloc, events.len())?;
     let mut consumed = vec![in alloc; false; events.len()]?;
     let mut matches = Vec::new(alloc);

@@ -9,7 +9,7 @@ ghost use Rattle.sp_seq.specs.Completed.{with_matches};
 ghost use Rattle.sp_seq.specs.Learned.{AllKnown};
 
 use crate::found::add_matches;
-use sp_match::{Known, Matcher, Move, completions_are_matches, runs_are_sound};
+use sp_match::{Known, Matcher, Moves, completions_are_matches, runs_are_sound};
 use sp_plan::{Event, Match, Memory};
 use std::alloc::Global;
 
@@ -54,12 +54,12 @@ pub(crate) struct Seats<'a> {
     pub(crate) consumed: &'a [bool],
 }
 
-// Adds the matches of one window over the events that are not consumed. The matcher and the list of moves
+// Adds the matches of one window over the events that are not consumed. The matcher and the moves
 // are begun anew: only their room is used again. Events that change nothing are passed over.
 pub(crate) fn match_window(
     alloc: Global,
     matcher: &mut Matcher,
-    moves: &mut Vec<Move>,
+    moves: &mut Moves,
     seats: &Seats,
     window: Window,
     matches: &mut Vec<Match>,
@@ -85,8 +85,9 @@ pub(crate) fn match_window(
         if !seats.consumed[i] {
             let known = seats.known[i];
             if !matcher.ignores(known) {
-                matcher.offer_known(alloc, (i + 1) as u32, &seats.events[i], known, moves)?;
-                add_matches(alloc, window.number, moves, matches)?;
+                let number = (i + 1) as u32;
+                matcher.offer_known::<false>(alloc, number, &seats.events[i], known, moves)?;
+                add_matches(alloc, window.number, &mut moves.list, matches)?;
             }
         }
     }

@@ -1,32 +1,38 @@
 -- How a run came about, and one that ended before it began.
-use Rattle.std.proofs.Common.{◌≡◌, ℕ, zero, suc, ◌≤◌, ◌<◌, Bool, false, List, [], take, refl, sym, subst, arith}
+use Rattle.std.proofs.Common.{◌≡◌, ℕ, zero, suc, ◌+◌, ◌<◌, Bool, false, List, [], take, refl, sym, subst, ap, ◌∙◌, arith}
 use Rattle.std.specs.Prelude.{Ok, Err}
 use Rattle.std.specs.declared.result.Result.{Result}
-use Rattle.std.specs.List.{count_by}
 use Rattle.sp_plan.specs.declared.event.Event.{Event}
 use Rattle.sp_plan.specs.declared.plan.Plan.{Plan}
 use Rattle.sp_plan.specs.Sequential.{whole}
 use Rattle.sp_hub.specs.declared.entry.HubEntry.{HubEntry}
 use Rattle.sp_hub.specs.declared.exchange.History.{History}
+use Rattle.sp_hub.specs.Calls.{by_seat}
 use mathlib.Core.List.{IsPrefix}
-use Rattle.sp_hub.specs.History.{is_call, IsLegal, taken, posted, collected, brought}
+use Rattle.sp_hub.specs.History.{is_take_by, is_put_by, IsLegal, taken, posted, collected, brought}
 use Rattle.sp_core.specs.Running.{Running}
 use Rattle.sp_ports.specs.Taking.{OutletState}
 use Rattle.sp_spread.specs.Journaled.{MakesNoChild}
 use Rattle.sp_spread.specs.Laws.{ReturnsFollowReadings}
-use Rattle.sp_split.specs.Driving.{CameAbout, FellShort}
+use Rattle.sp_split.specs.Driving.{CameAbout, FellShort, seats_for}
 use Rattle.sp_split.specs.declared.ended.Went as went
-use Rattle.sp_split.specs.Serving.{CameBy, Ends, Serves, ending}
+use Rattle.sp_split.specs.Serving.{CameBy, Ends, Serves, WoundUp, ending}
 use Rattle.sp_split.proofs.Taken.{took_none, took_first}
 
 -- with instances
-pub came_about : (n : ℕ) (c : Running) (calls : ℕ) (entries : List HubEntry) → 0 < n → CameBy n c calls → calls ≤ count_by is_call entries → IsLegal entries → ReturnsFollowReadings
-    → CameAbout n c entries
-came_about n c calls entries some came enough legal law = record {
+seats_are : (n : ℕ) → 0 < n → seats_for n ≡ n + 1
+seats_are zero some = absurd (omega (arith, some))
+seats_are (suc n) some = refl
+
+pub came_about : (n : ℕ) (c : Running) (calls : ℕ) (h : History) → 0 < n → CameBy n c calls → WoundUp (n + 1) calls h → ReturnsFollowReadings → CameAbout n c h
+came_about n c calls h some came wound law = record {
   alone = λ none. absurd (omega (arith, some, none));
   spread = λ _. came.spread;
-  calls = λ _. let low = law c.journal in let read = came.read in omega arith;
-  legal = legal;
+  few = λ _. came.few;
+  calls = λ _. let low = law c.journal in let read = came.read in let enough = wound.called in omega arith;
+  legal = wound.legal;
+  takes = wound.takes ∙ ap (λ (k : ℕ). by_seat is_take_by k h.entries) (sym (seats_are n some));
+  puts = wound.puts ∙ ap (λ (k : ℕ). by_seat is_put_by k h.entries) (sym (seats_are n some));
 }
 
 take_none : (k : ℕ) → ◌≡◌ {A = List HubEntry} (take k []) []
@@ -41,13 +47,16 @@ no_entry_legal = record {
 }
 
 -- without one
-pub came_alone : (c : Running) (entries : List HubEntry) → MakesNoChild c.journal → entries ≡ [] → CameAbout 0 c entries
-came_alone c entries alone none = record {
-  alone = λ _. (alone, none);
+pub came_alone : (c : Running) (h : History) → MakesNoChild c.journal → h ≡ record { entries = []; takes = []; puts = [] } → CameAbout 0 c h
+came_alone c h alone none = subst (CameAbout 0 c) (sym none) (record {
+  alone = λ _. (alone, refl);
   spread = λ no. absurd (omega (arith, no));
+  few = λ no. absurd (omega (arith, no));
   calls = λ no. absurd (omega (arith, no));
-  legal = subst IsLegal (sym none) no_entry_legal;
-}
+  legal = no_entry_legal;
+  takes = refl;
+  puts = refl;
+})
 
 -- nothing was given
 pub fell_at_once : (gave : List Event → Type 0) (ended : Bool) (q : Plan) (s : OutletState) → gave [] → FellShort gave ended q s s
@@ -62,11 +71,10 @@ fell_at_once gave ended q s given = record {
 
 -- what was served, with what the hub did
 pub ends_with : {E : Type 0} (gave : List Event → Type 0) (ended : Bool) (stopped : Type 0) (n : ℕ) (c : Running) (old new : OutletState) (end : Result went.Went E) (calls : ℕ) (history : History)
-    → Serves gave ended stopped n c old new end calls → 0 < n → calls ≤ count_by is_call history.entries → IsLegal history.entries → ReturnsFollowReadings
-    → Ends gave ended stopped n c old new (ending history end)
-ends_with gave ended stopped n c old new (Ok w) calls history served some enough legal law = record {
+    → Serves gave ended stopped n c old new end calls → 0 < n → WoundUp (n + 1) calls history → ReturnsFollowReadings → Ends gave ended stopped n c old new (ending history end)
+ends_with gave ended stopped n c old new (Ok w) calls history served some wound law = record {
   drove = served.drove;
-  about = came_about n w.core calls history.entries some served.came enough legal law;
+  about = came_about n w.core calls history some served.came wound law;
   short = tt;
 }
-ends_with gave ended stopped n c old new (Err e) calls history served some enough legal law = record { drove = tt; about = tt; short = served.short }
+ends_with gave ended stopped n c old new (Err e) calls history served some wound law = record { drove = tt; about = tt; short = served.short }

@@ -9,7 +9,7 @@ use Rattle.sp_split.specs.declared.turning.Turn.{Turn}
 use Rattle.sp_split.specs.Driving.{FailedWithin}
 use Rattle.sp_split.specs.Stages.{WorkedWith, WorkedTaken, WorkedUntilRefused, WorkedUntilShort, Turned, CutOff, given_out}
 use Rattle.sp_split.proofs.Steps.{worked_more, worked_none}
-use Rattle.sp_split.proofs.Taken.{took_none, took_more, first_none, failed_behind, first_behind}
+use Rattle.sp_split.proofs.Taken.{took_none, took_more, took_first, first_none, failed_behind, first_behind}
 
 -- what is so of the matches of a turn is so of what was emitted meanwhile
 pub turned_with : (old new : Running) (turn : Turn) (fact : List Match → Type 0) → Turned old new turn → fact (given_out turn) → WorkedWith old new fact
@@ -18,6 +18,15 @@ turned_with old new turn fact turned so = record { on = turned.on; matches = giv
 -- a turn for which there was no memory
 pub cut_short : (old new : Running) (s : OutletState) → CutOff old new → WorkedUntilShort old new s s
 cut_short old new s cut = record { on = cut.on; matches = []; emitted = cut.emitted ∙ sym (append-nil old.machine.emitted); so = first_none old.plan s }
+
+-- all that was emitted meanwhile was taken, and then memory ran out
+pub taken_short : (old new : Running) (s t : OutletState) → WorkedTaken old new s t → WorkedUntilShort old new s t
+taken_short old new s t worked = record {
+  on = worked.on;
+  matches = worked.matches;
+  emitted = worked.emitted;
+  so = took_first old.plan worked.matches [] worked.matches s t (sym (append-nil worked.matches)) worked.so;
+}
 
 -- nothing was done yet
 pub none_worked : (c : Running) (s : OutletState) → WorkedTaken c c s s

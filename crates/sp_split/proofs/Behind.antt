@@ -3,19 +3,19 @@ use Rattle.std.proofs.Common.{◌≡◌, ℕ, ◌+◌, ◌<◌, List, [], ◌∷
 use Rattle.std.proofs.lemmas.Grind.{flat_map-append}
 use Rattle.std.proofs.lemmas.List.{append-nil, take_more}
 use Rattle.sp_io.specs.Outside.{GrewWithin, Told}
+use Rattle.sp_io.proofs.Grew.{within_longer}
 use Rattle.sp_plan.specs.declared.found.Match.{Match}
 use Rattle.sp_plan.specs.declared.plan.Plan.{Plan}
-use Rattle.sp_plan.specs.Lines.{line, text}
-use Rattle.sp_ports.specs.Taking.{OutletState, Took, TookFirst}
+use Rattle.sp_ports.specs.Taking.{OutletState, Took, TookFirst, first_line}
 use Rattle.sp_core.specs.declared.emitted.Emitted.{Emitted}
 use Rattle.sp_splitter.specs.Stages.{matches_of}
 use Rattle.sp_split.specs.Driving.{FailedWithin}
 use Rattle.sp_split.proofs.Taken.{took_more, failed_behind, first_behind, split_at}
 
--- the beginning of bytes is one of more bytes
-within_front : (a b : Told) (xs more : List ℕ) → GrewWithin a xs b → GrewWithin a (xs ++ more) b
-within_front a b xs more within =
-    (within.0, (within.1.0 ++ more, ap (λ (l : List ℕ). l ++ more) within.1.1 ∙ append_assoc within.0 within.1.0 more), within.2)
+-- a beginning of the next match's line is one where more matches follow
+front_before : (q : Plan) (a b : Told) (others more : List Match) → GrewWithin a (first_line q others) b → GrewWithin a (first_line q (others ++ more)) b
+front_before q a b [] more within = within_longer a b [] (first_line q more) within
+front_before q a b (found ∷ others) more within = within
 
 -- where the outlet failed at a match, it failed at one of more matches
 failed_before : (q : Plan) (xs more : List Match) (a b : OutletState) → FailedWithin q xs a b → FailedWithin q (xs ++ more) a b
@@ -33,7 +33,9 @@ first_before q xs more a b f = record {
   first = f.first;
   others = f.others ++ more;
   are = ap (λ (l : List Match). l ++ more) f.are ∙ append_assoc f.first f.others more;
-  within = subst (λ (l : List ℕ). GrewWithin a.held l b.held) (sym (flat_map-append (line q) xs more)) (within_front a.held b.held (text q xs) (text q more) f.within);
+  between = f.between;
+  took = f.took;
+  front = front_before q f.between.held b.held f.others more f.front;
   count = f.count;
 }
 

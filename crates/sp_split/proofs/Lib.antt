@@ -1,4 +1,3 @@
-pub mod Grew
 pub mod Taken
 pub mod Turns
 pub mod Steps
@@ -10,3 +9,4 @@ pub mod Behind
 pub mod Finished
 pub mod Added
 pub mod Going
+pub mod Over

@@ -1,16 +1,15 @@
 -- What an outlet took, through one call after another.
 use Rattle.std.specs.Prelude.{min, max}
 use Rattle.std.proofs.Common.{◌≡◌, ℕ, ◌+◌, ◌-◌, ◌^◌, ◌<◌, List, [], ◌∷◌, ◌++◌, length, get_or, take, drop, refl, sym, ◌∙◌, ap, subst, arith, append_assoc, length-append, take-append-drop}
-use Rattle.std.specs.List.{flat_map}
 use Rattle.std.proofs.lemmas.Grind.{flat_map-append}
-use Rattle.std.proofs.lemmas.List.{append-nil, take_more, drop_more}
+use Rattle.std.proofs.lemmas.List.{take_more, drop_more}
 use Rattle.sp_io.specs.Outside.{Grew, GrewWithin}
 use Rattle.sp_plan.specs.declared.found.Match.{Match}
 use Rattle.sp_plan.specs.declared.plan.Plan.{Plan}
 use Rattle.sp_plan.specs.Lines.{line, text}
-use Rattle.sp_ports.specs.Taking.{OutletState, Took, TookFirst, counted}
+use Rattle.sp_ports.specs.Taking.{OutletState, Took, TookFirst, counted, first_line}
 use Rattle.sp_split.specs.Driving.{FailedWithin}
-use Rattle.sp_split.proofs.Grew.{grew_none, grew_more, within_all, within_more}
+use Rattle.sp_io.proofs.Grew.{grew_none, grew_more, within_none}
 
 counts_none : (n top : ℕ) → n ≡ max n (min (n + 0) top)
 counts_none n top = omega arith
@@ -39,8 +38,10 @@ took_first q xs more all a b are took = record {
   first = xs;
   others = more;
   are = are;
-  within = subst (λ (l : List ℕ). GrewWithin a.held l b.held) (sym (ap (flat_map (line q)) are ∙ flat_map-append (line q) xs more)) (within_all a.held b.held (text q xs) (text q more) took.lines);
-  count = took.count;
+  between = b;
+  took = took;
+  front = within_none b.held (first_line q more);
+  count = refl;
 }
 
 -- behind what was taken whole stands a beginning of the next match's line
@@ -50,9 +51,10 @@ took_before q xs x more all a b c are took within same = record {
   first = xs;
   others = x ∷ more;
   are = are;
-  within = subst (λ (l : List ℕ). GrewWithin a.held l c.held) (sym (ap (flat_map (line q)) are ∙ flat_map-append (line q) xs (x ∷ more)))
-      (within_more a.held b.held c.held (text q xs) (line q x) (text q more) took.lines within);
-  count = same ∙ took.count;
+  between = b;
+  took = took;
+  front = within;
+  count = same;
 }
 
 -- a list with an item that stands in it
@@ -108,10 +110,10 @@ first_behind q xs ys a b c took f = record {
   first = xs ++ f.first;
   others = f.others;
   are = ap (λ (l : List Match). xs ++ l) f.are ∙ sym (append_assoc xs f.first f.others);
-  within = subst (λ (l : List ℕ). GrewWithin a.held l c.held)
-      (ap (λ (l : List ℕ). text q xs ++ l) (append-nil (text q ys)) ∙ sym (flat_map-append (line q) xs ys))
-      (within_more a.held b.held c.held (text q xs) (text q ys) [] took.lines f.within);
-  count = f.count ∙ ap (λ n. counted n (length f.first)) took.count ∙ counted_more a.taken (length xs) (length f.first) ∙ ap (counted a.taken) (sym (length-append xs f.first));
+  between = f.between;
+  took = took_more q xs f.first a b f.between took f.took;
+  front = f.front;
+  count = f.count;
 }
 
 -- the first of no matches were taken

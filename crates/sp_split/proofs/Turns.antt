@@ -6,6 +6,7 @@ use Rattle.sp_plan.specs.declared.event.Event.{Event}
 use Rattle.sp_plan.specs.declared.found.Match.{Match}
 use Rattle.sp_ports.specs.Taking.{OutletState, Took, TookFirst}
 use Rattle.sp_group.specs.declared.step.Entry.{Entry}
+use Rattle.sp_group.specs.Steps.{out_count}
 use Rattle.sp_core.specs.Running.{Running, begun}
 use Rattle.sp_spread.specs.Journaled.{readings_entered}
 use Rattle.sp_splitter.specs.Stages.{IsSpreading, Went}
@@ -67,6 +68,10 @@ module _ (gave : List Event → Type 0) (n : ℕ) (first c d : Running) (old s t
 pub fed_later : (fed : Fed) (ended later all : Bool) (stopped : Type 0) → later ≡ ended → IsFed fed ended all stopped → IsFed fed later all stopped
 fed_later fed ended later all stopped same is = subst (λ (b : Bool). IsFed fed b all stopped) (sym same) is
 
+-- a turn leaves no more tickets out than there may be
+pub few_turn : (n k : ℕ) (c d : Running) → Went k c d → k ≡ n → out_count c.machine ≤ n + 1 → out_count d.machine ≤ n + 1
+few_turn n k c d went same few = subst (λ (j : ℕ). out_count d.machine ≤ j + 1) same (went.few (subst (λ (j : ℕ). out_count c.machine ≤ j + 1) (sym same) few))
+
 no_entry : (before after : List Entry) (x : Entry) → [] ≡ before ++ x ∷ after → ⊥
 no_entry [] after x is = cc
 no_entry (b ∷ bs) after x is = cc
@@ -85,6 +90,10 @@ module _ (c : Running) (fresh : c ≡ begun c.plan c.bound) where
     };
     lent = λ ends. absurd (no_entry ends.0 [] ends.1 ends.2);
   })
+
+  -- no ticket is out
+  pub few_first : (n : ℕ) → out_count c.machine ≤ n + 1
+  few_first n = subst (λ (d : Running). out_count d.machine ≤ n + 1) (sym fresh) (omega arith)
 
   -- and no reading
   pub read_first : (calls : ℕ) → readings_entered c.journal ≤ calls

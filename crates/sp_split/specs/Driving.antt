@@ -1,5 +1,5 @@
 -- What a run of a core comes to, from an intake to an outlet.
-use Rattle.std.specs.Prelude.{◌≡◌, ◌≢◌, ◌⊎◌, ℕ, ◌<◌, ◌≤◌, Bool, true, false, List, [], ◌∷◌, ◌++◌}
+use Rattle.std.specs.Prelude.{◌≡◌, ◌≢◌, ◌⊎◌, ℕ, zero, suc, ◌+◌, ◌<◌, ◌≤◌, Bool, true, false, List, [], ◌∷◌, ◌++◌}
 use Rattle.std.specs.List.{count_by}
 use Rattle.sp_io.specs.Outside.{Rose}
 use Rattle.sp_plan.specs.declared.event.Event.{Event}
@@ -7,9 +7,10 @@ use Rattle.sp_plan.specs.declared.found.Match.{Match}
 use Rattle.sp_plan.specs.declared.plan.Plan.{Plan}
 use Rattle.sp_plan.specs.Sequential.{whole}
 use Rattle.sp_plan.specs.Windows.{closed}
-use Rattle.sp_hub.specs.declared.entry.HubEntry.{HubEntry}
-use Rattle.sp_hub.specs.History.{is_call, IsLegal}
-use Rattle.sp_group.specs.Steps.{Spread}
+use Rattle.sp_hub.specs.declared.exchange.History.{History}
+use Rattle.sp_hub.specs.Calls.{by_seat}
+use Rattle.sp_hub.specs.History.{is_call, is_put_by, is_take_by, IsLegal}
+use Rattle.sp_group.specs.Steps.{Spread, out_count}
 use Rattle.sp_core.specs.Running.{Running}
 use Rattle.sp_ports.specs.Taking.{OutletState, Took, TookFirst, FailedAt}
 use Rattle.sp_split.specs.declared.ended.Went.{Went}
@@ -54,10 +55,19 @@ pub record FellShort (gave : List Event → Type 0) (ended : Bool) (q : Plan) (o
   pub took : TookFirst q (whole q events input_ended).matches old new
   pub no_fault : new.faults ≡ old.faults
 
+-- how many seats a run has at its hub: one for each instance and one of the splitter's own; without an instance it has no hub
+abbrev pub seats_for : ℕ → ℕ
+seats_for zero = 0
+seats_for (suc n) = suc n + 1
+
 -- How a run came about. Without an instance each version was the root from its beginning, and no hub was used. With instances the journal
--- has spread its work over one place more than there are; and the hub was called at least as often as a piece that was read came home.
-pub record CameAbout (instances : ℕ) (c : Running) (entries : List HubEntry) : Type 0 where
-  pub alone : instances ≡ 0 → MakesNoChild c.journal × (entries ≡ [])
+-- has spread its work over one place more than there are, and at the end no more tickets of live versions are out than places; the hub was
+-- called at least as often as a piece that was read came home. Its history tells the takes and the puts of each seat.
+pub record CameAbout (instances : ℕ) (c : Running) (h : History) : Type 0 where
+  pub alone : instances ≡ 0 → MakesNoChild c.journal × (h.entries ≡ [])
   pub spread : 0 < instances → Spread c.plan c.bound instances c.journal
-  pub calls : 0 < instances → returns_read c.journal ≤ count_by is_call entries
-  pub legal : IsLegal entries
+  pub few : 0 < instances → out_count c.machine ≤ instances + 1
+  pub calls : 0 < instances → returns_read c.journal ≤ count_by is_call h.entries
+  pub legal : IsLegal h.entries
+  pub takes : h.takes ≡ by_seat is_take_by (seats_for instances) h.entries
+  pub puts : h.puts ≡ by_seat is_put_by (seats_for instances) h.entries

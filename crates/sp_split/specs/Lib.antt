@@ -2,4 +2,5 @@ pub mod Driving
 pub mod Lending
 pub mod Serving
 pub mod Stages
+pub mod Stopping
 pub mod Crews

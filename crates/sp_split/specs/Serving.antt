@@ -4,10 +4,13 @@ use Rattle.std.specs.declared.result.Result.{Result}
 use Rattle.sp_plan.specs.declared.event.Event.{Event}
 use Rattle.sp_plan.specs.declared.found.Match.{Match}
 use Rattle.sp_plan.specs.declared.plan.Plan.{Plan}
+use Rattle.std.specs.List.{count_by}
+use Rattle.sp_hub.specs.Calls.{by_seat}
+use Rattle.sp_hub.specs.History.{is_call, is_put_by, is_take_by, IsLegal}
 use Rattle.sp_hub.specs.State.{Posting, Sitting}
 use Rattle.sp_hub.specs.declared.exchange.History.{History}
 use Rattle.sp_piece.specs.declared.job.Job.{Job}
-use Rattle.sp_group.specs.Steps.{Spread}
+use Rattle.sp_group.specs.Steps.{Spread, out_count}
 use Rattle.sp_core.specs.Running.{Running, begun}
 use Rattle.sp_ports.specs.Taking.{OutletState}
 use Rattle.sp_spread.specs.Journaled.{readings_entered}
@@ -18,10 +21,11 @@ use Rattle.sp_split.specs.declared.ended.Went as went
 use Rattle.sp_split.specs.Driving.{CameAbout, Drove, FellShort}
 use Rattle.sp_split.specs.Stages.{FedOn}
 
--- The core was fed, and no more: no ticket was lent, nothing that was read came home, and the journal is as spread as before.
+-- The core was fed, and no more: as many tickets are out, nothing that was read came home, and the journal is as spread as before.
 pub record Filled (old new : Running) : Type 0 where
   pub on : FedOn old new
   pub next_ticket : new.machine.next_ticket ≡ old.machine.next_ticket
+  pub out : out_count new.machine ≡ out_count old.machine
   pub read : readings_entered new.journal ≡ readings_entered old.journal
   pub goes : (n : ℕ) → Goes n old new
 
@@ -40,10 +44,19 @@ pub record WentWith (n : ℕ) (old new : Running) (fact : List Match → Type 0)
   pub went : Went n old new
   pub so : fact went.more
 
--- How a run with n instances came about: its journal is spread, and the poster made a call for each reading that stands in it.
+-- How a run with n instances came about: its journal is spread, no more tickets are out than there may be, and the poster made a call
+-- for each reading that stands in the journal.
 pub record CameBy (n : ℕ) (c : Running) (calls : ℕ) : Type 0 where
   pub spread : Spread c.plan c.bound n c.journal
+  pub few : out_count c.machine ≤ n + 1
   pub read : readings_entered c.journal ≤ calls
+
+-- What a hub of so many seats did, as its history tells it, where its poster made at least so many calls.
+pub record WoundUp (seats calls : ℕ) (h : History) : Type 0 where
+  pub legal : IsLegal h.entries
+  pub called : calls ≤ count_by is_call h.entries
+  pub takes : h.takes ≡ by_seat is_take_by seats h.entries
+  pub puts : h.puts ≡ by_seat is_put_by seats h.entries
 
 -- A splitter served n instances, and ended so, with so many calls of its poster.
 pub record Serves {E : Type 0} (gave : List Event → Type 0) (ended : Bool) (stopped : Type 0) (n : ℕ) (c : Running) (old new : OutletState) (end : Result went.Went E) (calls : ℕ) : Type 0 where
@@ -62,7 +75,7 @@ pub record MayServe (c : Running) (instances batch : ℕ) (kept : List Job) (by 
 -- A run with n instances ended so, with what its hub did.
 pub record Ends {E : Type 0} (gave : List Event → Type 0) (ended : Bool) (stopped : Type 0) (n : ℕ) (c : Running) (old new : OutletState) (end : Result ended_as.Ended E) : Type 0 where
   pub drove : IfOk end (λ e. Drove gave ended stopped c old new (record { core = e.core; why = e.why }))
-  pub about : IfOk end (λ e. CameAbout n e.core e.history.entries)
+  pub about : IfOk end (λ e. CameAbout n e.core e.history)
   pub short : OnErr end (FellShort gave ended c.plan old new)
 
 -- how a run ended, with what its hub did

@@ -5,13 +5,13 @@ ghost use Rattle.sp_core.specs.Running.{begun};
 ghost use Rattle.sp_spread.specs.Journaled.{MakesNoChild};
 ghost use Rattle.sp_split.specs.Driving.{Drove, FellShort};
 
-use crate::feeding::{Fed, feed};
+use crate::feeding::feed;
+use crate::stopping::why_over;
 use crate::working::work_off;
-use crate::{Memory, Went, Why};
+use crate::{Memory, Went, Why, law};
 use sp_chance::Predictor;
 use sp_core::Core;
-use sp_ports::{Intake, OutFault, Outlet};
-use sp_window::finished_windows_stay;
+use sp_ports::{Intake, Outlet};
 use std::alloc::Global;
 
 // Runs a core that has done no step, as `drive` says; answers why the run has ended.
@@ -44,32 +44,25 @@ fn run<I: Intake, O: Outlet>(
 {
     // An intake ends long before so many turns.
     for _ in 0..u64::MAX {
-        // They tell what every core keeps.
-        core.plan();
-        core.finished();
-        finished_windows_stay();
+        law::steps_lead_to(core);
+        law::finished_windows_stay();
         let fed = feed(alloc, core, batch, intake)?;
-        match work_off(alloc, core, predictor, outlet) {
-            Ok(()) => {}
-            Err(OutFault::Failed) => return Ok(Why::Refused),
-            Err(OutFault::Memory) => return Ok(Why::Memory),
-        }
-        match fed {
-            Fed::More => {}
-            Fed::End => return Ok(Why::Whole),
-            Fed::Stop => return Ok(Why::Stopped),
+        let put = work_off(alloc, core, predictor, outlet);
+        if let Some(why) = why_over(fed, put, true) {
+            return Ok(why);
         }
     }
     Ok(Why::Memory)
 }
 
-/// Runs a core that has done no step from an intake to an outlet, on this thread: events are fed, up to
-/// `batch` at a time, 1 to 1,024, then the windows that they closed are finished, and their matches put; until
-/// the intake gives no more. The predictor learns from what was read. It always returns, and no speculative
-/// version is made. `Whole` comes only where the intake reached the end of its input, `Stopped` only where its
-/// count of stops rose, `Refused` only where the outlet's count of faults did; the windows that are closed are
-/// finished for the first two, and all their matches were taken. After want of memory the outlet took the first
-/// matches of what the events given come to.
+/// Runs a core that has done no step from an intake to an outlet, on this thread, until the intake gives no more.
+/// It always returns, and no speculative version is made. `Whole` comes only where the intake reached the end of
+/// its input, `Stopped` only where its count of stops rose, `Refused` only where the outlet's count of faults did;
+/// the windows that are closed are finished for the first two, and all their matches were taken. After want of
+/// memory the outlet took the first matches of what the events given come to.
+///
+/// Besides, and no clause says so: at most `batch` events, 1 to 1,024, are fed before the windows that they closed
+/// are finished, and the predictor learns from what was read.
 pub(crate) fn drive_alone<I: Intake, O: Outlet>(
     alloc: Global,
     mut core: Core,

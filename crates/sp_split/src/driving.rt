@@ -7,7 +7,7 @@ ghost use Rattle.sp_split.specs.Serving.{Ends};
 
 use crate::alone::drive_alone;
 use crate::joining::{Ways, under};
-use crate::lent::{LentIntake, LentOutlet, take_back};
+use crate::lent::{LentIntake, LentOutlet};
 use crate::{Ended, Memory, Went};
 use sp_chance::Predictor;
 use sp_core::Core;
@@ -21,14 +21,18 @@ use std::marker::Brand;
 use std::sync::Wait;
 use std::thread::Threads;
 
-/// Runs a core that has done no step from an intake to an outlet: events are fed, up to `batch` at a time, 1 to
-/// 1,024, windows are worked on and finished, and their matches put, until the intake gives no more. So many
-/// instances, 0 to 16, each on a thread of its own where one can be made, read what the splitter leases, `batch`
-/// events at a time, each job inside the gate; without one all is done on this thread, no speculative version is
-/// made, and it always returns. `Whole` comes only where the intake reached the end of its input, `Stopped` only
-/// where its count of stops rose, `Refused` only where the outlet's count of faults did; the windows that are
-/// closed are finished for the first two, and all their matches were taken. After want of memory the outlet took
-/// the first matches of what the events given come to.
+/// Runs a core that has done no step from an intake to an outlet: events are fed, windows are worked on and
+/// finished, and their matches put, until the intake gives no more. Its hub has seats for so many instances, 0 to
+/// 16, and one for the splitter; without an instance there is no hub, and no speculative version is made. `Whole`
+/// comes only where the intake reached the end of its input, `Stopped` only where its count of stops rose,
+/// `Refused` only where the outlet's count of faults did; the windows that are closed are finished for the first
+/// two, and all their matches were taken. After want of memory the outlet took the first matches of what the
+/// events given come to.
+///
+/// Besides, and no clause says so: an instance has a thread of its own where one can be made, does each job inside
+/// the gate, and works until the hub is closed and no job is left; at most `batch` events, 1 to 1,024, are fed
+/// between two turns; with instances a lease is for at most so many; and it is this predictor that is asked and
+/// taught.
 pub fn drive<I: Intake, O: Outlet, G: Gate, R: Threads + Wait + Sync>(
     rt: &R,
     alloc: Global,
@@ -51,7 +55,7 @@ pub fn drive<I: Intake, O: Outlet, G: Gate, R: Threads + Wait + Sync>(
         (Rose (I.stops intake.old) (I.stops intake.new)) core (O.state outlet.old)
         (O.state outlet.new)
         (record { core = end.core; why = end.why })) }
-    ensures about { IfOk result (λ end. CameAbout instances end.core end.history.entries) }
+    ensures about { IfOk result (λ end. CameAbout instances end.core end.history) }
     ensures short { OnErr result
         (FellShort (λ events. I.gave intake.old events intake.new) (I.ended intake.new)
         core.plan (O.state outlet.old) (O.state outlet.new)) }
@@ -67,7 +71,7 @@ pub fn drive<I: Intake, O: Outlet, G: Gate, R: Threads + Wait + Sync>(
     drive_shared(rt, alloc, splitter, intake, outlet, gate)
 }
 
-// Without an instance: there is no hub.
+// Without an instance there is no hub.
 #[tactic(auto, using(crate::proofs::About::came_alone))]
 fn drive_lone<I: Intake, O: Outlet>(
     alloc: Global,
@@ -97,7 +101,7 @@ fn drive_lone<I: Intake, O: Outlet>(
 
 // What no hub did.
 fn no_history(alloc: Global) -> History
-    ensures { result.entries ≡ [] }
+    ensures { result ≡ record { entries = []; takes = []; puts = [] } }
 {
     History {
         entries: Listed::of(Vec::new(alloc)),
@@ -136,11 +140,7 @@ fn drive_shared<I: Intake, O: Outlet, G: Gate, R: Threads + Wait + Sync>(
         outlet: LentOutlet { inner: outlet },
     };
     let (ended, back) = under::<Brand, _, _, _, _>(rt, alloc, opened, splitter, gate, lent);
-    let Ways {
-        intake: LentIntake { inner: intake },
-        outlet: LentOutlet { inner: outlet },
-    } = back;
-    take_back(intake);
-    take_back(outlet);
+    // The references that come back are used, which ties them to those that were lent.
+    let (_intake, _outlet) = (back.intake.inner, back.outlet.inner);
     ended
 }

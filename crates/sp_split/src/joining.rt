@@ -1,22 +1,20 @@
 // A splitter and its instances side by side, at a hub of their own.
-ghost use Rattle.std.specs.Prelude.{◌≡◌, ◌≤◌, ◌<◌, ◌+◌, [], None, List, length, vec_len, vec_capacity};
-ghost use Rattle.std.specs.List.{All, count_by};
+ghost use Rattle.std.specs.Prelude.{◌≡◌, ◌≤◌, ◌<◌, ◌+◌, [], true, None, List, length, vec_len, vec_capacity};
+ghost use Rattle.std.specs.List.{All};
 ghost use Rattle.std.specs.Thread.{IsSync};
 ghost use Rattle.sp_io.specs.Outside.{Rose};
-ghost use Rattle.sp_hub.specs.History.{IsLegal, is_call};
 ghost use Rattle.sp_core.specs.Running.{begun};
-ghost use Rattle.sp_split.specs.Serving.{Ends, MayServe, Serves, ending};
+ghost use Rattle.sp_split.specs.Serving.{Ends, MayServe, Serves, WoundUp, ending};
 
 use crate::attending::{Crew, attend_all};
 use crate::office::Office;
 use crate::serving::{Desk, Served, serve};
-use crate::{Ended, Memory, Went};
+use crate::{Ended, Memory, Went, law};
 use sp_hub::{History, Hub, Naming, Opened, Poster, Seat};
 use sp_instance::Gate;
 use sp_piece::{Job, Piece};
 use sp_ports::{Intake, Outlet};
 use sp_splitter::Splitter;
-use sp_spread::returns_follow_readings;
 use std::alloc::{AllocError, Global};
 use std::sync::Wait;
 use std::thread;
@@ -55,6 +53,7 @@ fn beside<L: Naming + Send + Sync, I: Intake, O: Outlet, G: Gate, R: Threads + W
         desk.splitter.kept.items desk.by desk.seat (I.plan ways.intake) (O.plan ways.outlet) }
     ensures len { length result.0.seats ≡ length crew.seats }
     ensures room { result.0.room ≡ crew.room }
+    ensures over { All (λ s. s.over ≡ true) result.0.seats }
     ensures served { Serves (λ events. I.gave ways.intake events result.2.intake)
         (I.ended result.2.intake)
         (Rose (I.stops ways.intake) (I.stops result.2.intake))
@@ -77,7 +76,8 @@ fn beside<L: Naming + Send + Sync, I: Intake, O: Outlet, G: Gate, R: Threads + W
         rt,
         || -> Crew<L>
             requires { IsSync R.row × All (λ s. s.holding ≡ None) crew.seats }
-            ensures { (length result.seats ≡ length crew.seats) × (result.room ≡ crew.room) }
+            ensures { (length result.seats ≡ length crew.seats) × (result.room ≡ crew.room)
+                × All (λ s. s.over ≡ true) result.seats }
         {
             let mut crew = crew;
             attend_all(rt, alloc, hub, gate, &mut crew);
@@ -113,8 +113,7 @@ fn wind_up<L: Naming>(
 ) -> History
     requires whole { vec_len others + 1 ≡ hub.seats }
     requires room { vec_len others < vec_capacity others }
-    ensures legal { IsLegal result.entries }
-    ensures calls { by.calls ≤ count_by is_call result.entries }
+    ensures { WoundUp hub.seats by.calls result }
 {
     let mut seats = others;
     seats.push_reserved(mine);
@@ -158,8 +157,7 @@ pub(crate) fn under<
     ensures same_out { (O.plan result.1.outlet ≡ O.plan ways.outlet)
         × (O.token result.1.outlet ≡ O.token ways.outlet) }
 {
-    // It counts readings, and the returns behind them.
-    returns_follow_readings();
+    law::returns_follow_readings();
     let (hub, by, seats) = match Hub::<Job, Piece, L>::new(alloc, opened) {
         Ok(made) => made,
         Err(AllocError) => return (Err(AllocError), ways),

@@ -1,5 +1,4 @@
 // What is lent to the thread that serves, and comes back from it.
-ghost use Rattle.std.specs.Prelude.{◌≡◌};
 
 use sp_plan::Match;
 use sp_ports::{Intake, Next, OutFault, Outlet};
@@ -52,8 +51,3 @@ impl<'a, O: Outlet> Outlet for LentOutlet<'a, O> {
         self.inner.put(alloc, found)
     }
 }
-
-/// Does nothing. This use of the reference that came back ties it to the parameter that was lent.
-pub(crate) fn take_back<T>(x: &mut T)
-    ensures { x.new ≡ x.old }
-{}

@@ -9,9 +9,11 @@ mod feeding;
 mod filling;
 mod handing;
 mod joining;
+mod law;
 mod lent;
 mod office;
 mod serving;
+mod stopping;
 mod turning;
 mod working;
 

@@ -13,14 +13,14 @@ use crate::feeding::Fed;
 use crate::filling::fill;
 use crate::handing::put_windows;
 use crate::office::Office;
-use crate::{Memory, Went, Why};
+use crate::stopping::why_over;
+use crate::{Memory, Went, Why, law};
 use sp_core::Core;
 use sp_hub::{Hub, Naming, Poster, Seat, Taken};
 use sp_instance::{Gate, do_job};
 use sp_piece::{Job, Piece};
 use sp_ports::{Intake, OutFault, Outlet};
 use sp_splitter::Splitter;
-use sp_window::finished_windows_stay;
 use std::alloc::{AllocError, Global};
 use std::sync::Wait;
 
@@ -113,9 +113,9 @@ fn do_listed<L: Naming, G: Gate, R: Wait>(
     true
 }
 
-// Does the jobs that are listed, at most as many as may be out: for each of them no instance was free. Where none
-// is listed, waits for a piece if nothing else can be done before one comes home: the input is over, or as many
-// pieces are out as may be.
+// Does jobs that are listed, which no instance has taken yet, at most as many as may be out. Where none is listed, waits
+// for a piece if nothing else can be done before one comes home: the input is over, or as many pieces are out as
+// may be. No clause says which of this it did, only that the seat holds nothing behind it.
 fn help<L: Naming, G: Gate, R: Wait>(
     office: &Office<'_, L, G, R>,
     by: &Poster<Piece, L>,
@@ -176,32 +176,23 @@ fn run<I: Intake, O: Outlet, L: Naming, G: Gate, R: Wait>(
     } = *office;
     let mut fed = Fed::More;
     for _ in rt.forever() {
-        // They tell what every core keeps.
-        desk.splitter.core.plan();
-        desk.splitter.core.finished();
-        finished_windows_stay();
+        law::steps_lead_to(&desk.splitter.core);
+        law::finished_windows_stay();
         fed = fill(alloc, &mut desk.splitter, fed, intake)?;
-        match turn_once(rt, alloc, hub, desk, outlet) {
-            Ok(()) => {}
-            Err(OutFault::Failed) => return Ok(Why::Refused),
-            Err(OutFault::Memory) => return Ok(Why::Memory),
-        }
-        if all_finished(&desk.splitter.core) {
-            match fed {
-                Fed::More => {}
-                Fed::End => return Ok(Why::Whole),
-                Fed::Stop => return Ok(Why::Stopped),
-            }
+        let put = turn_once(rt, alloc, hub, desk, outlet);
+        let all = all_finished(&desk.splitter.core);
+        if let Some(why) = why_over(fed, put, all) {
+            return Ok(why);
         }
         help(office, &desk.by, &mut desk.seat, fed != Fed::More);
     }
     unreachable!()
 }
 
-/// Runs a splitter whose core has done no step, from an intake to an outlet, and closes its hub: events are fed,
-/// up to `batch` at a time, a turn is taken, and the matches of the windows that it finished are put, until the
-/// intake gives no more and every closed window is finished. The jobs that are listed after a turn the splitter does
-/// itself.
+/// Runs a splitter whose core has done no step, from an intake to an outlet, until the intake gives no more and every
+/// closed window is finished, or a match is refused, or memory runs out. Turn after turn events are fed, a turn is
+/// taken, the matches of the windows that it finished are put, and then the splitter does jobs that are still listed.
+/// Behind the last turn it closes its hub.
 pub(crate) fn serve<I: Intake, O: Outlet, L: Naming, G: Gate, R: Wait>(
     office: &Office<'_, L, G, R>,
     desk: Desk<L>,

@@ -6,13 +6,12 @@ ghost use Rattle.sp_core.specs.Running.{refused};
 ghost use Rattle.sp_split.specs.Stages.{AllFinished, CutOff, IsOutAlone, Turned};
 ghost use Rattle.sp_split.specs.declared.turning.Turn.TheVariants as t;
 
-use crate::Memory;
+use crate::{Memory, law};
 use sp_chance::Predictor;
 use sp_core::{Core, CoreFault, Emitted};
 use sp_group::Label;
 use sp_piece::Piece;
 use sp_splitter::learn;
-use sp_window::closed_come_first;
 use std::alloc::{AllocError, Global};
 
 // The most events that a lease may ask for. A root that stands alone reads as many as it can: each lease copies
@@ -37,10 +36,8 @@ fn begin(alloc: Global, core: &mut Core) -> Result<Turn, Memory>
     ensures turned { IfOk result (Turned core.old core.new) }
     ensures err { OnErr result (CutOff core.old core.new) }
 {
-    // They tell what every core keeps.
-    core.plan();
-    core.finished();
-    closed_come_first();
+    law::steps_lead_to(core);
+    law::closed_come_first();
     match core.spawn(alloc, None, Label::empty(alloc)) {
         Ok(_) => Ok(Turn::Worked),
         Err(CoreFault::Refused(_)) => Ok(Turn::Idle),
@@ -90,10 +87,8 @@ fn read_on(
     ensures turned { IfOk result (Turned core.old core.new) }
     ensures err { OnErr result (CutOff core.old core.new) }
 {
-    // They tell what every core keeps.
-    core.plan();
-    core.finished();
-    closed_come_first();
+    law::steps_lead_to(core);
+    law::closed_come_first();
     if can_wait(core, root) {
         return Ok(Turn::Idle);
     }

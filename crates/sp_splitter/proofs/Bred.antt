@@ -14,7 +14,7 @@ use Rattle.sp_group.specs.Effects.{child_spawned, effect}
 use Rattle.sp_group.specs.Steps.{IsSpreadOut, has_child}
 use Rattle.sp_version.specs.declared.version.Version.{Version}
 use Rattle.sp_tree.specs.Grown.{Entry, Grown, kin}
-use Rattle.sp_pick.specs.Picking.{IsTaken, as_label, best, turned}
+use Rattle.sp_pick.specs.Picking.{IsTaken, best, turned}
 use Rattle.sp_tree.specs.Grown.{groups_of}
 use Rattle.sp_core.specs.Holding.{version_of}
 use Rattle.sp_core.specs.Running.{IsDone, Running}
@@ -155,7 +155,7 @@ all_have_children shares c t tree none =
     each : (id : ℕ) (e : Entry Version) → entry_at kin t.entries id ≡ Some e → e.value.window + 1 ≤ count c.plan c.machine.events → has_child (map version_of t.entries) (version_of e) ≡ true
     each id e at begun =
         let live : version_at c.machine.versions id ≡ Some (version_of e) = ap (λ (vs : List machine.Version). version_at vs id) (sym tree.versions) ∙ version_is t.entries id e at in
-        let groups = as_label (groups_of (entry_at kin t.entries id)) in
+        let groups = groups_of (entry_at kin t.entries id) in
         let taken : IsTaken t.entries id (best (shares id) groups) = All-head (IsTaken t.entries id) (best (shares id) groups) (map (turned (shares id) groups) groups) (none id (version_of e) live begun) in
         let own : e.version.id ≡ id = at_entry t.entries id e at in
         subst (λ (k : ℕ). list_any (λ (w : machine.Version). is_parent k w.parent) (map version_of t.entries) ≡ true) (sym own)

@@ -127,7 +127,7 @@ clears_not_out old new p given n not_out is = none_given old new p n (subst (λ 
 
 -- the return of a piece that is not what was lent
 differs_given : (old new : Running) (p : Pieced) (lent : Lent) (back : Pieced) → IsGiven old new p (g.Differs lent back) → IsDone (s.Return p.job.ticket) old new
-differs_given old new p lent back (t, v, out, differs, is, same, done) = back_done p.job.ticket t old new out.out done
+differs_given old new p lent back (t, v, out, differs, is, same, done, left) = back_done p.job.ticket t old new out.out done
 
 pub back_given : (old new : Running) (p : Pieced) (given : Given) (lent : Lent) (back : Pieced) → given ≡ g.Differs lent back → IsGiven old new p given
     → IsDone (s.Return p.job.ticket) old new

@@ -19,7 +19,7 @@ use Rattle.sp_core.specs.Running.{IsDone, Running, refused}
 use Rattle.sp_core.specs.Showing.{IsTreeOf}
 use Rattle.sp_core.proofs.Roots.{root_entry}
 use Rattle.sp_spread.specs.Calm.{AreCalm, NoneDone}
-use Rattle.sp_splitter.specs.Finishing.{FinishedOne}
+use Rattle.sp_splitter.specs.Finishing.{FinishedOne, Finishes, one_finished}
 use Rattle.sp_splitter.specs.Knowing.{Known}
 use Rattle.sp_splitter.specs.Stages.{Goes, Went, matches_of}
 use Rattle.sp_splitter.proofs.Stepping.{emits_finish, went_finish, goes_finish, none_read_finish, went_then}
@@ -51,6 +51,8 @@ pub finished_one : (old new : Running) (e : Emitted) → Known old → IsDone s.
 finished_one old new e known done is calm = record {
   went = λ n. went_finish n old new e known is done;
   goes = λ n. goes_finish n old new known done;
+  told = is;
+  done = done;
   emitted = (emits_finish old new e is done).emitted;
   read = none_read_finish old new done;
   calm = subst (λ (c : Running). AreCalm c.plan c.machine) (sym done.1) (known.lawful.calm.by_finish done.0 calm);
@@ -67,3 +69,7 @@ matches_more all after e first second third longer here next =
     next ∙ ap (λ (l : List Match). l ++ e.matches.items) here ∙ append_assoc first (matches_of all) e.matches.items
     ∙ ap (λ (l : List Match). first ++ l) (sym (flat_map-append (λ (x : Emitted). x.matches.items) all (e ∷ []) ∙ ap (λ (l : List Match). matches_of all ++ l) (append-nil e.matches.items)))
     ∙ ap (λ (l : List Emitted). first ++ matches_of l) (sym longer)
+
+-- the windows that are finished, with one more
+pub finishes_more : (old c d : Running) (all after : List Emitted) (e : Emitted) → after ≡ all ++ e ∷ [] → Finishes old c all → FinishedOne c d e → Finishes old d after
+finishes_more old c d all after e longer finishes more = subst (λ (l : List Emitted). Finishes old d l) (sym longer) (one_finished c d all e finishes more.told more.done)

@@ -1,15 +1,23 @@
 -- What comes of pieces that are given back.
-use Rattle.std.proofs.Common.{◌≡◌, ℕ, ◌+◌, ◌≤◌, Some, refl, ap, ◌∙◌, arith}
+use Rattle.std.proofs.Common.{◌≡◌, ℕ, ◌+◌, ◌≤◌, true, false, List, [], ◌++◌, Option, Some, None, is_some, refl, sym, ap, ◌∙◌, arith}
+use Rattle.std.specs.Prelude.{option_copied}
+use Rattle.std.proofs.lemmas.List.Folds.{flat_map-map}
+use Rattle.sp_chance.specs.Taught.{TaughtOn}
+use Rattle.sp_chance.proofs.Teaching.{taught_none, taught_then}
+use Rattle.sp_match.specs.declared.moves.Moves.{Moves}
 use Rattle.sp_hub.specs.Calls.{collects}
 use Rattle.sp_hub.specs.State.{Posting}
 use Rattle.sp_group.specs.declared.step.Step.TheVariants as s
+use Rattle.sp_group.specs.Machine.{Version, version_at}
 use Rattle.sp_rules.specs.Returning.{readings}
-use Rattle.sp_piece.specs.Pieced.{Pieced}
+use Rattle.sp_piece.specs.Pieced.{Pieced, Tells}
+use Rattle.sp_piece.specs.Reading.{Account, seen_moves}
 use Rattle.sp_core.specs.declared.given.Given.{Given}
 use Rattle.sp_core.specs.declared.given.Given.TheVariants as g
 use Rattle.sp_core.specs.Returning.{IsGiven, after_return}
 use Rattle.sp_core.specs.Running.{IsDone, Running}
 use Rattle.sp_spread.specs.Journaled.{readings_entered}
+use Rattle.sp_splitter.specs.Gathering.{AreTold, Gathered, IsLearned, IsLesson, none_back, one_back, wanted_of}
 use Rattle.sp_splitter.specs.Knowing.{Known}
 use Rattle.sp_splitter.specs.Stages.{Collected, Goes, NoneEmitted, ReadByCalls, Went}
 use Rattle.sp_splitter.proofs.Stepping.{back_done, goes_back, goes_homecoming, goes_none, goes_then, none_emitted_back, none_emitted_homecoming, none_read_back, one_read, went_back, went_homecoming, went_none, went_then}
@@ -50,22 +58,22 @@ brings_home number times old new known is = record {
 }
 
 pub brings_given : (old new : Running) (p : Pieced) (given : Given) → Known old → IsGiven old new p given → Brings old new
-brings_given old new p g.Home known (t, v, out, carries, is) = brings_home p.job.ticket (readings p.read p.closed) old new known is
+brings_given old new p g.Home known (t, v, out, carries, is, taken) = brings_home p.job.ticket (readings p.read p.closed) old new known is
 brings_given old new p (g.Stale id) known (t, out, of, gone, is) = brings_back p.job.ticket old new known (back_done p.job.ticket t old new out is)
 brings_given old new p (g.NotOut n) known (number, out, is) = brings_none old new is
-brings_given old new p (g.Differs lent back) known (t, v, out, carries, was, is, same) =
+brings_given old new p (g.Differs lent back) known (t, v, out, carries, was, is, same, left) =
     brings_back p.job.ticket old new known (back_done p.job.ticket t old new out.out same)
 
 -- pieces were collected and given back, one after another
-pub record Gathers (old new : Running) (before after : Posting) : Type 0 where
+pub record BringsAll (old new : Running) (before after : Posting) : Type 0 where
   pub went : (n : ℕ) → Went n old new
   pub goes : (n : ℕ) → Goes n old new
   pub emitted : NoneEmitted old new
   pub read : ReadByCalls old new before after
   pub by : Collected before after
 
-pub gathers_none : (c : Running) (by : Posting) → Gathers c c by by
-gathers_none c by = record {
+pub brings_all_none : (c : Running) (by : Posting) → BringsAll c c by by
+brings_all_none c by = record {
   went = λ n. went_none n c c refl;
   goes = λ n. goes_none n c c refl;
   emitted = refl;
@@ -74,9 +82,9 @@ gathers_none c by = record {
 }
 
 -- one more
-pub gathers_then : {P : Type 0} (a b c : Running) (first second third : Posting) (piece : P) → Gathers a b first second → Brings b c → third ≡ collects second (Some piece)
-    → Gathers a c first third
-gathers_then a b c first second third piece all one is =
+pub brings_all_then : {P : Type 0} (a b c : Running) (first second third : Posting) (piece : P) → BringsAll a b first second → Brings b c → third ≡ collects second (Some piece)
+    → BringsAll a c first third
+brings_all_then a b c first second third piece all one is =
     let call : third.calls ≡ second.calls + 1 = ap (λ (z : Posting). z.calls) is in
     let read = all.read in
     let more = one.read in
@@ -90,4 +98,37 @@ gathers_then a b c first second third piece all one is =
         room = ap (λ (z : Posting). z.room) is ∙ all.by.room;
         closed = ap (λ (z : Posting). z.closed) is ∙ all.by.closed;
       };
+    }
+
+-- ---- what is learned of pieces
+
+-- the moves of a piece tell what its reading tells
+pub told_of : (p : Pieced) (moves : List Moves) → Tells p moves → AreTold p (wanted_of moves)
+told_of p moves tells s stands = sym (flat_map-map (λ (a : Account). a.wanted) seen_moves moves) ∙ ap (λ (a : Account). a.wanted) (tells s stands)
+
+-- of a version that is live
+pub lesson_live : (o : Option Version) (p : Pieced) (pairs : List (ℕ × ℕ)) → is_some o ≡ true → AreTold p pairs → IsLesson o p pairs
+lesson_live None p pairs live told = absurd (cc)
+lesson_live (Some v) p pairs live told = told
+
+-- and of one that is gone
+pub lesson_gone : (o : Option Version) (p : Pieced) → is_some o ≡ false → IsLesson o p []
+lesson_gone None p gone = refl
+lesson_gone (Some v) p gone = absurd (cc)
+
+pub gathered_none : (taught : List (ℕ × ℕ) → Type 0) (c : Running) (by : Posting) → Gathered taught taught c c by by
+gathered_none taught c by = record { count = 0; pairs = []; back = none_back; collected = omega arith; taught_on = taught_none taught }
+
+-- one piece more
+pub gathered_then : {P : Type 0} (first then last : List (ℕ × ℕ) → Type 0) (a b c : Running) (x y z : Posting) (piece : P) (p : Pieced) (given : Given)
+    → Gathered first then a b x y → IsLearned then last b p → IsGiven b c p given → z ≡ collects y (Some piece) → Gathered first last a c x z
+gathered_then first then last a b c x y z piece p given all one back is =
+    let call : z.calls ≡ y.calls + 1 = ap (λ (w : Posting). w.calls) is in
+    let calls : y.calls ≡ x.calls + all.count = all.collected in
+    record {
+      count = all.count + 1;
+      pairs = all.pairs ++ one.lesson;
+      back = one_back b c all.count all.pairs one.lesson p given all.back one.is back;
+      collected = omega (arith, call, calls);
+      taught_on = taught_then first then last all.pairs one.lesson all.taught_on one.taught_on;
     }

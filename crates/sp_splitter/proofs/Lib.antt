@@ -3,12 +3,12 @@ pub mod Leasing
 pub mod Places
 pub mod Stepping
 pub mod Gathered
+pub mod SentNone
 pub mod Below
 pub mod ToRoll
 pub mod Finish
 pub mod Planted
 pub mod Listed
-pub mod Fed
 pub mod Asked
 pub mod Guessed
 pub mod Likeliest

@@ -1,10 +1,9 @@
--- A root is planted, or need not be, or can't be.
+-- A root is planted, or can't be.
 use Rattle.std.proofs.Common.{◌≡◌, ℕ, ◌+◌, ◌<◌, Bool, true, false, List, [], Option, Some, None, is_some, nat_lt, inl, inr, refl, sym, ap, subst, ◌∙◌, arith}
 use Rattle.std.proofs.lemmas.Bool.Decides.{nat_tests}
 use Rattle.std.proofs.lemmas.Option.{same_Some, none-some}
 use Rattle.sp_plan.specs.declared.plan.Plan.{Plan}
 use Rattle.sp_plan.specs.WindowNumbers.{count}
-use Rattle.sp_version.specs.declared.version.Version as held
 use Rattle.sp_group.specs.declared.refusal.Refusal.{Refusal}
 use Rattle.sp_group.specs.declared.refusal.Refusal.TheVariants as why
 use Rattle.sp_group.specs.declared.step.Step.TheVariants as s
@@ -12,33 +11,10 @@ use Rattle.sp_group.specs.Effects.{fresh}
 use Rattle.sp_group.specs.Machine as machine
 use Rattle.sp_group.specs.Machine.{Machine, Version}
 use Rattle.sp_group.specs.Refusing.{id_of, refuse_for, refuse_if, root_refusal}
-use Rattle.sp_tree.specs.Grown.{Grown, root_in}
 use Rattle.sp_core.specs.Running.{IsDone, Running, refused}
-use Rattle.sp_core.specs.Showing.{IsTreeOf}
-use Rattle.sp_core.proofs.Roots.{root_id}
 use Rattle.sp_spread.specs.Calm.{AreCalm, IsRooted, NoneDone, Settled}
 use Rattle.sp_splitter.specs.Knowing.{Known}
-
--- the tree's root has the id of the machine's
-same_root : (c : Running) (t : Grown held.Version) (o : Option ℕ) → IsTreeOf c t → o ≡ root_in t.entries → id_of (machine.root_in c.machine.versions) ≡ o
-same_root c t o is got = ap (λ (l : List Version). id_of (machine.root_in l)) (sym is.versions) ∙ sym (root_id t.entries) ∙ sym got
-
--- a root is live
-pub settled_rooted : (c : Running) (t : Grown held.Version) (o : Option ℕ) → IsTreeOf c t → o ≡ root_in t.entries → is_some o ≡ true → AreCalm c.plan c.machine → NoneDone c.machine
-    → Settled c.plan c.machine
-settled_rooted c t o is got some calm undone = record { calm = calm; undone = undone; rooted = one (machine.root_in c.machine.versions) refl (ap is_some (same_root c t o is got) ∙ some) }
-  where
-    one : (r : Option Version) → machine.root_in c.machine.versions ≡ r → is_some (id_of r) ≡ true → IsRooted c.plan c.machine
-    one None at there = absurd (cc)
-    one (Some v) at there = inl (v, at)
-
--- none is
-pub rootless : (c : Running) (t : Grown held.Version) (o : Option ℕ) → IsTreeOf c t → o ≡ root_in t.entries → is_some o ≡ false → machine.root_in c.machine.versions ≡ None
-rootless c t o is got none = one (machine.root_in c.machine.versions) refl (ap is_some (same_root c t o is got) ∙ none)
-  where
-    one : (r : Option Version) → machine.root_in c.machine.versions ≡ r → is_some (id_of r) ≡ false → r ≡ None
-    one None at there = refl
-    one (Some v) at there = absurd (cc)
+use Rattle.sp_splitter.specs.Planting.{Plants}
 
 -- a root is made
 pub settled_planted : (old new : Running) (label : List ℕ) → label ≡ [] → Known old → IsDone (s.Spawn None label) old new → AreCalm old.plan old.machine → Settled new.plan new.machine
@@ -51,27 +27,30 @@ settled_planted old new label empty known done calm = subst (λ (c : Running). S
     root : Version
     root = fresh old.machine.next_id None (old.machine.finished + 1) []
 
--- none can be made
-pub settled_unplanted : (old new : Running) (label : List ℕ) (r : Refusal) → label ≡ [] → new ≡ old → machine.root_in old.machine.versions ≡ None → refused old (s.Spawn None label) ≡ Some r
+pub plants_planted : (old new : Running) (label : List ℕ) → label ≡ [] → IsDone (s.Spawn None label) old new → Plants old new
+plants_planted old new label empty done = inl (subst (λ (l : List ℕ). IsDone (s.Spawn None l) old new) empty done)
+
+-- none can be made: one is live, or its window has not begun
+rooted_refused : (q : Plan) (m : Machine) (r : Refusal) → root_refusal q m [] ≡ Some r → IsRooted q m
+rooted_refused q m r is = one (machine.root_in m.versions) refl is
+  where
+    two : (b : Bool) → nat_lt (count q m.events) (m.finished + 1) ≡ b → refuse_if b (why.NoWindow (m.finished + 1)) None ≡ Some r → count q m.events < m.finished + 1
+    two true low refusal = grind (arith, nat_tests)
+    two false high refusal = absurd (none-some r refusal)
+
+    one : (o : Option Version) → machine.root_in m.versions ≡ o
+        → refuse_for (id_of o) why.LabelTaken (refuse_if (nat_lt (count q m.events) (m.finished + 1)) (why.NoWindow (m.finished + 1)) None) ≡ Some r → IsRooted q m
+    one (Some v) at refusal = inl (v, at)
+    one None at refusal = inr (two (nat_lt (count q m.events) (m.finished + 1)) refl refusal)
+
+pub settled_unplanted : (old new : Running) (label : List ℕ) (r : Refusal) → label ≡ [] → new ≡ old → refused old (s.Spawn None label) ≡ Some r
     → AreCalm old.plan old.machine → NoneDone old.machine → Settled new.plan new.machine
-settled_unplanted old new label r empty same none is calm undone = subst (λ (c : Running). Settled c.plan c.machine) (sym same) (record {
+settled_unplanted old new label r empty same is calm undone = subst (λ (c : Running). Settled c.plan c.machine) (sym same) (record {
   calm = calm;
   undone = undone;
-  rooted = inr (one (nat_lt (count q m.events) (m.finished + 1)) refl (sym (ap (λ (o : Option Version). refuse_for (id_of o) why.LabelTaken later) none) ∙ there));
+  rooted = rooted_refused old.plan old.machine r (subst (λ (l : List ℕ). root_refusal old.plan old.machine l ≡ Some r) empty is);
 })
-  where
-    q : Plan
-    q = old.plan
 
-    m : Machine
-    m = old.machine
-
-    later : Option Refusal
-    later = refuse_if (nat_lt (count q m.events) (m.finished + 1)) (why.NoWindow (m.finished + 1)) None
-
-    there : root_refusal q m [] ≡ Some r
-    there = ap (root_refusal q m) (sym empty) ∙ is
-
-    one : (b : Bool) → nat_lt (count q m.events) (m.finished + 1) ≡ b → refuse_if b (why.NoWindow (m.finished + 1)) None ≡ Some r → count q m.events < m.finished + 1
-    one true low refusal = grind (arith, nat_tests)
-    one false high refusal = absurd (none-some r refusal)
+pub plants_unplanted : (old new : Running) (label : List ℕ) (r : Refusal) → label ≡ [] → new ≡ old → refused old (s.Spawn None label) ≡ Some r → Plants old new
+plants_unplanted old new label r empty same is =
+    inr (ap is_some (subst (λ (l : List ℕ). refused old (s.Spawn None l) ≡ Some r) empty is), same)

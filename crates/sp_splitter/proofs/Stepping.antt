@@ -386,10 +386,10 @@ pub none_read_lease : (id count : ℕ) (old new : Running) → IsDone (s.Lease i
 none_read_lease id count old new done = none_read_step (s.Lease id count) old new done refl
 
 -- a piece that came home: its readings and its return
-abbrev home_entries : ℕ → ℕ → List Entry
+abbrev pub home_entries : ℕ → ℕ → List Entry
 home_entries number times = reading_entries number times ++ once (s.Return number) ∷ []
 
-journal_homecoming : (number times : ℕ) (old new : Running) → new ≡ after_return old number times → new.journal ≡ old.journal ++ home_entries number times
+pub journal_homecoming : (number times : ℕ) (old new : Running) → new ≡ after_return old number times → new.journal ≡ old.journal ++ home_entries number times
 journal_homecoming number times old new is =
     ap (λ (z : Running). z.journal) is ∙ append_assoc old.journal (reading_entries number times) (once (s.Return number) ∷ [])
 

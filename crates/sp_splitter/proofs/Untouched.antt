@@ -14,7 +14,7 @@ use Rattle.sp_group.specs.Effects.{effect, home, leased, returned}
 use Rattle.sp_group.specs.Steps.{IsSpreadOut, Spread, has_child, out_count}
 use Rattle.sp_version.specs.declared.version.Version.{Version}
 use Rattle.sp_tree.specs.Grown.{Grown, Entry, AreRooted, FallFrom, groups_of, kin}
-use Rattle.sp_pick.specs.Picking.{IsNext, IsTaken, candidates_in, candidates, as_label}
+use Rattle.sp_pick.specs.Picking.{IsNext, IsTaken, candidates_in, candidates}
 use Rattle.sp_core.specs.Holding.{Holds, version_of}
 use Rattle.sp_core.specs.Running.{IsDone, Running, after, refused}
 use Rattle.sp_core.specs.Showing.{IsTreeOf}
@@ -273,7 +273,7 @@ none_next : (share : ℕ → ℕ → ℕ) (tickets : List Ticket) (es : List (En
 none_next share tickets es p all =
     let groups : groups_of (entry_at kin (map (told tickets) es) p) ≡ groups_of (entry_at kin es p) =
     ap groups_of (told_at tickets es p) ∙ groups_told tickets (entry_at kin es p) in
-    subst (λ (z : List ℕ). All (IsTaken (map (told tickets) es) p) (candidates (share p) (as_label z))) (sym groups)
+    subst (λ (z : List ℕ). All (IsTaken (map (told tickets) es) p) (candidates (share p) z)) (sym groups)
     (λ k d low. taken_told tickets es p _ (all k d low))
 
 -- what is wide stays so

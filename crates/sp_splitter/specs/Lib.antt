@@ -1,8 +1,10 @@
 pub mod Splitting
 pub mod Stages
 pub mod Knowing
+pub mod Gathering
 pub mod Rolling
 pub mod Finishing
+pub mod Planting
 pub mod Breeding
 pub mod Bearing
 pub mod Asking

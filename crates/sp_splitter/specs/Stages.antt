@@ -1,12 +1,13 @@
 -- What each stage of a turn does to a core.
-use Rattle.std.specs.Prelude.{◌≡◌, ℕ, ◌+◌, ◌≤◌, List, ◌++◌}
-use Rattle.std.specs.List.{flat_map}
+use Rattle.std.specs.Prelude.{◌≡◌, ℕ, ◌+◌, ◌≤◌, false, List, ◌++◌}
+use Rattle.std.specs.List.{All, flat_map}
 use Rattle.sp_plan.specs.declared.found.Match.{Match}
 use Rattle.sp_hub.specs.State.{Posting}
-use Rattle.sp_group.specs.Steps.{Spread, out_count}
+use Rattle.sp_group.specs.declared.step.Entry.{Entry}
+use Rattle.sp_group.specs.Steps.{Spread, is_lease, out_count}
 use Rattle.sp_core.specs.declared.emitted.Emitted.{Emitted}
 use Rattle.sp_core.specs.Running.{Running}
-use Rattle.sp_spread.specs.Journaled.{fed, readings_entered}
+use Rattle.sp_spread.specs.Journaled.{MakesNoChild, fed, readings_entered}
 use Rattle.sp_spread.specs.Spreading.{Spreading}
 
 -- the journal of a core has spread its work, and where it ends in a lease all that can be out is out
@@ -30,6 +31,13 @@ pub record Went (n : ℕ) (old new : Running) : Type 0 where
   pub spread : IsSpreading n old → Spread new.plan new.bound n new.journal
   pub few : out_count old.machine ≤ n + 1 → out_count new.machine ≤ n + 1
   pub tickets : old.machine.next_ticket ≤ new.machine.next_ticket
+
+-- No entry that came into the journal makes a child, and none leases.
+pub record SendsNone (old new : Running) : Type 0 where
+  pub entries : List Entry
+  pub entered : new.journal ≡ old.journal ++ entries
+  pub no_child : MakesNoChild entries
+  pub no_lease : All (λ entry. is_lease entry.step ≡ false) entries
 
 -- nothing was emitted
 abbrev pub NoneEmitted : Running → Running → Type 0

@@ -10,9 +10,8 @@ ghost use Rattle.sp_splitter.specs.Bearing.{HasBorn, IsBarren, IsFoundFor, IsFou
 ghost use Rattle.sp_splitter.specs.Bearing.{chosen, comes_before};
 ghost use Rattle.sp_splitter.specs.Stages.{Goes, NoneEmitted, NoneRead, Went};
 
-use crate::Memory;
 use crate::counting::count_busy;
-use crate::knowing::known;
+use crate::{Memory, law};
 use sp_base::Share;
 use sp_chance::Chances;
 use sp_core::{Core, CoreFault};
@@ -56,12 +55,12 @@ pub(crate) fn breed(
         (IsSpreadOut core.new.plan core.new.bound instances core.new.machine) }
 {
     let mut busy = count_busy(alloc, core)?;
-    known(core);
+    law::known(core);
     while busy <= instances as usize {
         if !bear_best(alloc, core, chances)? {
             return Ok(());
         }
-        known(core);
+        law::known(core);
         busy += 1;
     }
     Ok(())

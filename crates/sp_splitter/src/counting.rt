@@ -3,8 +3,7 @@ ghost use Rattle.std.specs.Prelude.{◌≡◌, IfOk};
 ghost use Rattle.sp_group.specs.Steps.{out_count};
 ghost use Rattle.sp_spread.specs.Counting.{busy_count};
 
-use crate::Memory;
-use crate::knowing::known;
+use crate::{Memory, law};
 use sp_core::Core;
 use std::alloc::Global;
 
@@ -12,7 +11,7 @@ use std::alloc::Global;
 pub(crate) fn count_out(alloc: Global, core: &Core) -> Result<u32, Memory>
     ensures { IfOk result (λ out. out ≡ out_count core.now.machine) }
 {
-    known(core);
+    law::known(core);
     let tree = core.tree();
     tree.live();
     let mut out = 0u32;
@@ -33,7 +32,7 @@ pub(crate) fn count_busy(alloc: Global, core: &Core) -> Result<usize, Memory>
         busy ≡ busy_count core.now.plan core.now.bound core.now.machine) }
 {
     // They tell that a version is out or ready, never both, and that few are live.
-    known(core);
+    law::known(core);
     core.tree().live();
     let out = count_out(alloc, core)? as usize;
     let ready = core.ready(alloc)?.len();

@@ -10,8 +10,7 @@ ghost use Rattle.sp_splitter.specs.Lending.{DropsStale};
 ghost use Rattle.sp_splitter.specs.Splitting.{IsBelowKept};
 ghost use Rattle.sp_splitter.specs.Stages.{Goes, NoneEmitted, NoneRead, Went};
 
-use crate::Memory;
-use crate::knowing::known;
+use crate::{Memory, law};
 use sp_core::{Core, Given};
 use sp_piece::{Job, Piece};
 use std::alloc::{AllocError, Global};
@@ -27,7 +26,7 @@ fn give_back_unread(alloc: Global, core: &mut Core, job: Job) -> Result<(), Memo
     ensures clears { OnOk result (Clears core.old core.new) }
     ensures ended { OnOk result (ticket_at core.new.machine.tickets job.ticket ≡ None) }
 {
-    known(core);
+    law::known(core);
     match core.give_back(alloc, Piece::start(alloc, job)) {
         Ok(Given::Stale { .. }) => Ok(()),
         Ok(Given::NotOut { .. }) => Ok(()),

@@ -3,11 +3,10 @@ ghost use Rattle.std.specs.Prelude.{◌≡◌, ℕ, ◌++◌, None, IfOk, OnOk, 
 ghost use Rattle.sp_group.specs.declared.step.Step.TheVariants as s;
 ghost use Rattle.sp_core.specs.Running.{refused};
 ghost use Rattle.sp_spread.specs.Calm.{AreCalm, NoneDone};
-ghost use Rattle.sp_splitter.specs.Finishing.{FinishedOne};
+ghost use Rattle.sp_splitter.specs.Finishing.{FinishedOne, Finishes};
 ghost use Rattle.sp_splitter.specs.Stages.{Goes, NoneRead, Went, matches_of};
 
-use crate::Memory;
-use crate::knowing::known;
+use crate::{Memory, law};
 use sp_core::{Core, Emitted};
 use std::alloc::{AllocError, Global};
 
@@ -31,7 +30,7 @@ fn finish_root(core: &mut Core) -> Emitted
     requires done { refused core.old s.Finish ≡ None }
     ensures { FinishedOne core.old core.new result }
 {
-    known(core);
+    law::known(core);
     let Ok(emitted) = core.finish() else {
         unreachable!()
     };
@@ -48,6 +47,7 @@ pub(crate) fn finish_all(alloc: Global, core: &mut Core) -> Result<Vec<Emitted>,
     ensures read { NoneRead core.old core.new }
     ensures calm { OnOk result (AreCalm core.new.plan core.new.machine) }
     ensures undone { OnOk result (NoneDone core.new.machine) }
+    ensures finishes { IfOk result (λ all. Finishes core.old core.new all.items) }
 {
     let mut all = Vec::new(alloc);
     for _ in 0..u64::MAX {

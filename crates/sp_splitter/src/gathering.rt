@@ -1,12 +1,14 @@
 // Pieces that are home are given back, and learned from.
 ghost use Rattle.std.specs.Prelude.{◌≡◌, ◌+◌, ◌≤◌, ℕ, false, IsOk, OnOk};
+ghost use Rattle.sp_core.specs.declared.given.Given as home;
+ghost use Rattle.sp_core.specs.Returning.{IsGiven};
 ghost use Rattle.sp_spread.specs.Journaled.{readings_entered};
+ghost use Rattle.sp_splitter.specs.Gathering.{Gathered, IsLearned};
 ghost use Rattle.sp_splitter.specs.Stages.{Collected, Goes, NoneEmitted, ReadByCalls, Went};
 
-use crate::Memory;
-use crate::knowing::known;
 use crate::learning::learn;
 use crate::unheard::Readings;
+use crate::{Memory, law};
 use sp_chance::Predictor;
 use sp_core::Core;
 use sp_hub::{Hub, Naming, Poster};
@@ -15,10 +17,13 @@ use std::alloc::{AllocError, Global};
 use std::sync::Wait;
 
 // Learns from a piece, where its version is live.
-fn learn_from(predictor: &mut dyn Predictor, core: &Core, piece: &Piece) {
-    if core.tree().get(piece.job().version).is_some() {
-        learn(predictor, piece.moves());
-    }
+fn learn_from(predictor: &mut dyn Predictor, core: &Core, piece: &Piece)
+    ensures { IsLearned (taught predictor.old) (taught predictor.new) core.now piece.now }
+{
+    let Some(_) = core.tree().get(piece.job().version) else {
+        return;
+    };
+    learn(predictor, piece.moves());
 }
 
 // Gives a piece back. One whose ticket is not out, and one that is not what was lent, are let go as one whose
@@ -29,8 +34,9 @@ fn give_back(alloc: Global, core: &mut Core, piece: Piece) -> Result<(), Memory>
     ensures emitted { NoneEmitted core.old core.new }
     ensures read { readings_entered core.new.journal ≤ readings_entered core.old.journal + 1 }
     ensures short { IsOk result → piece.short ≡ false }
+    ensures given { OnOk result ((given : home.Given) × IsGiven core.old core.new piece given) }
 {
-    known(core);
+    law::known(core);
     let short = piece.short();
     match core.give_back(alloc, piece) {
         Ok(_) if short => Err(AllocError),
@@ -54,6 +60,8 @@ pub(crate) fn gather<L: Naming, R: Wait>(
     ensures emitted { NoneEmitted core.old core.new }
     ensures read { ReadByCalls core.old core.new by.old by.new }
     ensures by { Collected by.old by.new }
+    ensures gathered { OnOk result (Gathered (taught predictor.old) (taught predictor.new)
+        core.old core.new by.old by.new) }
 {
     let mut read = Readings::none();
     for _ in 0..by.waiting() {

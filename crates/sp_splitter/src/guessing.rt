@@ -14,7 +14,6 @@ use sp_match::Matcher;
 use sp_plan::Length;
 use sp_rules::versions_have_groups;
 use sp_version::Version;
-use sp_window::{closed_come_first, windows_hold};
 use std::alloc::Global;
 
 /// The chance of each open group of each live version, as the predictor holds it now.
@@ -90,24 +89,6 @@ fn coming(core: &Core, held: &Version) -> u32
 {
     match core.plan().length {
         Length::Events(count) => count.saturating_sub(held.position),
-        Length::Time(_) => fed_of(core, held.window).saturating_sub(held.position),
-    }
-}
-
-/// How many events of a window were fed.
-pub(crate) fn fed_of(core: &Core, number: u32) -> u32
-    requires begun { HasBegun core.now number }
-    ensures { result ≡ size core.now.plan core.now.machine.events number }
-{
-    core.plan();
-    core.finished();
-    windows_hold();
-    closed_come_first();
-    let Some(window) = core.windows().get(number) else {
-        unreachable!()
-    };
-    match window.end {
-        Some(end) => end + 1 - window.first,
-        None => core.events().len() as u32 + 1 - window.first,
+        Length::Time(_) => core.fed_of(held.window).0.saturating_sub(held.position),
     }
 }

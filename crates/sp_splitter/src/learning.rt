@@ -1,10 +1,15 @@
 // What was read is learned from.
+ghost use Rattle.sp_chance.specs.Taught.{TaughtOn};
+ghost use Rattle.sp_splitter.specs.Gathering.{wanted_of};
+
 use sp_chance::Predictor;
 use sp_match::Moves;
 
 /// Learns from what a piece did, in its order: how many events groups wanted before one more event, and after
 /// it.
-pub fn learn(predictor: &mut dyn Predictor, moves: &[Moves]) {
+pub fn learn(predictor: &mut dyn Predictor, moves: &[Moves])
+    ensures { TaughtOn (taught predictor.old) (wanted_of moves.now) (taught predictor.new) }
+{
     for entry in moves {
         predictor.learn_all(&entry.wanted);
     }

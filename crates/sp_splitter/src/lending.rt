@@ -16,10 +16,8 @@ ghost use Rattle.sp_splitter.specs.Lending.{ArePicked, Leases};
 ghost use Rattle.sp_splitter.specs.Splitting.{IsBelowKept};
 ghost use Rattle.sp_splitter.specs.Stages.{Goes, NoneEmitted, NoneRead, Went};
 
-use crate::Memory;
 use crate::counting::count_out;
-use crate::guessing::fed_of;
-use crate::knowing::known;
+use crate::{Memory, law};
 use sp_chance::Chances;
 use sp_core::{Core, CoreFault};
 use sp_pick::pick;
@@ -96,7 +94,7 @@ fn is_free(core: &Core, parent: &Version, held: &Version, batch: u32) -> bool
         (parent.now.first + size core.now.plan core.now.machine.events parent.now.window)
         (held.now.first + held.now.position) || not (definitions.consumes core.now.plan)))) }
 {
-    let end = parent.first as u64 + fed_of(core, parent.window) as u64;
+    let end = parent.first as u64 + core.fed_of(parent.window).0 as u64;
     (held.position as u64) < 2 * batch as u64
         || parent.done
         || end <= next_read(held)
@@ -150,7 +148,7 @@ fn lend_all(
         → IsBelowKept last kept.new.items core.new.machine.next_ticket }
 {
     for id in ids {
-        known(core);
+        law::known(core);
         let count = asked(core, *id, batch);
         lend_one(alloc, core, *id, count, kept)?;
     }

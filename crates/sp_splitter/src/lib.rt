@@ -9,7 +9,7 @@ mod dropping;
 mod finishing;
 mod gathering;
 mod guessing;
-mod knowing;
+mod law;
 mod learning;
 mod lending;
 mod planting;

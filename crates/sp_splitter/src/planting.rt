@@ -1,10 +1,10 @@
-// A root is made where none is live.
+// A root is made where one can be.
 ghost use Rattle.std.specs.Prelude.{ℕ, OnOk};
 ghost use Rattle.sp_spread.specs.Calm.{AreCalm, NoneDone, Settled};
+ghost use Rattle.sp_splitter.specs.Planting.{Plants};
 ghost use Rattle.sp_splitter.specs.Stages.{Goes, NoneEmitted, NoneRead, Went};
 
-use crate::Memory;
-use crate::knowing::known;
+use crate::{Memory, law};
 use sp_core::{Core, CoreFault};
 use sp_group::Label;
 use std::alloc::{AllocError, Global};
@@ -18,14 +18,12 @@ pub(crate) fn plant(alloc: Global, core: &mut Core) -> Result<(), Memory>
     ensures emitted { NoneEmitted core.old core.new }
     ensures read { NoneRead core.old core.new }
     ensures settled { OnOk result (Settled core.new.plan core.new.machine) }
+    ensures plants { OnOk result (Plants core.old core.new) }
 {
-    if core.tree().root().is_some() {
-        return Ok(());
-    }
-    known(core);
+    law::known(core);
     match core.spawn(alloc, None, Label::empty(alloc)) {
         Ok(_) => Ok(()),
-        // The next window has not begun.
+        // A root is live, or the next window has not begun.
         Err(CoreFault::Refused(_)) => Ok(()),
         Err(CoreFault::Memory) => Err(AllocError),
     }

@@ -1,18 +1,20 @@
 // Versions in conflict are rolled.
-ghost use Rattle.std.specs.Prelude.{◌≡◌, ℕ, None, IfOk, OnOk};
+ghost use Rattle.std.specs.Prelude.{◌≡◌, ℕ, None, IfOk, IfSome, IsSorted, OnOk};
 ghost use Rattle.sp_spread.specs.Calm.{AreCalm};
 ghost use Rattle.sp_spread.specs.Laws.{LosesConflict};
-ghost use Rattle.sp_splitter.specs.Rolling.{AreListed, IsCalm, Quiet};
+ghost use Rattle.sp_splitter.specs.Rolling.{AreListed, IsCalm, IsOfWindow, Quiet, Rolls, RollsOne, place_cmp};
 ghost use Rattle.sp_splitter.specs.Stages.{Goes, NoneEmitted, NoneRead, Went};
 
-use crate::Memory;
-use crate::knowing::known;
+use crate::{Memory, law};
 use sp_core::Core;
 use std::alloc::Global;
 
 // The window of a version that is live and in conflict.
 fn window_in_conflict(core: &Core, id: u64) -> Result<Option<u32>, Memory>
-    ensures { IfOk result (λ window. window ≡ None → IsCalm core.now.plan core.now.machine id) }
+    ensures calm { IfOk result
+        (λ window. window ≡ None → IsCalm core.now.plan core.now.machine id) }
+    ensures window { IfOk result (λ window. IfSome window
+        (λ number. IsOfWindow core.now.plan core.now.machine (number, id))) }
 {
     let Some(held) = core.tree().get(id) else {
         return Ok(None);
@@ -42,8 +44,9 @@ fn in_conflict(alloc: Global, core: &Core) -> Result<Vec<(u32, u64)>, Memory>
 fn roll_one(core: &mut Core, id: u64)
     ensures quiet { Quiet core.old core.new }
     ensures loses { LosesConflict core.old.plan core.old.machine core.new.machine id }
+    ensures one { RollsOne id core.old core.new }
 {
-    known(core);
+    law::known(core);
     // A refusal changes nothing: the version went with one above it that was rolled, or is in no
     // conflict.
     let _ = core.roll(id);
@@ -51,9 +54,11 @@ fn roll_one(core: &mut Core, id: u64)
 
 // Rolls versions in the order in which they are listed.
 fn roll_listed(core: &mut Core, found: &[(u32, u64)])
-    requires { AreListed core.old.plan core.old.machine found.now }
+    requires listed { AreListed core.old.plan core.old.machine found.now }
+    requires sorted { IsSorted place_cmp found.now }
     ensures quiet { Quiet core.old core.new }
     ensures calm { AreCalm core.new.plan core.new.machine }
+    ensures rolls { Rolls core.old core.new }
 {
     for entry in found {
         roll_one(core, entry.1);
@@ -67,6 +72,7 @@ pub(crate) fn roll_all(alloc: Global, core: &mut Core) -> Result<(), Memory>
     ensures emitted { NoneEmitted core.old core.new }
     ensures read { NoneRead core.old core.new }
     ensures calm { OnOk result (AreCalm core.new.plan core.new.machine) }
+    ensures rolls { OnOk result (Rolls core.old core.new) }
 {
     let mut found = in_conflict(alloc, core)?;
     // By window, and then by id.

@@ -8,12 +8,11 @@ ghost use Rattle.sp_splitter.specs.Splitting.{IsBelowKept};
 ghost use Rattle.sp_splitter.specs.Stages.{Goes, ReadByCalls, Went};
 ghost use Rattle.sp_splitter.specs.Turning.{Turned};
 
-use crate::Memory;
 use crate::gathering::gather;
-use crate::knowing::known;
 use crate::posting::post_kept;
 use crate::turning::{guess_and_send, tidy};
 use crate::unheard::Unheard;
+use crate::{Memory, law};
 use sp_chance::{Chances, Predictor};
 use sp_core::{Core, CoreFault, Emitted};
 use sp_group::Refusal;
@@ -87,7 +86,7 @@ impl Splitter {
         ensures goes { (n : ℕ) → Goes n self.old.core self.new.core }
         ensures out { out_count self.new.core.machine ≡ out_count self.old.core.machine }
     {
-        known(&self.core);
+        law::known(&self.core);
         let number = self.core.feed(alloc, event)?;
         Ok(number)
     }
@@ -102,7 +101,7 @@ impl Splitter {
         ensures goes { (n : ℕ) → Goes n self.old.core self.new.core }
         ensures out { out_count self.new.core.machine ≡ out_count self.old.core.machine }
     {
-        known(&self.core);
+        law::known(&self.core);
         self.core.end()?;
         Ok(())
     }
@@ -151,6 +150,8 @@ impl Splitter {
         ensures turned { IfOk result (λ finished. Turned (record {
           instances = self.old.instances;
           batch = self.old.batch;
+          taught_before = taught self.old.predictor;
+          taught = taught self.new.predictor;
           means = means self.new.predictor;
           chances = self.new.chances;
           kept_before = self.old.kept.items;

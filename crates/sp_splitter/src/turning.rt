@@ -7,7 +7,7 @@ ghost use Rattle.sp_spread.specs.Guessing.{AreGuessed};
 ghost use Rattle.sp_splitter.specs.Breeding.{IsWide};
 ghost use Rattle.sp_splitter.specs.Splitting.{IsBelowKept};
 ghost use Rattle.sp_splitter.specs.Stages.{Goes, NoneEmitted, NoneRead, Went, matches_of};
-ghost use Rattle.sp_splitter.specs.Turning.{SentOut};
+ghost use Rattle.sp_splitter.specs.Turning.{SentOut, TidiedUp};
 
 use crate::Memory;
 use crate::breeding::breed;
@@ -32,6 +32,7 @@ pub(crate) fn tidy(alloc: Global, core: &mut Core) -> Result<Vec<Emitted>, Memor
         ≡ core.old.machine.emitted ++ matches_of all.items) }
     ensures read { NoneRead core.old core.new }
     ensures settled { OnOk result (Settled core.new.plan core.new.machine) }
+    ensures tidied { IfOk result (λ all. TidiedUp core.old core.new all.items) }
 {
     roll_all(alloc, core)?;
     let finished = finish_all(alloc, core)?;

@@ -43,7 +43,7 @@ impl<V> Model for Store<V> {
 impl<V> Store<V> {
     ghost use Rattle.sp_store.specs.Lends.{lends_found};
 
-    /// No value, and room for `bound` of them. The first id is 1.
+    /// No value is live, and at most `bound` may be at a time. The first id is 1.
     pub fn new(alloc: Global, bound: u32) -> Result<Store<V>, Memory>
         requires some { 0 < bound }
         requires most { bound ≤ 4096 }

@@ -22,6 +22,8 @@ impl Predictor for Counting {
 
     ghost means = { λ counting _ _. counting.thousands };
 
+    ghost taught = { λ _ _. Unit {0} };
+
     fn name(&self) -> &str {
         if self.is_other { "other" } else { "counting" }
     }

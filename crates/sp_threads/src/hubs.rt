@@ -10,8 +10,8 @@ use std::test::*;
 
 // What travels here: a ticket alone.
 #[derive(Drop)]
-struct Note {
-    ticket: u64,
+pub(crate) struct Note {
+    pub(crate) ticket: u64,
 }
 
 impl Named for Note {

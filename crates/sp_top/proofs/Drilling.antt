@@ -27,6 +27,7 @@ use Rattle.sp_split.specs.declared.ended.Ended.{Ended}
 use Rattle.sp_cli.specs.Commands.{Speed, drill}
 use Rattle.sp_commands.specs.Completes.{ReadsToEnd}
 use Rattle.sp_commands.specs.Drill.{summary_of, drill_text, DrillOutcome, WritesSummary, written, failed, no_memory}
+use Rattle.sp_top.specs.Summing.{CanSum, SumsUp}
 use Rattle.sp_top.specs.Report.{Reports, ReportsPlan, ReportsDrill, WhereDone}
 use Rattle.sp_commands.specs.Run.{windows_text, IsPlanRun}
 use Rattle.sp_commands.proofs.Drills.{text_some}
@@ -114,3 +115,42 @@ module _ (q : Plan) (is : IsPlanFor drill_query q) (events seed : ℕ) (input : 
   }
   made_summary line own old new _ (no_memory same) =
       subst (λ (k : SinkState). Made (λ bytes ended. DrillOutcome events seed) (outside input old) (outside input k) (ending Memory)) (sym same) (made_unwritten old)
+
+-- ---- the whole of it
+
+module _ (has : DrillQueryHasPlan) (rows : GeneratedRowsAreRead) (events seed : ℕ) (few : events ≤ 1048576) (speed : Speed) where
+  -- a drill's run can be summed up
+  pub can_sum : (s : Status) (ended : Option Ended) → WhereDone (ReportsDrill events seed speed) s ended → WhereDone CanSum s ended
+  can_sum s None report = report
+  can_sum s (Some e) report = λ done.
+      let own = report done in
+      let count = (rows e.core.plan events seed (has.reads e.core.plan own.0) few).count in
+      let same = ap length own.1.events in
+      (omega arith, own.1.finished)
+
+  module _ (s : Status) (ended : Option Ended) (either : (s ≡ Done) ⊎ (s ≡ Memory)) (report : WhereDone (ReportsDrill events seed speed) s ended) (old new : SinkState) (later : Status)
+      (sums : SumsUp s ended old new later) where
+    -- and what is written then is the drill's text
+    pub drill_made : (input : SourceState) → Made (λ bytes ended. DrillOutcome events seed) (outside input old) (outside input new) (ending later)
+    drill_made input = by either ended report sums
+      where
+        by : (s ≡ Done) ⊎ (s ≡ Memory) → (o : Option Ended) → WhereDone (ReportsDrill events seed speed) s o → SumsUp s o old new later
+            → Made (λ bytes ended. DrillOutcome events seed) (outside input old) (outside input new) (ending later)
+        by (inl done) None report sums = absurd (report done)
+        by (inl done) (Some e) report sums =
+            let own = report done in
+            made_summary e.core.plan own.0 events seed input (summary_of e.core.plan e.core.machine.events) (ap (summary_of e.core.plan) own.1.events) old new later (sums.done e done refl)
+        by (inr memory) o report sums =
+            let none = sums.other (λ is. cc) in
+            subst (λ (t : Status). Made (λ bytes ended. DrillOutcome events seed) (outside input old) (outside input new) (ending t)) (sym (none.0 ∙ memory))
+            (subst (λ (k : SinkState). Made (λ bytes ended. DrillOutcome events seed) (outside input old) (outside input k) (ending Memory)) (sym none.1)
+            (made_unwritten has.plan has.is events seed input old))
+
+    pub drill_reported : WhereDone (ReportsDrill events seed speed) later ended
+    drill_reported = by either ended report sums
+      where
+        by : (s ≡ Done) ⊎ (s ≡ Memory) → (o : Option Ended) → WhereDone (ReportsDrill events seed speed) s o → SumsUp s o old new later → WhereDone (ReportsDrill events seed speed) later o
+        by (inl done) None report sums = absurd (report done)
+        by (inl done) (Some e) report sums = λ _. report done
+        by (inr memory) None report sums = let none = sums.other (λ is. cc) in λ is. cc
+        by (inr memory) (Some e) report sums = let none = sums.other (λ is. cc) in λ is. cc

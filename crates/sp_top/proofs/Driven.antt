@@ -26,8 +26,8 @@ use Rattle.sp_answer.specs.Outcome.{Ending, ending}
 use Rattle.sp_answer.specs.Ran.{Outside, outside, Ran}
 use Rattle.sp_answer.specs.declared.status.Status.{Status}
 use Rattle.sp_answer.specs.declared.status.Status.TheVariants.{Memory, Write}
-use Rattle.sp_answer.proofs.Grew.{within_more}
-use Rattle.sp_ports.specs.Taking.{OutletState}
+use Rattle.sp_io.proofs.Grew.{within_longer, within_more}
+use Rattle.sp_ports.specs.Taking.{OutletState, TookFirst, first_line}
 use Rattle.sp_group.specs.Machine.{Machine}
 use Rattle.sp_rules.specs.Schedules.{IsSequential}
 use Rattle.sp_core.specs.Running.{Running}
@@ -39,11 +39,6 @@ use Rattle.sp_commands.specs.Ends.{status_of}
 use Rattle.sp_top.specs.RunEnds.{status_of_end}
 use Rattle.sp_commands.specs.Run.{run_outcome, windows_text, IsPlanRun}
 use Rattle.sp_commands.proofs.Running.{no_further_reading, not_cut, only_open, only_ended}
-
--- what grew by the front of a text grew by a front of more of it
-pub within_longer : (a b : Told) (xs more : List ℕ) → GrewWithin a xs b → GrewWithin a (xs ++ more) b
-within_longer a b xs more within =
-    (within.0, (within.1.0 ++ more, ap (λ (l : List ℕ). l ++ more) within.1.1 ∙ append_assoc within.0 within.1.0 more), within.2)
 
 pub text_parts : (q : Plan) (ms more : List Match) → text q (ms ++ more) ≡ text q ms ++ text q more
 text_parts q ms more = flat_map-append (line q) ms more
@@ -179,6 +174,17 @@ module _ (q : Plan) (matches : List Match) (old new : OutletState) (f : FailedWi
       ends (b ∷ own) [] more some is_nil = cc
       ends own (x ∷ xs) more some is_nil = cc
 
+-- behind the lines of matches stands a beginning of the next one's
+within_next : (q : Plan) (lines : List ℕ) (others : List Match) (a b c : Told) → Grew a lines b → GrewWithin b (first_line q others) c → GrewWithin a (lines ++ text q others) c
+within_next q lines [] a b c grew within = within_more a b c lines [] [] grew within
+within_next q lines (found ∷ others) a b c grew within = within_more a b c lines (line q found) (text q others) grew within
+
+-- an outlet that took the first matches wrote a front of the lines
+pub first_within : (q : Plan) (matches : List Match) (old new : OutletState) → TookFirst q matches old new → GrewWithin old.held (text q matches) new.held
+first_within q matches old new f =
+    subst (λ (l : List ℕ). GrewWithin old.held l new.held) (sym (ap (text q) f.are ∙ text_parts q f.first f.others))
+    (within_next q (text q f.first) f.others old.held f.between.held new.held f.took.lines f.front)
+
 -- ---- an input that was driven through a core
 
 -- a sink as an outlet, which took so many matches
@@ -285,7 +291,7 @@ module _ (c : Running) (grows : Grows) (compiled : IsCompiled c.plan) (origin : 
         (subst (λ (l : List ℕ). l ≢ []) emitted_are (failed_some c.plan m.emitted (outlet before t) (outlet after u) failed.1))
     ended_by why.Memory is =
         ran_short c.plan grows compiled origin last m.events so_far before after m.finished m.ended sequential.finished drove.ends
-        (subst (λ (l : List ℕ). GrewWithin before.held l after.held) emitted_are (drove.short is).within)
+        (subst (λ (l : List ℕ). GrewWithin before.held l after.held) emitted_are (first_within c.plan m.emitted (outlet before t) (outlet after u) (drove.short is)))
 
     pub ended_ran : Ran (IsPlanRun c.plan) (outside origin before) (outside last.source after) (ending (status_of_end end.why (stop_in last.state)))
     ended_ran = ended_by end.why refl
@@ -294,7 +300,8 @@ module _ (c : Running) (grows : Grows) (compiled : IsCompiled c.plan) (origin : 
   pub fell_short : (before after : SinkState) (t u : ℕ) → FellShort (λ events. Gives first events last) (is_whole (stop_in last.state)) c.plan (outlet before t) (outlet after u)
       → Ran (IsPlanRun c.plan) (outside origin before) (outside last.source after) (ending Memory)
   fell_short before after t u short =
-      ran_short c.plan grows compiled origin last short.events (reads short.events last short.given) before after (closed c.plan short.events short.input_ended) short.input_ended (omega arith) short.ends short.took.within
+      ran_short c.plan grows compiled origin last short.events (reads short.events last short.given) before after (closed c.plan short.events short.input_ended) short.input_ended (omega arith) short.ends
+      (first_within c.plan (whole c.plan short.events short.input_ended).matches (outlet before t) (outlet after u) short.took)
 
 -- a run of a plan is one of the same plan, over the same states
 pub as_run : (q p : Plan) → p ≡ q → (old : Outside) (s t : SourceState) (k l : SinkState) (end : Ending) → s ≡ t → k ≡ l → Ran (IsPlanRun p) old (outside s k) end → Ran (IsPlanRun q) old (outside t l) end

@@ -89,7 +89,7 @@ only_end Open is = cc
 module _ (c : Running) (origin : SourceState) (first last : Standing) (reads : ReadsFrom c.plan origin first) (stopped : Type 0)
     (halted : stopped → (s : Stop) × (stop_in last.state ≡ Some s) × (is_end s ≡ false)) (before after : OutletState) (speed : Speed) (end : Ended)
     (drove : Drove (λ events. Gives first events last) (is_whole (stop_in last.state)) stopped c before after (record { core = end.core; why = end.why }))
-    (bound : c.bound ≡ speed.live) (replays : replay end.core.plan end.core.bound end.core.journal ≡ end.core.machine) (about : CameAbout speed.instances end.core end.history.entries) where
+    (bound : c.bound ≡ speed.live) (replays : replay end.core.plan end.core.bound end.core.journal ≡ end.core.machine) (about : CameAbout speed.instances end.core end.history) where
   reported_by : (w : Why) → end.why ≡ w → status_of_end w (stop_in last.state) ≡ Done → ReportsPlan c.plan speed origin.left last.source.left end
   reported_by why.Whole is done =
       let m = end.core.machine in

@@ -1,3 +1,4 @@
 pub mod Predictors
 pub mod RunEnds
 pub mod Report
+pub mod Summing

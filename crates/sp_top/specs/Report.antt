@@ -30,7 +30,7 @@ pub record Reports (speed : Speed) (bytes : List ℕ) (e : Ended) : Type 0 where
   pub feeds : fed e.core.journal ≡ e.core.machine.events
   pub replays : replay e.core.plan e.core.bound e.core.journal ≡ e.core.machine
   -- and the entries of the hub which instances had a part in it
-  pub about : CameAbout speed.instances e.core e.history.entries
+  pub about : CameAbout speed.instances e.core e.history
 
 -- The words are a run or a drill, and it ended so: a run by a plan of the query that stands there, over the bytes that were taken; a drill
 -- by a plan of its query, over the rows that it generated.

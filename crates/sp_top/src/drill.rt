@@ -1,7 +1,9 @@
 // The command `drill`: its query over generated rows, by the speculative engine.
-ghost use Rattle.std.specs.Prelude.{◌≡◌, ◌⊎◌, ◌≤◌, true, length, string_bytes, IfOk, IfErr};
+ghost use Rattle.std.specs.Prelude.{◌≡◌, ◌⊎◌, ◌≤◌, true, false, length, string_bytes, Some, IfOk, IfErr};
+ghost use Rattle.sp_io.specs.ByteSource.{source_state};
 ghost use Rattle.sp_io.specs.Outside.{SourceState};
 ghost use Rattle.sp_plan.specs.Windows.{windows};
+ghost use Rattle.sp_gen.specs.Generated.{generated};
 ghost use Rattle.sp_load.specs.Queries.{IsPlanFor};
 ghost use Rattle.sp_answer.specs.Outcome.{ending};
 ghost use Rattle.sp_answer.specs.Ran.{outside, Made};
@@ -9,8 +11,10 @@ ghost use Rattle.sp_cli.specs.Commands.{speed_seen};
 ghost use Rattle.sp_drill.specs.Query.{drill_query};
 ghost use Rattle.sp_commands.specs.Drill as specs;
 ghost use Rattle.sp_commands.specs.Drill.{DrillOutcome, WritesSummary};
+ghost use Rattle.sp_top.specs.Summing.{CanSum, SumsUp};
 ghost use Rattle.sp_top.specs.Report.{ReportsDrill, WhereDone};
 
+use crate::law;
 use crate::run::run_plan;
 use crate::workshop::{Answer, Workshop};
 use sp_answer::Status;
@@ -19,13 +23,12 @@ use sp_chance::Predictor;
 use sp_cli::Speed;
 use sp_commands::status_of_refusal;
 use sp_core::Core;
-use sp_cut::rows_stay;
-use sp_drill::{drill_query_has_plan, generated_rows_are_read, query};
+use sp_drill::query;
 use sp_emit::summary_text;
 use sp_gen::generate;
 use sp_instance::Gate;
 use sp_io::{ByteSource, Discard, Sink};
-use sp_load::{QueryText, Refusal, one_reading, plan_of_text};
+use sp_load::{QueryText, Refusal, plan_of_text};
 use sp_plan::{Memory, Plan};
 use std::alloc::{AllocError, Global};
 use std::sync::Wait;
@@ -36,10 +39,42 @@ fn drill_plan(alloc: Global) -> Result<Plan, Refusal>
     ensures plan { IfOk result (IsPlanFor drill_query) }
     ensures memory { IfErr result (λ refusal. refusal ≡ Refusal.Memory) }
 {
-    // laws: the query has a plan, and no text has both a plan and a fault
-    drill_query_has_plan();
-    one_reading();
+    // the query has a plan, and no text has both a plan and a fault
+    law::drill_query_has_plan();
+    law::one_reading();
     plan_of_text(alloc, &QueryText::Word(query()))
+}
+
+// What a drill runs: its plan, and its rows as an input.
+#[derive(Drop)]
+struct Task {
+    plan: Plan,
+    rows: ByteSource,
+}
+
+// The rows as an input.
+fn rows_of(alloc: Global, events: u32, seed: u32) -> Result<ByteSource, Memory>
+    ensures { IfOk result (λ rows. source_state rows
+        ≡ record { left = Some (generated events seed); faults = 0; ended = false }) }
+{
+    let rows = generate(alloc, events, seed)?;
+    Ok(ByteSource::new(rows.into_bytes()))
+}
+
+// The plan and the rows. Nothing but want of memory refuses them.
+fn task_of(alloc: Global, events: u32, seed: u32) -> Result<Task, Refusal>
+    ensures plan { IfOk result (λ task. IsPlanFor drill_query task.plan) }
+    ensures rows { IfOk result (λ task. source_state task.rows
+        ≡ record { left = Some (generated events seed); faults = 0; ended = false }) }
+    ensures memory { IfErr result (λ refusal. refusal ≡ Refusal.Memory) }
+{
+    let Ok(rows) = rows_of(alloc, events, seed) else {
+        return Err(Refusal::Memory);
+    };
+    match drill_plan(alloc) {
+        Ok(plan) => Ok(Task { plan, rows }),
+        Err(refusal) => Err(refusal),
+    }
 }
 
 // Runs the drill's query over the generated rows, and keeps none of its lines.
@@ -58,20 +93,17 @@ fn run_rows<G: Gate, R: Threads + Wait + Sync>(
     ensures report { WhereDone (ReportsDrill events seed (speed_seen speed.now))
         result.status result.ended }
 {
-    let plan = match drill_plan(shop.alloc) {
-        Ok(plan) => plan,
-        Err(refusal) => return Answer::of(status_of_refusal(refusal)),
-    };
-    let Ok(rows) = generate(shop.alloc, events, seed) else {
-        return Answer::of(Status::Memory);
-    };
-    // laws: each plan of the query reads the rows to their end, and a row stays a row whatever comes
-    // behind
-    drill_query_has_plan();
-    generated_rows_are_read();
-    rows_stay();
-    let mut input = ByteSource::new(rows.into_bytes());
-    run_plan(shop, plan, speed, predictor, &mut input, &mut Discard)
+    // each plan of the query reads the rows to their end, and a row stays a row whatever comes behind
+    law::drill_query_has_plan();
+    law::generated_rows_are_read();
+    law::rows_stay();
+    match task_of(shop.alloc, events, seed) {
+        Ok(task) => {
+            let Task { plan, mut rows } = task;
+            run_plan(shop, plan, speed, predictor, &mut rows, &mut Discard)
+        }
+        Err(refusal) => Answer::of(status_of_refusal(refusal)),
+    }
 }
 
 // How many numbers there are. Fails where they are more than a `u32` counts, as for want of memory.
@@ -113,6 +145,19 @@ fn write_summary<K: Sink>(alloc: Global, core: &Core, out: &mut K) -> Status
     }
 }
 
+// Writes the summary of a run that was done, and answers how that went; what the run ended with stays.
+fn sum_up<K: Sink>(alloc: Global, answer: &mut Answer, out: &mut K)
+    requires { WhereDone CanSum answer.old.status answer.old.ended }
+    ensures ended { answer.new.ended ≡ answer.old.ended }
+    ensures status { SumsUp answer.old.status answer.old.ended
+        (K.state out.old) (K.state out.new) answer.new.status }
+{
+    match (answer.status, &answer.ended) {
+        (Status::Done, Some(ended)) => answer.status = write_summary(alloc, &ended.core, out),
+        _ => {}
+    }
+}
+
 /// Runs the drill's query over so many generated rows of this seed, and writes the summary of the run.
 pub(crate) fn drill<K: Sink, G: Gate, R: Threads + Wait + Sync>(
     shop: &Workshop<'_, G, R>,
@@ -131,17 +176,10 @@ pub(crate) fn drill<K: Sink, G: Gate, R: Threads + Wait + Sync>(
     ensures report { WhereDone (ReportsDrill events seed (speed_seen speed.now))
         result.status result.ended }
 {
-    // laws: the query has a plan, and its run has read as many events as there are rows
-    drill_query_has_plan();
-    generated_rows_are_read();
-    let Answer { status, ended } = run_rows(shop, events, seed, speed, predictor);
-    match (status, ended) {
-        (Status::Done, Some(ended)) => {
-            let status = write_summary(shop.alloc, &ended.core, out);
-            let ended = Some(ended);
-            Answer { status, ended }
-        }
-        // there is no other status, as `run_rows` says
-        _ => Answer::of(Status::Memory),
-    }
+    // the query has a plan, and its run has read as many events as there are rows
+    law::drill_query_has_plan();
+    law::generated_rows_are_read();
+    let mut answer = run_rows(shop, events, seed, speed, predictor);
+    sum_up(shop.alloc, &mut answer, out);
+    answer
 }

@@ -6,6 +6,7 @@
 mod asked;
 mod choosing;
 mod drill;
+mod law;
 mod lines;
 mod run;
 mod top;

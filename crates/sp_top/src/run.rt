@@ -5,7 +5,7 @@ ghost use Rattle.sp_io.specs.Outside.{SourceState};
 ghost use Rattle.sp_plan.specs.Compiled.{IsCompiled};
 ghost use Rattle.sp_core.specs.Running.{begun};
 ghost use Rattle.sp_intake.specs.Kept.{plan_in};
-ghost use Rattle.sp_intake.specs.Asked.{standing};
+ghost use Rattle.sp_intake.specs.Asked.{standing, IsFresh};
 ghost use Rattle.sp_intake.specs.Standing.{ReadsFrom};
 ghost use Rattle.sp_answer.specs.Outcome.{ending};
 ghost use Rattle.sp_answer.specs.Promise.{filed, Served};
@@ -18,6 +18,7 @@ ghost use Rattle.sp_top.specs.Report.{ReportsPlace, ReportsPlan, WhereDone};
 ghost use Rattle.sp_commands.specs.Run.{IsPlanRun, RunOutcome};
 
 use crate::asked::Run;
+use crate::law;
 use crate::lines::Lines;
 use crate::workshop::{Answer, Workshop};
 use sp_answer::Status;
@@ -31,7 +32,6 @@ use sp_io::{Files, Sink, Source};
 use sp_load::plan_at;
 use sp_plan::{Memory, Plan};
 use sp_split::{Why, drive};
-use sp_window::growth;
 use std::alloc::Global;
 use std::sync::{Arc, Wait};
 use std::thread::Threads;
@@ -47,14 +47,29 @@ fn status_of_end(why: Why, stop: Option<Stop>) -> Status
     }
 }
 
-// A core for the plan, before its first step.
-fn core_of(alloc: Global, plan: &Arc<Plan>, live: u32) -> Result<Core, Memory>
-    requires compiled { IsCompiled (arc_value plan.now) }
+// What a run of a plan begins with: the plan, a core before its first step, and what reads the input.
+#[derive(Drop)]
+struct Start {
+    plan: Arc<Plan>,
+    core: Core,
+    events: EventReader,
+}
+
+// All of it for a plan and the most versions that may be live.
+fn start_of(alloc: Global, plan: Plan, live: u32) -> Result<Start, Memory>
+    requires compiled { IsCompiled plan }
     requires some { 1 ≤ live }
     requires most { live ≤ 4096 }
-    ensures { IfOk result (λ core. core ≡ begun (arc_value plan.now) live) }
+    ensures plan { IfOk result (λ start. arc_value start.plan ≡ plan) }
+    ensures core { IfOk result (λ start. start.core ≡ begun plan live) }
+    ensures fresh { IfOk result (λ start. IsFresh plan start.events) }
+    ensures plan_in { IfOk result (λ start. plan_in start.events.reader.kept ≡ plan) }
+    ensures none { IfOk result (λ start. start.events.stops ≡ 0) }
 {
-    Core::new(alloc, plan.clone()?, live)
+    let plan = shared(alloc, plan)?;
+    let core = Core::new(alloc, plan.clone()?, live)?;
+    let events = EventReader::new(alloc, &plan)?;
+    Ok(Start { plan, core, events })
 }
 
 // Drives a core from the input to the output.
@@ -89,15 +104,13 @@ fn drive_core<S: Source, K: Sink, G: Gate, R: Threads + Wait + Sync>(
 {
     let (instances, batch) = (speed.instances, speed.batch);
     let Workshop { rt, alloc, gate } = shop;
-    // A law: while the input has not ended, the matches so far begin those of any longer input.
-    growth();
+    // while the input has not ended, the matches so far begin those of any longer input
+    law::growth();
     match drive(
         *rt, *alloc, core, instances, batch, predictor, input, lines, *gate,
     ) {
         Ok(ended) => {
-            // They tell what every core keeps, and that the journal leads to its state.
-            ended.core.finished();
-            ended.core.journal();
+            law::steps_lead_to(&ended.core);
             let status = status_of_end(ended.why, input.stop());
             let ended = Some(ended);
             Answer { status, ended }
@@ -105,11 +118,6 @@ fn drive_core<S: Source, K: Sink, G: Gate, R: Threads + Wait + Sync>(
         Err(_) => Answer::of(Status::Memory),
     }
 }
-
-// Does nothing: the use of a reference that came back ties it to the one that was lent.
-fn take_back<T>(lent: &mut T)
-    ensures { lent.new ≡ lent.old }
-{}
 
 /// Runs a plan over the input.
 pub(crate) fn run_plan<S: Source, K: Sink, G: Gate, R: Threads + Wait + Sync>(
@@ -132,22 +140,17 @@ pub(crate) fn run_plan<S: Source, K: Sink, G: Gate, R: Threads + Wait + Sync>(
     ensures report { WhereDone (ReportsPlan plan (speed_seen speed.now)
         (S.state input.old).left (S.state input.new).left) result.status result.ended }
 {
-    let alloc = shop.alloc;
-    let Ok(plan) = shared(alloc, plan) else {
+    let Ok(start) = start_of(shop.alloc, plan, speed.live) else {
         return Answer::of(Status::Memory);
     };
-    let Ok(core) = core_of(alloc, &plan, speed.live) else {
-        return Answer::of(Status::Memory);
-    };
-    let Ok(events) = EventReader::new(alloc, &plan) else {
-        return Answer::of(Status::Memory);
-    };
+    let Start { plan, core, events } = start;
     let mut reading = Input::over(input, events);
     let taken = 0;
     let mut lines = Lines { plan, out, taken };
     let answer = drive_core(shop, core, speed, predictor, &mut reading, &mut lines);
-    take_back(reading.into_source());
-    take_back(lines.into_sink());
+    // The references that come back are used, which ties them to those that were lent.
+    let _source = reading.into_source();
+    let _sink = lines.into_sink();
     answer
 }
 

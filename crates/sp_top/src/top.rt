@@ -12,11 +12,12 @@ ghost use Rattle.sp_top.specs.Report.{Reported, Reporting};
 use crate::asked::Run;
 use crate::choosing::choose;
 use crate::drill::drill;
+use crate::law;
 use crate::run::run;
 use crate::workshop::{Answer, Workshop};
 use sp_answer::{Status, tell};
 use sp_chance::Predictor;
-use sp_cli::{Command, UsageFault, numbers_are_within, read_words};
+use sp_cli::{Command, UsageFault, read_words};
 use sp_commands::{Trace, place_of, plain, trace};
 use sp_instance::Gate;
 use sp_io::{Files, Sink, Source};
@@ -101,8 +102,7 @@ fn answer<S: Source, F: Files, K: Sink, G: Gate, R: Threads + Wait + Sync>(
         (map string_bytes words.now) (F.held files.old)
         (S.state input.old).left (S.state input.new).left result.status result.ended }
 {
-    // a law: the numbers that words say are within their limits
-    numbers_are_within();
+    law::numbers_are_within();
     match read_words(shop.alloc, words) {
         Ok(command) => carry_out(shop, &command, input, files, out, predictors),
         Err(UsageFault::Usage) => Answer::of(Status::Usage),

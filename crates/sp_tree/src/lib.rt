@@ -3,11 +3,11 @@
 //! several decisions come to (`Decided`).
 #![tactic(auto)]
 
-mod laws;
+pub mod law;
 mod tree;
 mod version;
 
-pub use laws::{decisions_add_up, openings_change_groups};
+pub use law::{decisions_add_up, openings_change_groups};
 use std::alloc::AllocError;
 pub use tree::Tree;
 

@@ -2,6 +2,7 @@ ghost use Rattle.std.specs.Prelude.{◌≡◌, ◌≢◌, ◌+◌, ◌<◌, ◌�
 ghost use Rattle.std.specs.Option.{option_copied_mut};
 ghost use Rattle.std.specs.Borrow.{sem};
 ghost use Rattle.sp_group.specs.Family.{entry_at, prune};
+ghost use Rattle.sp_group.specs.Rising.{IsLabel};
 ghost use Rattle.sp_tree.specs.Changes.{changed_by, decided, promoted};
 ghost use Rattle.sp_tree.specs.Grown.{Grown, opened, kin, lifted, pruned, with_child, value_of, is_open, groups_of, root_in, without_root, renewed, answered, parent_of, label_of, with_all_groups, with_group, AreGrown, CanStand, IsChild, LacksChild};
 ghost use Rattle.sp_tree.specs.Joined.{joined, AreJoined, IsPrunedFrom, IsKept};
@@ -44,7 +45,7 @@ impl<V> Model for Tree<V> {
 impl<V> Tree<V> {
     ghost use Rattle.sp_tree.specs.Lends.{lends_found};
 
-    /// No version, and room for `bound` of them. The first id is 1.
+    /// No version is live, and at most `bound` may be at a time. The first id is 1.
     pub fn new(alloc: Global, bound: u32) -> Result<Tree<V>, Memory>
         requires some { 0 < bound }
         requires most { bound ≤ 4096 }
@@ -102,7 +103,8 @@ impl<V> Tree<V> {
 
     /// The open groups of a version by rising run, none where the id isn't live.
     pub fn groups(&self, id: u64) -> &[u32]
-        ensures { result.now ≡ groups_of (entry_at kin self.now.entries id) }
+        ensures groups { result.now ≡ groups_of (entry_at kin self.now.entries id) }
+        ensures label { IsLabel result.now }
     {
         match find(&self.versions, id) {
             Some(version) => version.groups.runs(),

@@ -2,11 +2,11 @@
 //! its matches; and the least event that it read although it is suppressed.
 #![tactic(auto)]
 
-mod laws;
+mod law;
 mod search;
 mod version;
 
-pub use laws::reads_alike;
+pub use law::reads_alike;
 pub use search::least_unskipped;
 use std::alloc::AllocError;
 pub use version::Version;

@@ -12,6 +12,8 @@ impl Predictor for Zero {
 
     ghost means = { λ _ _ _. 0 };
 
+    ghost taught = { λ _ _. Unit {0} };
+
     fn name(&self) -> &str {
         "zero"
     }
@@ -31,6 +33,8 @@ impl Predictor for Greatest {
     ghost named = { λ _. codes "greatest" };
 
     ghost means = { λ _ _ _. 4294967295 };
+
+    ghost taught = { λ _ _. Unit {0} };
 
     fn name(&self) -> &str {
         "greatest"
@@ -53,6 +57,8 @@ impl Predictor for Fickle {
     ghost named = { λ _. codes "fickle" };
 
     ghost means = { λ fickle _ _. fickle.learned };
+
+    ghost taught = { λ _ _. Unit {0} };
 
     fn name(&self) -> &str {
         "fickle"

@@ -2,7 +2,7 @@ use Rattle.std.proofs.Common.{ℕ, refl, subst, ◌∙◌, arith}
 use Rattle.std.proofs.lemmas.Grind.{common_steps}
 use Rattle.sp_io.specs.Outside.{Grew, Rose}
 use Rattle.sp_plan.specs.Lines.{line, text}
-use Rattle.sp_answer.proofs.Grew.{grew_whole}
+use Rattle.sp_io.proofs.Grew.{grew_whole}
 use Rattle.sp_answer.proofs.Writing.{out_of_memory}
 use Rattle.sp_commands.proofs.LinesOf.{within_so_far, within_line, grew_line, not_empty}
 use Rattle.sp_commands.proofs.output.write_lines.Goals as goal

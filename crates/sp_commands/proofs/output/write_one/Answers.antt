@@ -2,7 +2,7 @@ use Rattle.std.proofs.Common.{◌≡◌, ◌≢◌, ℕ, [], ◌∷◌, List, le
 use Rattle.std.proofs.lemmas.Bool.Decides.{nat_tests}
 use Rattle.sp_answer.specs.Written.{WritesText}
 use Rattle.sp_answer.specs.declared.written.Written.TheVariants.{All, Failed}
-use Rattle.sp_answer.proofs.Grew.{grew_none}
+use Rattle.sp_io.proofs.Grew.{grew_none}
 use Rattle.sp_answer.proofs.Writing.{whole_text, cut_text}
 use Rattle.sp_commands.proofs.output.write_one.Goals as goal
 

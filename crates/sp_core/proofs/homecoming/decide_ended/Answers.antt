@@ -13,8 +13,8 @@ loop-i-preserved-then-has_open c = λ e live.
     let i = c.loop-i.i in
     let tree = c.loop-i.tree in
     let d = c.loop-i.invariant e live in
-    let same = ap length (c.groups.ensures ∙ sym c.groups-in-loop-i.ensures) in
-    let next = next_group law old c.args.owner runs c.requires e live i tree d c.groups-in-loop-i.result.now _ c.groups-in-loop-i.ensures (omega arith) refl in
+    let same = ap length (c.groups.ensures.groups ∙ sym c.groups-in-loop-i.ensures.groups) in
+    let next = next_group law old c.args.owner runs c.requires e live i tree d c.groups-in-loop-i.result.now _ c.groups-in-loop-i.ensures.groups (omega arith) refl in
     let has = has_still law old c.args.owner runs c.requires e live i tree d _ c.has_open.result c.has_open.ensures in
     one_stays law old c.args.owner runs c.requires e live i tree d _ next.0 next.1 (sym has ∙ c.if-has_open.true)
 
@@ -26,8 +26,8 @@ loop-i-preserved c = λ e live.
     let i = c.loop-i.i in
     let tree = c.loop-i.tree in
     let d = c.loop-i.invariant e live in
-    let same = ap length (c.groups.ensures ∙ sym c.groups-in-loop-i.ensures) in
-    let next = next_group law old c.args.owner runs c.requires e live i tree d c.groups-in-loop-i.result.now _ c.groups-in-loop-i.ensures (omega arith) refl in
+    let same = ap length (c.groups.ensures.groups ∙ sym c.groups-in-loop-i.ensures.groups) in
+    let next = next_group law old c.args.owner runs c.requires e live i tree d c.groups-in-loop-i.result.now _ c.groups-in-loop-i.ensures.groups (omega arith) refl in
     let has = has_still law old c.args.owner runs c.requires e live i tree d _ c.has_open.result c.has_open.ensures in
     one_decided law old c.args.owner runs c.requires e live i tree d _ next.0 next.1 (sym has ∙ c.if-has_open.false) c.decide.new.self
     (c.decide.ensures.tree ∙ ap (λ (o : Outcome). pruned (decided c.args.owner (get_or c.groups-in-loop-i.result.now i 0) o) tree) c.outcome_of.ensures)
@@ -42,17 +42,17 @@ loop-i-smaller c =
     let e = c.requires.entry in
     let live = c.requires.live in
     let d = c.loop-i.invariant e live in
-    let same = ap length (c.groups.ensures ∙ sym c.groups-in-loop-i.ensures) in
-    let next = next_group law old c.args.owner runs c.requires e live i tree d c.groups-in-loop-i.result.now _ c.groups-in-loop-i.ensures (omega arith) refl in
+    let same = ap length (c.groups.ensures.groups ∙ sym c.groups-in-loop-i.ensures.groups) in
+    let next = next_group law old c.args.owner runs c.requires e live i tree d c.groups-in-loop-i.result.now _ c.groups-in-loop-i.ensures.groups (omega arith) refl in
     let has = has_still law old c.args.owner runs c.requires e live i tree d _ c.has_open.result c.has_open.ensures in
     let less = one_less law old c.args.owner runs c.requires e live i tree d _ next.0 next.1 (sym has ∙ c.if-has_open.false) c.decide.new.self
     (c.decide.ensures.tree ∙ ap (λ (o : Outcome). pruned (decided c.args.owner (get_or c.groups-in-loop-i.result.now i 0) o) tree) c.outcome_of.ensures) in
-    let groups = ap length c.groups.ensures in
+    let groups = ap length c.groups.ensures.groups in
     omega arith
 
 pub returns : goal.returns
 returns c = λ e live.
-    all_decided c.decisions_add_up.ensures c.args.tree.now c.args.owner c.args.completed.now c.requires e live c.loop-i.i c.loop-i.tree (c.loop-i.invariant e live) c.groups.result.now c.groups.ensures (omega arith)
+    all_decided c.decisions_add_up.ensures c.args.tree.now c.args.owner c.args.completed.now c.requires e live c.loop-i.i c.loop-i.tree (c.loop-i.invariant e live) c.groups.result.now c.groups.ensures.groups (omega arith)
 
 pub loop-i-init : goal.loop-i-init
 loop-i-init c = λ e live. none_decided c.decisions_add_up.ensures c.args.tree.now c.args.owner c.args.completed.now c.requires e live

@@ -20,7 +20,7 @@ returns c =
       brought = λ e at.
           let there = ap (λ (j : Job). entry_at kin c.args.tree.now.entries j.version) c.job.ensures ∙ at in
           let value : c.in-Some.held.now ≡ e.value = same_Some c.in-Some.held.now e.value (sym (ap option_copied c.in-Some.is) ∙ c.get.ensures ∙ ap value_of there) in
-          let groups : c.in-Some-2.groups ≡ e.version.groups = label ∙ c.groups.ensures ∙ ap groups_of there in
+          let groups : c.in-Some-2.groups ≡ e.version.groups = label ∙ c.groups.ensures.groups ∙ ap groups_of there in
           subst (λ (v : Version). IsBrought v.window e.version.groups c.after.result.now c.moves.result.now c.in_ok-brought.brought) value
           (subst (λ (ns : List ℕ). IsBrought c.in-Some.held.now.window ns c.after.result.now c.moves.result.now c.in_ok-brought.brought) groups c.in_ok-brought.ensures);
       rising = subst IsStrictlyIncreasing c.runs.ensures.list c.runs.ensures.label.rising;

@@ -8,6 +8,11 @@ returns-clause-all g c =
     let all = put_all _ _ _ _ c.work_at.ensures.done in
     search rules
 
+pub returns-clause-over : goal.returns-clause-over
+returns-clause-over g c =
+    let lent = c.work_at.ensures.done.were.lent in
+    search rules
+
 pub returns-clause-free : goal.returns-clause-free
 returns-clause-free g c =
     let lent = c.work_at.ensures.done.were.lent in

@@ -12,12 +12,12 @@ use Rattle.sp_match.proofs.WantedIsTold.{wanted_is}
 use Rattle.sp_match.proofs.handling.handle_all.Goals as goal
 
 pub returns-clause-wanted : goal.returns-clause-wanted
-returns-clause-wanted c = λ s is count_is.
+returns-clause-wanted g c = λ asked s is count_is.
     let q = c.args.offer.now.plan.now in
     let x : Numbered = (c.args.offer.now.number, c.args.offer.now.event.now) in
     let rs = c.args.runs.now.items in
     let old = map kept rs in
-    let new = map kept c.handle.new.runs.items in
+    let new = map kept c.handle-2.new.runs.items in
     let lefts_is : c.deref-2.result.now ≡ all_left q old = c.deref-2.ensures.value ∙ c.in_ok-want_before.ensures ∙ ap (λ (l : List Run). all_left q (map kept l)) c.deref.ensures.value in
     let long : length old ≡ length rs = length-map rs kept in
     let size : length c.deref-2.result.now ≡ length rs = ap length lefts_is ∙ length-map old (λ (k : Kept). left q (pairs k)) ∙ long in
@@ -26,4 +26,4 @@ returns-clause-wanted c = λ s is count_is.
     (subst (λ (n : ℕ). All (Tally (act q s x).moves) (take n new)) long (c.in_ok-began.ensures.handled.tally s is count_is))
 
 pub returns-in_err-want_before-clause-undoes : goal.returns-in_err-want_before-clause-undoes
-returns-in_err-want_before-clause-undoes c = grind (arith, common_steps)
+returns-in_err-want_before-clause-undoes g c = grind (arith, common_steps)

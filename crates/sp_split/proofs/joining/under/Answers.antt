@@ -1,5 +1,5 @@
 use denote.Param.Send.{sendable}
-use Rattle.std.proofs.Common.{◌≡◌, List, None, length, sym, ap, subst, arith}
+use Rattle.std.proofs.Common.{◌≡◌, ◌∙◌, ◌+◌, ℕ, List, None, length, sym, ap, subst, arith}
 use Rattle.std.specs.List.{All}
 use Rattle.std.proofs.lemmas.List.FromFn.{length-map-range_with_len}
 use Rattle.sp_io.specs.Outside.{Rose}
@@ -9,7 +9,7 @@ use Rattle.sp_hub.specs.Calls.{fresh_seat}
 use Rattle.sp_hub.proofs.Seats.{all_free}
 use Rattle.sp_piece.proofs.Crossing.{job_sent, piece_sent}
 use Rattle.sp_split.specs.Crews.{Crewed}
-use Rattle.sp_split.specs.Serving.{Ends}
+use Rattle.sp_split.specs.Serving.{Ends, WoundUp}
 use Rattle.sp_split.proofs.About.{ends_with, fell_at_once}
 use Rattle.sp_split.proofs.joining.under.Goals as goal
 
@@ -82,6 +82,7 @@ returns-clause-ends g c =
     let old = g.O.Outlet.state c.args.ways.outlet in
     let new = g.O.Outlet.state c.beside-crew.result.2.outlet in
     let history = c.wind_up-history.result in
+    let seats : c.in-Ok.made.0.seats ≡ n + 1 = ap (λ (h : Extent). h.seats) c.in-Ok.ensures.hub ∙ c.requires.places.0 in
+    let wound = subst (λ (k : ℕ). WoundUp k c.beside-crew.result.1.by.calls history) seats c.wind_up-history.ensures in
     subst (λ r. Ends G all stopped n start old new r) (sym c.with_history.ensures)
-    (ends_with G all stopped n start old new c.beside-crew.result.1.end c.beside-crew.result.1.by.calls history c.beside-crew.ensures.served c.requires.instances.0
-    c.wind_up-history.ensures.calls c.wind_up-history.ensures.legal c.returns_follow_readings.ensures)
+    (ends_with G all stopped n start old new c.beside-crew.result.1.end c.beside-crew.result.1.by.calls history c.beside-crew.ensures.served c.requires.instances.0 wound c.returns_follow_readings.ensures)

@@ -1,14 +1,14 @@
-use Rattle.std.proofs.Common.{◌≡◌, ℕ, List, ◌++◌, refl, sym, ◌∙◌, ap, subst, arith}
+use Rattle.std.proofs.Common.{◌≡◌, ℕ, ◌≤◌, List, ◌++◌, Ok, refl, sym, ◌∙◌, ap, subst, arith}
 use Rattle.std.proofs.lemmas.Result.{err_from_is_err_and}
 use Rattle.sp_io.specs.Outside.{Rose}
 use Rattle.sp_plan.specs.declared.event.Event.{Event}
 use Rattle.sp_plan.specs.declared.plan.Plan.{Plan}
-use Rattle.sp_plan.specs.Compiled.{IsCompiled}
 use Rattle.sp_ports.specs.Giving.{AreGood}
+use Rattle.sp_group.specs.Steps.{Spread}
 use Rattle.sp_splitter.specs.Stages.{IsSpreading}
-use Rattle.sp_split.specs.declared.feeding.Fed.TheVariants as f
-use Rattle.sp_split.proofs.Going.{Going, going_none, going_fed, rose_from, fed_as, drove_refused, drove_short, drove_whole, drove_stopped, fell_short}
-use Rattle.sp_split.proofs.Turns.{ran_turn, took_turn, failed_turn, short_turn, going_turn, fed_later, unended_first, spreading_first, read_first}
+use Rattle.sp_split.proofs.Going.{going_none, fell_short}
+use Rattle.sp_split.proofs.Over.{drove_over, fed_turn, going_on, put_on, went_any}
+use Rattle.sp_split.proofs.Turns.{on_any, fed_later, unended_first, spreading_first, few_first, few_turn, read_first}
 use Rattle.sp_split.proofs.serving.run.Goals as goal
 
 pub loop-init : goal.loop-init
@@ -21,6 +21,7 @@ loop-init g c =
       going = going_none (λ (events : List Event). g.I.Intake.gave first events first) start (g.O.Outlet.state c.args.outlet.now) c.requires.fresh (g.I.Intake.gave_none first);
       fed = unended_first start c.requires.fresh;
       spreading = spreading_first start c.requires.fresh c.args.desk.now.splitter.instances;
+      few = few_first start c.requires.fresh c.args.desk.now.splitter.instances;
       read = read_first start c.requires.fresh c.args.desk.now.by.calls;
       can = c.requires.can;
       instances = refl;
@@ -46,131 +47,79 @@ returns-in_err-fed-clause-short g c =
     let good = subst (λ (q : Plan). AreGood q events) c.requires.intake_plan (g.I.Intake.good first events c.fill.new.intake lost.1) in
     rw p.1 (fell_short _ G (g.I.Intake.ended c.fill.new.intake) start c.loop.desk.splitter.core mid old s lost.0
     c.loop.invariant.going c.in_err-fed.ensures.unended
-    c.finished.ensures.reached (subst IsCompiled c.plan.ensures.plan c.plan.ensures.compiled) c.finished_windows_stay.ensures c.fill.ensures.filled.on lost.1 good)
+    c.steps_lead_to.ensures.reached c.steps_lead_to.ensures.compiled c.finished_windows_stay.ensures c.fill.ensures.filled.on lost.1 good)
 
-pub returns-in-Err-Failed-clause-ended : goal.returns-in-Err-Failed-clause-ended
-returns-in-Err-Failed-clause-ended g c =
+pub returns-in-Some-why_over-clause-ended : goal.returns-in-Some-why_over-clause-ended
+returns-in-Some-why_over-clause-ended g c =
     let first = c.args.intake.now in
-    let start = c.args.desk.now.splitter.core in
+    let fed = c.in_ok-fed.fed in
+    let put = c.turn_once-put.result in
     let mid = c.fill.new.splitter.core in
-    let old = g.O.Outlet.state c.args.outlet.now in
-    let s = g.O.Outlet.state c.loop.outlet in
-    let last = c.turn_once.new.desk.splitter.core in
-    let n = c.fill.new.splitter.instances in
-    let new = g.O.Outlet.state c.turn_once.new.outlet in
-    let all = g.I.Intake.ended c.fill.new.intake in
+    let last = c.turn_once-put.new.desk.splitter.core in
+    let own = c.turn_once-put.ensures in
+    let whole = g.I.Intake.ended c.fill.new.intake in
     let stopped = Rose (g.I.Intake.stops first) (g.I.Intake.stops c.fill.new.intake) in
-    let G = λ (events : List Event). g.I.Intake.gave first events c.fill.new.intake in
-    let going : Going G start mid old s =
-    going_fed _ G start c.loop.desk.splitter.core mid old s c.loop.invariant.going c.fill.ensures.filled.on (c.in_ok-fed.ensures.given first c.loop.invariant.going.run.given) in
-    let w = c.in-Err-Failed.ensures.failed (cc) in
-    let is = fed_later c.in_ok-fed.fed mid.machine.ended last.machine.ended all stopped w.went.ended
-    (c.in_ok-fed.ensures.is (g.I.Intake.stops first) c.loop.invariant.never_falls c.loop.invariant.fed) in
-    drove_refused G all stopped start last old new c.in_ok-fed.fed is
-    (ran_turn G n start mid last old s new going w.went) (rose_from old.faults s.faults new.faults c.loop.invariant.going.no_fault (c.in-Err-Failed.ensures.rose (cc)))
-    (failed_turn G n start mid last old s new going w)
+    let went = went_any put c.fill.new.splitter.instances mid last _ _ _ own.done own.failed own.short in
+    let is = fed_later fed mid.machine.ended last.machine.ended whole stopped went.ended (c.in_ok-fed.ensures.is (g.I.Intake.stops first) c.loop.invariant.never_falls c.loop.invariant.fed) in
+    drove_over (λ (events : List Event). g.I.Intake.gave first events c.fill.new.intake) whole stopped c.args.desk.now.splitter.core last (g.O.Outlet.state c.args.outlet.now) (g.O.Outlet.state c.turn_once-put.new.outlet)
+    fed put c.all_finished-all.result c.in-Some-why_over.why c.in-Some-why_over.ensures is (on_any _ put c.all_finished-all.ensures)
+    (fed_turn _ (λ (events : List Event). g.I.Intake.gave first events c.fill.new.intake) c.args.desk.now.splitter.core c.loop.desk.splitter.core mid last
+    (g.O.Outlet.state c.args.outlet.now) (g.O.Outlet.state c.loop.outlet) (g.O.Outlet.state c.turn_once-put.new.outlet) c.loop.invariant.going c.fill.ensures.filled.on (c.in_ok-fed.ensures.given first c.loop.invariant.going.run.given)
+    c.fill.new.splitter.instances put own.done own.failed own.short own.rose own.no_fault)
 
-pub returns-in-Err-Memory-clause-ended : goal.returns-in-Err-Memory-clause-ended
-returns-in-Err-Memory-clause-ended g c =
-    let first = c.args.intake.now in
-    let start = c.args.desk.now.splitter.core in
+pub returns-in-Some-why_over-clause-came : goal.returns-in-Some-why_over-clause-came
+returns-in-Some-why_over-clause-came g c =
     let mid = c.fill.new.splitter.core in
-    let old = g.O.Outlet.state c.args.outlet.now in
-    let s = g.O.Outlet.state c.loop.outlet in
-    let last = c.turn_once.new.desk.splitter.core in
+    let last = c.turn_once-put.new.desk.splitter.core in
     let n = c.fill.new.splitter.instances in
-    let new = g.O.Outlet.state c.turn_once.new.outlet in
-    let all = g.I.Intake.ended c.fill.new.intake in
-    let stopped = Rose (g.I.Intake.stops first) (g.I.Intake.stops c.fill.new.intake) in
-    let G = λ (events : List Event). g.I.Intake.gave first events c.fill.new.intake in
-    let going : Going G start mid old s =
-    going_fed _ G start c.loop.desk.splitter.core mid old s c.loop.invariant.going c.fill.ensures.filled.on (c.in_ok-fed.ensures.given first c.loop.invariant.going.run.given) in
-    let w = c.in-Err-Memory.ensures.short (cc) in
-    let is = fed_later c.in_ok-fed.fed mid.machine.ended last.machine.ended all stopped w.went.ended
-    (c.in_ok-fed.ensures.is (g.I.Intake.stops first) c.loop.invariant.never_falls c.loop.invariant.fed) in
-    drove_short G all stopped start last old new c.in_ok-fed.fed is
-    (ran_turn G n start mid last old s new going w.went) (short_turn G n start mid last old s new going w)
-    (c.in-Err-Memory.ensures.no_fault (λ no. cc) ∙ c.loop.invariant.going.no_fault)
-
-pub returns-in-End-clause-ended : goal.returns-in-End-clause-ended
-returns-in-End-clause-ended g c =
-    let first = c.args.intake.now in
-    let start = c.args.desk.now.splitter.core in
-    let mid = c.fill.new.splitter.core in
-    let old = g.O.Outlet.state c.args.outlet.now in
-    let s = g.O.Outlet.state c.loop.outlet in
-    let last = c.turn_once.new.desk.splitter.core in
-    let n = c.fill.new.splitter.instances in
-    let new = g.O.Outlet.state c.turn_once.new.outlet in
-    let all = g.I.Intake.ended c.fill.new.intake in
-    let stopped = Rose (g.I.Intake.stops first) (g.I.Intake.stops c.fill.new.intake) in
-    let G = λ (events : List Event). g.I.Intake.gave first events c.fill.new.intake in
-    let going : Going G start mid old s =
-    going_fed _ G start c.loop.desk.splitter.core mid old s c.loop.invariant.going c.fill.ensures.filled.on (c.in_ok-fed.ensures.given first c.loop.invariant.going.run.given) in
-    let w = c.in-Ok.ensures.done in
-    let is = fed_later c.in_ok-fed.fed mid.machine.ended last.machine.ended all stopped w.went.ended
-    (c.in_ok-fed.ensures.is (g.I.Intake.stops first) c.loop.invariant.never_falls c.loop.invariant.fed) in
-    let ended = fed_as c.in_ok-fed.fed f.End last.machine.ended all stopped c.in-End.is is in
-    drove_whole G all stopped start last old new c.in_ok-fed.fed is
-    (ran_turn G n start mid last old s new going w.went) (c.all_finished.ensures c.if-all_finished.true) (took_turn G n start mid last old s new going w)
-    (c.in-Ok.ensures.no_fault (λ no. cc) ∙ c.loop.invariant.going.no_fault) ended.0
-
-pub returns-in-Stop-clause-ended : goal.returns-in-Stop-clause-ended
-returns-in-Stop-clause-ended g c =
-    let first = c.args.intake.now in
-    let start = c.args.desk.now.splitter.core in
-    let mid = c.fill.new.splitter.core in
-    let old = g.O.Outlet.state c.args.outlet.now in
-    let s = g.O.Outlet.state c.loop.outlet in
-    let last = c.turn_once.new.desk.splitter.core in
-    let n = c.fill.new.splitter.instances in
-    let new = g.O.Outlet.state c.turn_once.new.outlet in
-    let all = g.I.Intake.ended c.fill.new.intake in
-    let stopped = Rose (g.I.Intake.stops first) (g.I.Intake.stops c.fill.new.intake) in
-    let G = λ (events : List Event). g.I.Intake.gave first events c.fill.new.intake in
-    let going : Going G start mid old s =
-    going_fed _ G start c.loop.desk.splitter.core mid old s c.loop.invariant.going c.fill.ensures.filled.on (c.in_ok-fed.ensures.given first c.loop.invariant.going.run.given) in
-    let w = c.in-Ok.ensures.done in
-    let is = fed_later c.in_ok-fed.fed mid.machine.ended last.machine.ended all stopped w.went.ended
-    (c.in_ok-fed.ensures.is (g.I.Intake.stops first) c.loop.invariant.never_falls c.loop.invariant.fed) in
-    let stops = fed_as c.in_ok-fed.fed f.Stop last.machine.ended all stopped c.in-Stop.is is in
-    drove_stopped G all stopped start last old new c.in_ok-fed.fed is
-    (ran_turn G n start mid last old s new going w.went) (c.all_finished.ensures c.if-all_finished.true) (took_turn G n start mid last old s new going w)
-    (c.in-Ok.ensures.no_fault (λ no. cc) ∙ c.loop.invariant.going.no_fault) stops.1 stops.0
+    let own = c.turn_once-put.ensures in
+    let N = c.args.desk.now.splitter.instances in
+    let same : n ≡ N = ap (λ x. x.instances) c.fill.ensures.rest ∙ c.loop.invariant.instances in
+    let went = went_any c.turn_once-put.result n mid last _ _ _ own.done own.failed own.short in
+    record {
+      spread = subst (λ (k : ℕ). Spread last.plan last.bound k last.journal) same (went.spread (subst (λ (k : ℕ). IsSpreading k mid) (sym same) (c.fill.ensures.filled.goes N c.loop.invariant.spreading)));
+      few = few_turn N n mid last went same (let few = c.loop.invariant.few in let out = c.fill.ensures.filled.out in omega arith);
+      read = let more = own.read in let before = c.fill.ensures.filled.read in let few = c.loop.invariant.read in omega arith;
+    }
 
 pub loop-preserved : goal.loop-preserved
 loop-preserved g c =
     let first = c.args.intake.now in
     let start = c.args.desk.now.splitter.core in
     let mid = c.fill.new.splitter.core in
+    let last = c.turn_once-put.new.desk.splitter.core in
+    let n = c.fill.new.splitter.instances in
+    let fed = c.in_ok-fed.fed in
+    let put = c.turn_once-put.result in
+    let all = c.all_finished-all.result in
     let old = g.O.Outlet.state c.args.outlet.now in
     let s = g.O.Outlet.state c.loop.outlet in
-    let last = c.turn_once.new.desk.splitter.core in
-    let n = c.fill.new.splitter.instances in
-    let new = g.O.Outlet.state c.turn_once.new.outlet in
-    let all = g.I.Intake.ended c.fill.new.intake in
+    let new = g.O.Outlet.state c.turn_once-put.new.outlet in
+    let whole = g.I.Intake.ended c.fill.new.intake in
     let stopped = Rose (g.I.Intake.stops first) (g.I.Intake.stops c.fill.new.intake) in
     let G = λ (events : List Event). g.I.Intake.gave first events c.fill.new.intake in
-    let going : Going G start mid old s =
-    going_fed _ G start c.loop.desk.splitter.core mid old s c.loop.invariant.going c.fill.ensures.filled.on (c.in_ok-fed.ensures.given first c.loop.invariant.going.run.given) in
-    let w = c.in-Ok.ensures.done in
-    let is = fed_later c.in_ok-fed.fed mid.machine.ended last.machine.ended all stopped w.went.ended
-    (c.in_ok-fed.ensures.is (g.I.Intake.stops first) c.loop.invariant.never_falls c.loop.invariant.fed) in
+    let own = c.turn_once-put.ensures in
+    let went = went_any put n mid last _ _ _ own.done own.failed own.short in
     let N = c.args.desk.now.splitter.instances in
     let same : n ≡ N = ap (λ x. x.instances) c.fill.ensures.rest ∙ c.loop.invariant.instances in
+    let goes = put_on _ fed put all c.in_default.ensures own.goes in
     record {
       can_next = tt;
       is_finite = tt;
-      going = going_turn G n start mid last old s new going w (c.in-Ok.ensures.no_fault (λ no. cc));
-      fed = is;
-      spreading = subst (λ (k : ℕ). IsSpreading k last) same (c.in-Ok.ensures.goes (subst (λ (k : ℕ). IsSpreading k mid) (sym same) (c.fill.ensures.filled.goes N c.loop.invariant.spreading)));
-      read = let more = c.turn_once.ensures.read in let before = c.fill.ensures.filled.read in let few = c.loop.invariant.read in omega arith;
-      can = c.in-Ok.ensures.can;
-      instances = c.turn_once.ensures.rest.0 ∙ same;
+      going = going_on G whole stopped start last old new fed put all c.in_default.ensures
+          (fed_turn _ G start c.loop.desk.splitter.core mid last old s new c.loop.invariant.going c.fill.ensures.filled.on (c.in_ok-fed.ensures.given first c.loop.invariant.going.run.given)
+          n put own.done own.failed own.short own.rose own.no_fault);
+      fed = fed_later fed mid.machine.ended last.machine.ended whole stopped went.ended
+          (c.in_ok-fed.ensures.is (g.I.Intake.stops first) c.loop.invariant.never_falls c.loop.invariant.fed);
+      spreading = subst (λ (k : ℕ). IsSpreading k last) same (goes (subst (λ (k : ℕ). IsSpreading k mid) (sym same) (c.fill.ensures.filled.goes N c.loop.invariant.spreading)));
+      few = few_turn N n mid last went same (let few = c.loop.invariant.few in let out = c.fill.ensures.filled.out in omega arith);
+      read = let more = own.read in let before = c.fill.ensures.filled.read in let few = c.loop.invariant.read in omega arith;
+      can = put_on _ fed put all c.in_default.ensures own.can;
+      instances = own.rest.0 ∙ same;
       free = c.help.ensures;
       plan = c.fill.ensures.same.0 ∙ c.loop.invariant.plan;
       token = c.fill.ensures.same.1 ∙ c.loop.invariant.token;
       never_falls = let low = c.fill.ensures.never_falls in let before = c.loop.invariant.never_falls in omega arith;
-      out_plan = c.turn_once.ensures.same.0 ∙ c.loop.invariant.out_plan;
-      out_token = c.turn_once.ensures.same.1 ∙ c.loop.invariant.out_token;
+      out_plan = own.same.0 ∙ c.loop.invariant.out_plan;
+      out_token = own.same.1 ∙ c.loop.invariant.out_token;
     }

@@ -1,6 +1,5 @@
 use Rattle.std.proofs.Common.{◌≡◌, Some, ℕ, ap, sym, subst, ◌∙◌, rules}
 use Rattle.sp_piece.specs.Pieced.{Pieced}
-use Rattle.sp_plan.specs.Compiled.{IsCompiled}
 use Rattle.sp_group.specs.declared.step.Step.TheVariants as s
 use Rattle.sp_core.specs.Running.{refused}
 use Rattle.sp_split.specs.Stages.{CutOff}
@@ -12,11 +11,10 @@ pub returns-in-Err-Refused-clause-turned : goal.returns-in-Err-Refused-clause-tu
 returns-in-Err-Refused-clause-turned g c =
     let old = c.args.core.now in
     let root = c.requires.root in
-    let compiled = subst IsCompiled c.plan.ensures.plan c.plan.ensures.compiled in
     let fault = rw c.in-Err-Refused.field-0-is at c.in-Err-Refused.ensures.fault in
     let refused = subst (λ (id : ℕ). refused old (s.Lease id 1024) ≡ Some c.in-Err-Refused.field-0-0) (sym root.2) fault in
     idle old c.lease.new.self c.in-Err-Refused.ensures.err c.requires.none_out
-    (none_to_read old.plan old.bound old.machine c.finished.ensures.reached compiled c.closed_come_first.ensures root.0 1024 c.in-Err-Refused.field-0-0 root.1 c.requires.none_out
+    (none_to_read old.plan old.bound old.machine c.steps_lead_to.ensures.reached c.steps_lead_to.ensures.compiled c.closed_come_first.ensures root.0 1024 c.in-Err-Refused.field-0-0 root.1 c.requires.none_out
     c.requires.undone refused)
 
 pub returns-in_err-read_whole-clause-err : goal.returns-in_err-read_whole-clause-err

@@ -1,6 +1,6 @@
 use Rattle.std.proofs.Common.{◌∙◌}
 use Rattle.std.proofs.lemmas.Result.{err_from_is_err_and}
-use Rattle.sp_split.proofs.Added.{taken_then, refused_then, short_then}
+use Rattle.sp_split.proofs.Added.{taken_then, taken_short, refused_then, short_then}
 use Rattle.sp_split.proofs.working.work_off.Goals as goal
 
 pub returns-in_err-work_once-clause-failed : goal.returns-in_err-work_once-clause-failed
@@ -22,6 +22,9 @@ returns-then-not-branch-clause-done g c = record {
   none_out = c.in_ok-work_once.ensures.done.none_out;
   all = λ _. c.in_ok-work_once.ensures.done.all c.if-not-branch.true;
 }
+
+pub returns-clause-short : goal.returns-clause-short
+returns-clause-short g c = λ _. taken_short c.args.core.now c.loop.core (g.O.Outlet.state c.args.outlet.now) (g.O.Outlet.state c.loop.outlet) c.loop.invariant.worked
 
 pub loop-preserved : goal.loop-preserved
 loop-preserved g c = record {

@@ -1,5 +1,6 @@
 use Rattle.std.proofs.Common.{◌≡◌, ℕ, ◌++◌}
 use Rattle.sp_spread.specs.Calm.{AreCalm}
+use Rattle.sp_splitter.specs.Finishing.{Finishes}
 use Rattle.sp_splitter.specs.Stages.{Goes, NoneRead, Went, matches_of}
 use Rattle.sp_splitter.proofs.finishing.finish_all.Given as goal
 
@@ -11,4 +12,5 @@ invariant-loop l = record {
   emitted : l.core.machine.emitted ≡ l.fn.core.machine.emitted ++ matches_of l.all.items;
   read : NoneRead l.fn.core l.core;
   calm : AreCalm l.core.plan l.core.machine;
+  finishes : Finishes l.fn.core l.core l.all.items;
 }

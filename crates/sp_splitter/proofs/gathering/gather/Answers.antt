@@ -1,6 +1,6 @@
 use denote.Param.Send.{sendable}
 use Rattle.sp_piece.proofs.Crossing.{job_sent, piece_sent}
-use Rattle.sp_splitter.proofs.Gathered.{Brings, gathers_then}
+use Rattle.sp_splitter.proofs.Gathered.{Brings, brings_all_none, brings_all_then, gathered_none, gathered_then}
 use Rattle.sp_splitter.proofs.gathering.gather.Goals as goal
 
 pub waiting-end-requires-send-P : goal.waiting-end-requires-send-P
@@ -12,6 +12,12 @@ collect-requires-send-J g c κs within = search (job_sent, sendable) depth 20
 pub collect-requires-send-P : goal.collect-requires-send-P
 collect-requires-send-P g c κs within = search (piece_sent, sendable) depth 20
 
+pub loop-init : goal.loop-init
+loop-init g c = record {
+  brings = brings_all_none c.args.core.now c.args.by.now;
+  gathered = gathered_none ((goal.Predictor-dyn g c.args.predictor.now).taught c.args.predictor.now.1) c.args.core.now c.args.by.now;
+}
+
 pub returns-in_err-give_back-clause-went : goal.returns-in_err-give_back-clause-went
 returns-in_err-give_back-clause-went g c =
     let brings : Brings c.loop.core c.give_back.new.core = record {
@@ -20,7 +26,7 @@ returns-in_err-give_back-clause-went g c =
       emitted = c.give_back.ensures.emitted;
       read = c.give_back.ensures.read;
     } in
-    (gathers_then c.args.core.now c.loop.core c.give_back.new.core c.args.by.now c.loop.by c.collect.new.by c.in-Some.piece c.loop.invariant brings c.in-Some.ensures).went
+    (brings_all_then c.args.core.now c.loop.core c.give_back.new.core c.args.by.now c.loop.by c.collect.new.by c.in-Some.piece c.loop.invariant.brings brings c.in-Some.ensures).went
 
 pub loop-preserved : goal.loop-preserved
 loop-preserved g c =
@@ -30,4 +36,12 @@ loop-preserved g c =
       emitted = c.give_back.ensures.emitted;
       read = c.give_back.ensures.read;
     } in
-    gathers_then c.args.core.now c.loop.core c.give_back.new.core c.args.by.now c.loop.by c.collect.new.by c.in-Some.piece c.loop.invariant brings c.in-Some.ensures
+    let of = goal.Predictor-dyn g in
+    let given = c.in_ok-give_back.ensures.given in
+    record {
+      brings = brings_all_then c.args.core.now c.loop.core c.give_back.new.core c.args.by.now c.loop.by c.collect.new.by c.in-Some.piece c.loop.invariant.brings brings c.in-Some.ensures;
+      gathered =
+          gathered_then ((of c.args.predictor.now).taught c.args.predictor.now.1) ((of c.loop.predictor.now).taught c.loop.predictor.now.1)
+          ((of (c.loop.predictor.now.0, c.learn_from.new.predictor)).taught c.learn_from.new.predictor) c.args.core.now c.loop.core c.give_back.new.core c.args.by.now c.loop.by c.collect.new.by c.in-Some.piece
+          c.in-Some.piece given.0 c.loop.invariant.gathered c.learn_from.ensures given.1 c.in-Some.ensures;
+    }

@@ -14,3 +14,14 @@ pub returns-clause-went : goal.returns-clause-went
 returns-clause-went c = λ n.
     went_then n c.args.core.now c.roll_all.new.core c.plant.new.core (c.in_ok-roll_all.ensures.goes n) (c.roll_all.ensures.went n)
     (went_then n c.roll_all.new.core c.finish_all.new.core c.plant.new.core (c.in_ok-finished.ensures.goes n) (c.finish_all.ensures.went n) (c.plant.ensures.went n))
+
+pub returns-clause-tidied : goal.returns-clause-tidied
+returns-clause-tidied c = record {
+  rolled = c.roll_all.new.core;
+  rolls = c.in_ok-roll_all.ensures.rolls;
+  calm = c.in_ok-roll_all.ensures.calm;
+  done = c.finish_all.new.core;
+  finishes = c.in_ok-finished.ensures.finishes;
+  undone = c.in_ok-finished.ensures.undone;
+  plants = c.in_ok-plant.ensures.plants;
+}

@@ -1,7 +1,6 @@
 use denote.Param.Send.{sendable}
 use Rattle.std.proofs.Common.{◌∙◌, ap, sym, subst}
 use Rattle.sp_io.specs.Outside.{Rose}
-use Rattle.sp_group.specs.Steps.{replay}
 use Rattle.sp_intake.specs.Asked.{standing}
 use Rattle.sp_intake.proofs.Crossing.{input_sent}
 use Rattle.sp_answer.specs.Outcome.{ending}
@@ -32,7 +31,7 @@ returns-in-Ok-clause-ran g c origin reads =
     let ran =
     ended_ran c.args.core c.growth.ensures c.requires.compiled origin first last reads (Rose old.events.stops new.events.stops)
     (halts new.events.state old.events.stops new.events.stops c.stop.ensures.halted) before after c.args.lines.now.taken c.drive.new.outlet.taken
-    went c.in-Ok.ensures.ended c.finished.ensures.reached.sequential in
+    went c.in-Ok.ensures.ended c.steps_lead_to.ensures.reached.sequential in
     subst (λ (s : Status). Ran (IsPlanRun q) (outside origin before) (outside last.source after) (ending s))
     (sym (c.status_of_end-status.ensures ∙ ap (status_of_end c.in-Ok.ended.why) c.stop.ensures.stop)) ran
 
@@ -44,11 +43,9 @@ returns-in-Ok-clause-report g c origin reads done =
     let last = standing (g.S.Source.state new.source.now) new.events in
     let before = g.K.Sink.state c.args.lines.now.out.now in
     let after = g.K.Sink.state c.drive.new.outlet.out.now in
-    let core = c.in-Ok.ended.core in
-    let replays = sym (ap (replay core.plan core.bound) c.journal.ensures.entries) ∙ c.journal.ensures.replays in
     reports_plan c.args.core origin first last reads (Rose old.events.stops new.events.stops)
     (halts new.events.state old.events.stops new.events.stops c.stop.ensures.halted) (outlet before c.args.lines.now.taken) (outlet after c.drive.new.outlet.taken)
-    (speed_seen c.args.speed.now) c.in-Ok.ended c.in-Ok.ensures.ended c.requires.bound replays c.in-Ok.ensures.about
+    (speed_seen c.args.speed.now) c.in-Ok.ended c.in-Ok.ensures.ended c.requires.bound c.steps_lead_to.ensures.replays c.in-Ok.ensures.about
     (sym (c.status_of_end-status.ensures ∙ ap (status_of_end c.in-Ok.ended.why) c.stop.ensures.stop) ∙ done)
 
 pub returns-in-Err-clause-ran : goal.returns-in-Err-clause-ran

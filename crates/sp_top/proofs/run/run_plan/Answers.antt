@@ -1,5 +1,4 @@
-use Rattle.std.proofs.Common.{rules, ◌≡◌, [], refl, sym, subst, ap, ◌∙◌}
-use Rattle.std.specs.Arc.{arc_value}
+use Rattle.std.proofs.Common.{rules, ◌≡◌, [], refl, sym, subst, ap}
 use Rattle.sp_plan.specs.declared.plan.Plan.{Plan}
 use Rattle.sp_core.specs.Running.{Running}
 use Rattle.sp_intake.specs.Asked.{standing}
@@ -23,38 +22,24 @@ returns-in_default-clause-ran g c =
     let old : Outside = outside state (g.K.Sink.state c.args.out.now) in
     subst (λ (a : Answer). Ran (IsPlanRun q) old old (ending a.status)) (sym c.of.ensures) (unread windows_text q old old [] (gave_none state.left) (no_further_none q) refl)
 
-pub returns-in_default-core_of-clause-ran : goal.returns-in_default-core_of-clause-ran
-returns-in_default-core_of-clause-ran g c =
-    let q = c.args.plan in
-    let state = g.S.Source.state c.args.input.now in
-    let old : Outside = outside state (g.K.Sink.state c.args.out.now) in
-    subst (λ (a : Answer). Ran (IsPlanRun q) old old (ending a.status)) (sym c.of-in_default-core_of.ensures) (unread windows_text q old old [] (gave_none state.left) (no_further_none q) refl)
-
-pub returns-in_default-new-clause-ran : goal.returns-in_default-new-clause-ran
-returns-in_default-new-clause-ran g c =
-    let q = c.args.plan in
-    let state = g.S.Source.state c.args.input.now in
-    let old : Outside = outside state (g.K.Sink.state c.args.out.now) in
-    subst (λ (a : Answer). Ran (IsPlanRun q) old old (ending a.status)) (sym c.of-in_default-new.ensures) (unread windows_text q old old [] (gave_none state.left) (no_further_none q) refl)
-
 pub returns-clause-ran : goal.returns-clause-ran
 returns-clause-ran g c =
-    let q = arc_value c.in-Ok.plan in
+    let q = c.args.plan in
     let origin = g.S.Source.state c.args.input.now in
     let made = c.over-reading.result in
     let first = standing (g.S.Source.state made.source.now) made.events in
-    let core_is : c.in-Ok-core_of.core.plan ≡ q = ap (λ (core : Running). core.plan) c.in-Ok-core_of.ensures in
-    let from : ReadsFrom q origin first = rw (c.over-reading.ensures.events, c.over-reading.ensures.source) (c.in-Ok-new.ensures.fresh origin c.requires.not_ended) in
+    let core_is : c.in-Ok.start.core.plan ≡ q = ap (λ (core : Running). core.plan) c.in-Ok.ensures.core in
+    let from : ReadsFrom q origin first = rw (c.over-reading.ensures.events, c.over-reading.ensures.source) (c.in-Ok.ensures.fresh origin c.requires.not_ended) in
     let ran = c.drive_core-answer.ensures.ran origin (subst (λ (p : Plan). ReadsFrom p origin first) (sym core_is) from) in
-    as_run c.args.plan c.in-Ok-core_of.core.plan (core_is ∙ c.in-Ok.ensures) _ _ _ _ _ _ (search rules) (search rules) ran
+    as_run c.args.plan c.in-Ok.start.core.plan core_is _ _ _ _ _ _ (search rules) (search rules) ran
 
 pub returns-clause-report : goal.returns-clause-report
 returns-clause-report g c =
-    let q = arc_value c.in-Ok.plan in
+    let q = c.args.plan in
     let origin = g.S.Source.state c.args.input.now in
     let made = c.over-reading.result in
     let first = standing (g.S.Source.state made.source.now) made.events in
-    let core_is : c.in-Ok-core_of.core.plan ≡ q = ap (λ (core : Running). core.plan) c.in-Ok-core_of.ensures in
-    let from : ReadsFrom q origin first = rw (c.over-reading.ensures.events, c.over-reading.ensures.source) (c.in-Ok-new.ensures.fresh origin c.requires.not_ended) in
+    let core_is : c.in-Ok.start.core.plan ≡ q = ap (λ (core : Running). core.plan) c.in-Ok.ensures.core in
+    let from : ReadsFrom q origin first = rw (c.over-reading.ensures.events, c.over-reading.ensures.source) (c.in-Ok.ensures.fresh origin c.requires.not_ended) in
     let report = c.drive_core-answer.ensures.report origin (subst (λ (p : Plan). ReadsFrom p origin first) (sym core_is) from) in
-    as_report c.args.plan c.in-Ok-core_of.core.plan (core_is ∙ c.in-Ok.ensures) (speed_seen c.args.speed.now) origin.left _ _ (search rules) _ _ report
+    as_report c.args.plan c.in-Ok.start.core.plan core_is (speed_seen c.args.speed.now) origin.left _ _ (search rules) _ _ report

@@ -43,7 +43,7 @@ returns-in-Some-first_not_open c =
     let i = c.self.invariant in
     let at = found _ c.in-Some.held.now c.in-Some.ensures in
     let has = has_window h i c.count.result c.in-Some.held.now.window (c.count.ensures h.events h.ended i.windows) c.if-count-held.false in
-    let group = group_is h i c.args.parent c.args.label.now at.entry at.is c.groups.result.now c.runs.result.now c.first_not_open.result c.groups.ensures c.runs.ensures.list c.first_not_open.ensures in
+    let group = group_is h i c.args.parent c.args.label.now at.entry at.is c.groups.result.now c.runs.result.now c.first_not_open.result c.groups.ensures.groups c.runs.ensures.list c.first_not_open.ensures in
     subst (λ (x : Running). Some (r.NotOpen c.in-Some-first_not_open.group) ≡ refused x (s.Spawn (Some c.args.parent) c.args.label.now)) c.self.view_is
     (sym (child_refused_as h c.args.parent c.args.label.now c.in-Some.held.now at false (Some c.in-Some-first_not_open.group) _ _ has (group ∙ c.in-Some-first_not_open.is) refl refl))
 
@@ -53,7 +53,7 @@ returns-in-Some-child c =
     let i = c.self.invariant in
     let at = found _ c.in-Some.held.now c.in-Some.ensures in
     let has = has_window h i c.count.result c.in-Some.held.now.window (c.count.ensures h.events h.ended i.windows) c.if-count-held.false in
-    let group = group_is h i c.args.parent c.args.label.now at.entry at.is c.groups.result.now c.runs.result.now c.first_not_open.result c.groups.ensures c.runs.ensures.list c.first_not_open.ensures in
+    let group = group_is h i c.args.parent c.args.label.now at.entry at.is c.groups.result.now c.runs.result.now c.first_not_open.result c.groups.ensures.groups c.runs.ensures.list c.first_not_open.ensures in
     let reach = reached c.every_schedule.ensures h i in
     let child = child_found h.plan (inner h.plan h.events) h.finished h.tree.entries c.args.parent c.args.label.now c.in-Some-child.child reach.kept.sane.shape c.in-Some-child.ensures.some in
     subst (λ (x : Running). Some (r.LabelTaken c.in-Some-child.child) ≡ refused x (s.Spawn (Some c.args.parent) c.args.label.now)) c.self.view_is
@@ -65,7 +65,7 @@ returns-then-live-bound c =
     let i = c.self.invariant in
     let at = found _ c.in-Some.held.now c.in-Some.ensures in
     let has = has_window h i c.count.result c.in-Some.held.now.window (c.count.ensures h.events h.ended i.windows) c.if-count-held.false in
-    let group = group_is h i c.args.parent c.args.label.now at.entry at.is c.groups.result.now c.runs.result.now c.first_not_open.result c.groups.ensures c.runs.ensures.list c.first_not_open.ensures in
+    let group = group_is h i c.args.parent c.args.label.now at.entry at.is c.groups.result.now c.runs.result.now c.first_not_open.result c.groups.ensures.groups c.runs.ensures.list c.first_not_open.ensures in
     let child = no_child h.tree.entries c.args.parent c.args.label.now (c.in_default-child.ensures.none refl) in
     let live = c.live-live.ensures.live in
     let bound = c.bound-bound.ensures in
@@ -80,7 +80,7 @@ returns-else-live-bound c =
     let i = c.self.invariant in
     let at = found _ c.in-Some.held.now c.in-Some.ensures in
     let has = has_window h i c.count.result c.in-Some.held.now.window (c.count.ensures h.events h.ended i.windows) c.if-count-held.false in
-    let group = group_is h i c.args.parent c.args.label.now at.entry at.is c.groups.result.now c.runs.result.now c.first_not_open.result c.groups.ensures c.runs.ensures.list c.first_not_open.ensures in
+    let group = group_is h i c.args.parent c.args.label.now at.entry at.is c.groups.result.now c.runs.result.now c.first_not_open.result c.groups.ensures.groups c.runs.ensures.list c.first_not_open.ensures in
     let child = no_child h.tree.entries c.args.parent c.args.label.now (c.in_default-child.ensures.none refl) in
     let live = c.live-live.ensures.live in
     let bound = c.bound-bound.ensures in

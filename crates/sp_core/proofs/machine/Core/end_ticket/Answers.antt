@@ -3,12 +3,12 @@ use Rattle.sp_group.specs.declared.step.Entry.{Entry}
 use Rattle.sp_group.specs.declared.step.Step.TheVariants as s
 use Rattle.sp_group.specs.Machine.{ticket_at}
 use Rattle.sp_core.specs.Carrying.{ticket_of}
-use Rattle.sp_core.specs.Returning.{IsPlaceOf}
+use Rattle.sp_core.specs.Returning.{IsPlaceOf, without_ticket}
 use Rattle.sp_core.specs.Rooms.{room}
 use Rattle.sp_core.specs.Running.{Running, after, once}
 use Rattle.sp_core.specs.Holding.{holding}
 use Rattle.sp_core.proofs.Carried.{place_within}
-use Rattle.sp_core.proofs.Ended.{out_at, core_ended, running_ended}
+use Rattle.sp_core.proofs.Ended.{out_at, core_ended, machine_left, running_ended}
 use Rattle.sp_core.proofs.machine.Core.end_ticket.Goals as goal
 
 pub remove-lent-requires : goal.remove-lent-requires
@@ -51,3 +51,17 @@ returns-clause-ok c =
     let journal = c.enter.ensures.items ∙ ap (λ (es : List Entry). es ++ once (s.Return n) ∷ []) c.make_room.ensures.items in
     running_ended h n d left out (room c.enter.new.journal) c.put_back_for.new.tree c.enter.new.journal.items c.put_back_for.ensures journal
     ∙ ap (λ (r : Running). after r (s.Return n)) c.self.view_is
+
+pub returns-clause-left : goal.returns-clause-left
+returns-clause-left c =
+    let h = holding c.self.inside in
+    let n = c.args.ticket in
+    let d = c.remove-lent.result in
+    let left = c.remove-lent.new.self.items in
+    let at = subst (λ (r : Running). IsPlaceOf r.machine.tickets n c.in-Some.place) (sym c.self.view_is) c.in-Some.ensures.some in
+    let out = out_at c.every_schedule.ensures h c.self.invariant n c.in-Some.place d left at c.remove-lent.ensures.value c.remove-lent.ensures.items in
+    let journal = c.enter.ensures.items ∙ ap (λ (es : List Entry). es ++ once (s.Return n) ∷ []) c.make_room.ensures.items in
+    let new = running_ended h n d left out (room c.enter.new.journal) c.put_back_for.new.tree c.enter.new.journal.items c.put_back_for.ensures journal in
+    ap (λ (r : Running). r.machine) new
+    ∙ machine_left h n d left out
+    ∙ ap (λ (r : Running). without_ticket r.machine n) c.self.view_is

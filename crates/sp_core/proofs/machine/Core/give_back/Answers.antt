@@ -3,7 +3,7 @@ use Rattle.sp_piece.specs.declared.job.Job.{Job}
 use Rattle.sp_group.specs.declared.step.Step.TheVariants as s
 use Rattle.sp_group.specs.Machine.{ticket_at, version_at}
 use Rattle.sp_core.specs.Carrying.{ticket_of}
-use Rattle.sp_core.specs.Returning.{IsPlaceOf, IsCarried}
+use Rattle.sp_core.specs.Returning.{IsPlaceOf, IsCarried, without_ticket}
 use Rattle.sp_core.specs.Running.{Running, after}
 use Rattle.sp_core.specs.Holding.{holding}
 use Rattle.sp_core.proofs.Carried.{out_there, place_within}
@@ -32,7 +32,8 @@ returns-in-Ok-clause-given c =
     let new = subst (λ (job : Job). c.end_ticket.new.self ≡ after c.args.self.now (s.Return job.ticket)) c.job.ensures c.in-Ok.ensures.ok in
     let live = subst (λ (r : Running). is_some (version_at r.machine.versions d.version) ≡ true) c.self.view_is
     (live_where_got h.tree.entries d.version c.get.result c.get.ensures ∙ sym c.is_some-live.ensures ∙ c.if-live.true) in
-    differs c.args.self.now c.end_ticket.new.self c.args.piece c.in-Ok.lent d.version is (same_version c.in-Ok.lent d _ is out) new live
+    let left = subst (λ (job : Job). c.end_ticket.new.self.machine ≡ without_ticket c.args.self.now.machine job.ticket) c.job.ensures c.in-Ok.ensures.left in
+    differs c.args.self.now c.end_ticket.new.self c.args.piece c.in-Ok.lent d.version is (same_version c.in-Ok.lent d _ is out) new left live
     (λ carried. let yes = c.is_carried.ensures.1 (subst (IsCarried c.args.self.now) (sym c.job-2.ensures) carried) in let not = c.if-is_carried.false in cc)
 
 pub returns-in-Ok-2-clause-given : goal.returns-in-Ok-2-clause-given

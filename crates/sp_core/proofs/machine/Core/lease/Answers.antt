@@ -14,18 +14,6 @@ lent-requires c = record { passes = sym (c.lease_refusal.ensures c.args.count) �
 pub returns-in_err-lent-clause-fault : goal.returns-in_err-lent-clause-fault
 returns-in_err-lent-clause-fault c = let p = err_from_is_err_and c.from_residual.result c.from_residual.ensures.1 in rw (p.1, p.2) tt
 
-pub job-requires-clause-lent : goal.job-requires-clause-lent
-job-requires-clause-lent c =
-    let is = c.in_ok-lent.ensures in
-    subst (λ (id : ℕ). IsLent c.args.self.now id c.args.count c.in_ok-lent.lent) (sym is.version) is.lent
-
-pub job-requires-clause-passes : goal.job-requires-clause-passes
-job-requires-clause-passes c =
-    subst (λ (id : ℕ). refused c.args.self.now (s.Lease id c.args.count) ≡ None) (sym c.in_ok-lent.ensures.version) (sym (c.lease_refusal.ensures c.args.count) ∙ c.in_default.is)
-
-pub returns-in_err-job-clause-fault : goal.returns-in_err-job-clause-fault
-returns-in_err-job-clause-fault c = let p = err_from_is_err_and c.from_residual-in_err-job.result c.from_residual-in_err-job.ensures.1 in rw (p.1, p.2) tt
-
 pub put_out-requires-clause-lent : goal.put_out-requires-clause-lent
 put_out-requires-clause-lent c =
     let is = c.in_ok-lent.ensures in
@@ -46,4 +34,4 @@ returns-clause-done c = (
 )
 
 pub returns-clause-job : goal.returns-clause-job
-returns-clause-job c = subst (λ (id : ℕ). IsLeased c.args.self.now id c.args.count c.in_ok-job.job) c.in_ok-lent.ensures.version c.in_ok-job.ensures.job
+returns-clause-job c = subst (λ (id : ℕ). IsLeased c.args.self.now id c.args.count c.in_ok-put_out.field-0) c.in_ok-lent.ensures.version c.in_ok-put_out.ensures.job

@@ -4,14 +4,6 @@ use Rattle.sp_core.specs.Leasing.{IsLent}
 use Rattle.sp_core.specs.Running.{refused}
 use Rattle.sp_core.proofs.machine.Core.lend.Goals as goal
 
-pub job-requires-clause-lent : goal.job-requires-clause-lent
-job-requires-clause-lent c =
-    let is = c.in_ok-lent.ensures in
-    subst (λ (id : ℕ). IsLent c.args.self.now id c.args.count c.in_ok-lent.lent) (sym is.version) is.lent
-
-pub job-requires-clause-passes : goal.job-requires-clause-passes
-job-requires-clause-passes c = subst (λ (id : ℕ). refused c.args.self.now (s.Lease id c.args.count) ≡ None) (sym c.in_ok-lent.ensures.version) c.requires.passes
-
 pub put_out-requires-clause-lent : goal.put_out-requires-clause-lent
 put_out-requires-clause-lent c =
     let is = c.in_ok-lent.ensures in

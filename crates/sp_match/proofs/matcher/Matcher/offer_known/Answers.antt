@@ -12,18 +12,18 @@ use Rattle.sp_match.specs.inside.Keeping.{IsKept}
 use Rattle.sp_match.specs.inside.Handling.{count_after}
 use Rattle.sp_match.specs.public.Seen.{seen}
 use Rattle.sp_match.proofs.MatcherAfterEvent.{ready}
-use Rattle.sp_match.proofs.EventIsOffered.{back, kept_after, offered}
+use Rattle.sp_match.proofs.EventIsOffered.{back, kept_after, offered, wanted_after}
 use Rattle.sp_match.proofs.matcher.Matcher.offer_known.Goals as goal
 
-pub handle_told-requires-clause-ready : goal.handle_told-requires-clause-ready
-handle_told-requires-clause-ready c =
+pub handle_all-requires-clause-ready : goal.handle_all-requires-clause-ready
+handle_all-requires-clause-ready g c =
     let ks = map kept c.self.inside.runs.items in
     let count = c.self.inside.count in
     subst (λ (q : Plan). IsReady q c.args.number count ks) (sym c.deref-2.ensures)
     (ready (arc_value c.self.inside.plan) c.args.number count ks c.self.invariant (subst (λ (m : Matching). Below c.args.number (runs_of m)) (sym c.self.view_is) c.requires.below))
 
 pub invariant_of-self : goal.invariant_of-self
-invariant_of-self c =
+invariant_of-self g c =
     let q = arc_value c.self.inside.plan in
     let x : Numbered = (c.args.number, c.args.event.now) in
     let old = map kept c.self.inside.runs.items in
@@ -31,38 +31,38 @@ invariant_of-self c =
     let count = c.self.inside.count in
     let after : Matching = record { plan = q; open_runs = map started settled; started = count_after count c.in-Ok.started } in
     subst (λ (n : ℕ). IsKept q n settled) (sym c.count_after-self-inside.ensures)
-    (kept_after q c.deref-2.result.now x count old c.in-Ok.started (map kept c.handle_told.new.runs.items) settled (map seen c.handle_told.new.list.items) c.args.self.now after c.deref-2.ensures c.self.view_is c.self.invariant
+    (kept_after q c.deref-2.result.now x count old c.in-Ok.started (map kept c.handle_all.new.runs.items) settled (map seen c.handle_all.new.moves.list.items) c.args.self.now after c.deref-2.ensures c.self.view_is c.self.invariant
     c.in-Ok.ensures.handled c.settle.ensures.runs refl (subst (λ (p : Plan). All (Good p) settled) (c.deref-in-Ok.ensures ∙ sym c.deref-2.ensures) c.settle.ensures.good) c.settle.ensures.idle)
 
 pub returns-in-Ok : goal.returns-in-Ok
-returns-in-Ok c =
+returns-in-Ok g c =
     let q = arc_value c.self.inside.plan in
     let x : Numbered = (c.args.number, c.args.event.now) in
     let settled = map kept c.settle.new.runs.items in
     let after : Matching = record { plan = q; open_runs = map started settled; started = c.count_after-self-inside.result } in
     let count = c.self.inside.count in
     let old = map kept c.self.inside.runs.items in
-    let new = map kept c.handle_told.new.runs.items in
-    let ts = map seen c.handle_told.new.list.items in
+    let new = map kept c.handle_all.new.runs.items in
+    let ts = map seen c.handle_all.new.moves.list.items in
     let m = c.args.self.now in
     let later : after ≡ (record { plan = q; open_runs = map started settled; started = count_after count c.in-Ok.started }) = λ i. record { plan = q; open_runs = map started settled; started = c.count_after-self-inside.ensures i } in
     let o = offered q c.deref-2.result.now x count old c.in-Ok.started new settled ts m after c.deref-2.ensures c.self.view_is c.self.invariant c.in-Ok.ensures.handled c.settle.ensures.runs later c.requires.below in
-    record { stands = o.stands; told = o.tells; below = o.stays_below; plan = search rules; err = search rules; cleared = search rules }
+    record { stands = o.stands; told = o.tells; wanted = λ asked. wanted_after q c.deref-2.result.now x count old c.in-Ok.started new settled ts m after c.deref-2.ensures c.self.view_is c.self.invariant c.in-Ok.ensures.handled c.settle.ensures.runs later c.handle_all.new.moves.wanted.items (c.in-Ok.ensures.wanted asked); below = o.stays_below; plan = search rules; err = search rules; cleared = search rules }
 
 pub invariant_of-self-in-Err : goal.invariant_of-self-in-Err
-invariant_of-self-in-Err c =
+invariant_of-self-in-Err g c =
     let q = arc_value c.self.inside.plan in
     let old = map kept c.self.inside.runs.items in
     let same : map kept c.undo.new.runs.items ≡ old =
-    back q c.deref-2.result.now old (map kept c.handle_told.new.runs.items) (map kept c.undo.new.runs.items) (length c.self.inside.runs.items) c.len-open.result c.self.invariant.idle (c.len-open.ensures ∙ c.self.inside.runs.ok.0) c.in-Err.ensures.undoes
+    back q c.deref-2.result.now old (map kept c.handle_all.new.runs.items) (map kept c.undo.new.runs.items) (length c.self.inside.runs.items) c.len-open.result c.self.invariant.idle (c.len-open.ensures ∙ c.self.inside.runs.ok.0) c.in-Err.ensures.undoes
     c.undo.ensures in
     subst (IsKept q c.self.inside.count) (sym same) c.self.invariant
 
 pub returns-in-Err-clause-err : goal.returns-in-Err-clause-err
-returns-in-Err-clause-err c =
+returns-in-Err-clause-err g c =
     let q = arc_value c.self.inside.plan in
     let old = map kept c.self.inside.runs.items in
     let same : map kept c.undo.new.runs.items ≡ old =
-    back q c.deref-2.result.now old (map kept c.handle_told.new.runs.items) (map kept c.undo.new.runs.items) (length c.self.inside.runs.items) c.len-open.result c.self.invariant.idle (c.len-open.ensures ∙ c.self.inside.runs.ok.0) c.in-Err.ensures.undoes
+    back q c.deref-2.result.now old (map kept c.handle_all.new.runs.items) (map kept c.undo.new.runs.items) (length c.self.inside.runs.items) c.len-open.result c.self.invariant.idle (c.len-open.ensures ∙ c.self.inside.runs.ok.0) c.in-Err.ensures.undoes
     c.undo.ensures in
     (λ i. record { plan = q; open_runs = map started (same i); started = c.self.inside.count }) ∙ c.self.view_is

@@ -1,9 +1,11 @@
 use Rattle.std.proofs.Common.{◌≡◌, ◌⊎◌, inl, inr, ℕ, ◌+◌, ◌≤◌, List, [], ◌++◌, subst, sym, ◌∙◌, ap, arith}
 use Rattle.sp_plan.specs.declared.found.Match.{Match}
 use Rattle.sp_piece.specs.declared.job.Job.{Job}
+use Rattle.sp_splitter.specs.Gathering.{Gathered}
 use Rattle.sp_splitter.specs.Splitting.{IsBelowKept}
 use Rattle.sp_splitter.specs.Stages.{ReadByCalls, matches_of}
 use Rattle.sp_splitter.proofs.Below.{below_later}
+use Rattle.sp_splitter.proofs.SentNone.{sends_gathered, sends_then, sends_tidied}
 use Rattle.sp_splitter.proofs.Stepping.{goes_then, went_then}
 use Rattle.sp_splitter.proofs.splitter.Splitter.turn.Goals as goal
 
@@ -52,6 +54,8 @@ returns-clause-turned g c =
     let finished = c.in_ok-finished.finished.items in
     let emitted : c.tidy.new.core.machine.emitted ≡ c.args.self.now.core.machine.emitted ++ matches_of finished =
     c.in_ok-finished.ensures.emitted ∙ ap (λ (z : List Match). z ++ matches_of finished) c.gather.ensures.emitted in
+    let gathered = c.in_ok-read.ensures.gathered in
+    let taught_then = (goal.Predictor-dyn g (c.deref_box_mut-1.result.now.0, c.gather.new.predictor)).taught c.gather.new.predictor in
     let came : ReadByCalls c.args.self.now.core c.guess_and_send.new.core c.args.by.now c.gather.new.by = omega arith in
     record {
       emitted = c.guess_and_send.ensures.emitted ∙ emitted;
@@ -61,13 +65,22 @@ returns-clause-turned g c =
           (c.post_kept.ensures.room ∙ c.gather.ensures.by.room ∙ c.requires.room) c.in_ok-post_kept.ensures.all;
       wide = c.in_ok-self.ensures.wide;
       guessed = c.in_ok-self.ensures.guessed;
+      home = c.gather.new.core;
+      collected = c.gather.new.by;
+      gathered =
+          subst (λ d. Gathered ((goal.Predictor-dyn g d).taught d.1) taught_then c.args.self.now.core c.gather.new.core c.args.by.now c.gather.new.by)
+          c.deref_box_mut-1.ensures.value.1 gathered;
       planted = c.tidy.new.core;
+      tidied = c.in_ok-finished.ensures.tidied;
+      sends_none =
+          sends_then c.args.self.now.core c.gather.new.core c.tidy.new.core
+          (sends_gathered c.args.self.now.core c.gather.new.core gathered.count gathered.pairs gathered.back)
+          (sends_tidied c.gather.new.core c.tidy.new.core finished c.in_ok-finished.ensures.tidied);
       went = went_then n c.args.self.now.core c.gather.new.core c.tidy.new.core (c.in_ok-read.ensures.goes n) (c.gather.ensures.went n) (c.tidy.ensures.went n);
       finished_then = emitted;
       settled_then = c.in_ok-finished.ensures.settled;
       sendable = c.guess_and_send.new.kept.items;
       sent = c.in_ok-self.ensures.sent;
-      collected = c.gather.new.by;
       came = came;
       each = c.in_ok-post_kept.ensures.each;
       goes = goes_then n c.args.self.now.core c.tidy.new.core c.guess_and_send.new.core tidied c.in_ok-self.ensures.goes;

@@ -6,14 +6,14 @@ use Rattle.sp_tree.specs.Grown.{groups_of}
 use Rattle.sp_tree.proofs.Renewed.{some_entry, no_entry}
 use Rattle.sp_tree.proofs.tree.Tree.groups.Goals as goal
 
-pub returns-in-Some : goal.returns-in-Some
-returns-in-Some g c =
+pub returns-in-Some-clause-groups : goal.returns-in-Some-clause-groups
+returns-in-Some-clause-groups g c =
     let at = sym (ap (λ (z : List Version). entry_at branches z c.args.id) c.deref.ensures.value) ∙ sym c.in-Some.ensures in
     let e = some_entry c.self.inside.versions.items c.self.inside.values.entries c.args.id c.in-Some.version.now c.self.invariant.both.ids at in
     rw (← c.self.view_is) (c.runs.ensures.list ∙ ap groups_of (sym e.1))
 
-pub returns-in-None : goal.returns-in-None
-returns-in-None g c =
+pub returns-in-None-clause-groups : goal.returns-in-None-clause-groups
+returns-in-None-clause-groups g c =
     let at = sym (ap (λ (z : List Version). entry_at branches z c.args.id) c.deref.ensures.value) ∙ sym c.in-None.ensures in
     let e = no_entry c.self.inside.versions.items c.self.inside.values.entries c.args.id c.self.invariant.both.ids at in
     rw (← c.self.view_is) (ap groups_of (sym e))

@@ -1,5 +1,0 @@
-use Rattle.sp_match.proofs.MovesAreHandling.{moves_are_handling}
-use Rattle.sp_match.proofs.laws.moves_are_handling.Goals as goal
-
-pub returns : goal.returns
-returns c = moves_are_handling

@@ -1,5 +1,0 @@
-use Rattle.sp_match.proofs.SeveralAreLawful.{several_are_lawful}
-use Rattle.sp_match.proofs.laws.several_are_lawful.Goals as goal
-
-pub returns : goal.returns
-returns c = several_are_lawful

@@ -1,5 +1,0 @@
-use Rattle.sp_piece.proofs.Telling.{reading_tells}
-use Rattle.sp_piece.proofs.laws.readings_tell_matches.Goals as goal
-
-pub returns : goal.returns
-returns c = reading_tells c.handling_is_lawful.ensures c.completions_are_matches.ensures

@@ -1,5 +1,0 @@
-use Rattle.sp_plan.proofs.KnownAnswers.{right}
-use Rattle.sp_plan.proofs.laws.known_is_right.Goals as goal
-
-pub returns : goal.returns
-returns c = right

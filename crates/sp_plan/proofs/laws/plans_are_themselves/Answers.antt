@@ -1,5 +1,0 @@
-use Rattle.sp_plan.proofs.SamePlans.{own_plan}
-use Rattle.sp_plan.proofs.laws.plans_are_themselves.Goals as goal
-
-pub returns : goal.returns
-returns c = own_plan

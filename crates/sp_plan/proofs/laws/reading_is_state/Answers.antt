@@ -1,5 +1,0 @@
-use Rattle.sp_plan.proofs.Readings.{reading_is_state}
-use Rattle.sp_plan.proofs.laws.reading_is_state.Goals as goal
-
-pub returns : goal.returns
-returns c = reading_is_state

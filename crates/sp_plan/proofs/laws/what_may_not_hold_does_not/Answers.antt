@@ -1,5 +1,0 @@
-use Rattle.sp_plan.proofs.KnownAnswers.{may_not}
-use Rattle.sp_plan.proofs.laws.what_may_not_hold_does_not.Goals as goal
-
-pub returns : goal.returns
-returns c = may_not

@@ -1,6 +1,0 @@
-use Rattle.sp_rules.proofs.Lasting.{step_lasts}
-use Rattle.sp_rules.proofs.lent_stays.Goals as goal
-
-pub returns : goal.returns
-returns c = λ q bound m x number t u after compiled kept fits out still live.
-    step_lasts q (c.compiled_plans_are_lawful.ensures q compiled) bound m x number t u kept fits out still after live

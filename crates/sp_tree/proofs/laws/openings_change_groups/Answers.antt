@@ -1,5 +1,0 @@
-use Rattle.sp_tree.proofs.Decided.{openings_change}
-use Rattle.sp_tree.proofs.laws.openings_change_groups.Goals as goal
-
-pub returns : goal.returns
-returns g c = openings_change _
