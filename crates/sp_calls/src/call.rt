@@ -2,15 +2,18 @@ ghost use Rattle.std.specs.Arc.{arc_value};
 ghost use Rattle.sp_plan.specs.Compiled.{IsCompiled};
 
 use crate::bindings::bindings;
+use crate::chances::chances;
 use crate::cutting::cut_rows;
 use crate::drill::{generated, summary};
 use crate::given::{events_of, plan_of};
+use crate::guessing::guess;
 use crate::lines::{read_line, written_line};
 use crate::loads::loads;
 use crate::machine::machine;
 use crate::matching::moves;
 use crate::numbers::{numbers, shares};
 use crate::predicates::predicates;
+use crate::predicting::predict;
 use crate::queries::{printed, same};
 use crate::rows::rows;
 use crate::schedule::schedule;
@@ -35,14 +38,29 @@ pub fn answer(
     input: &[u8],
 ) -> Result<String, AllocError> {
     let mut out = Answer::new(alloc);
-    match call {
-        "tokens" => tokens(alloc, input, &mut out)?,
-        "cut" => cut_rows(alloc, words, input, &mut out)?,
-        "loads" => loads(alloc, words, files, &mut out),
-        "schedule" => schedule(alloc, input, &mut out),
-        _ => answer_of_words(alloc, call, words, input, &mut out)?,
-    }
+    push_answer(alloc, call, words, files, input, &mut out)?;
     out.into_text()
+}
+
+// Appends what the call of this name answers.
+fn push_answer(
+    alloc: Global,
+    call: &str,
+    words: &[String],
+    files: &mut MemFiles,
+    input: &[u8],
+    out: &mut Answer,
+) -> Result<(), AllocError> {
+    match call {
+        "tokens" => tokens(alloc, input, out),
+        "cut" => cut_rows(alloc, words, input, out),
+        "loads" => Ok(loads(alloc, words, files, out)),
+        "schedule" => Ok(schedule(alloc, input, out)),
+        "predict" => predict(alloc, words, out),
+        "chances" => chances(alloc, words, out),
+        "guesses" => guess(alloc, words, out),
+        _ => answer_of_words(alloc, call, words, input, out),
+    }
 }
 
 // The same of the calls that are made on words alone.

@@ -96,6 +96,14 @@ pub(crate) fn long_number(text: &str) -> u64 {
     text.parse().unwrap_or(0)
 }
 
+/// The two numbers that a text is, with a comma between them, and 0 where one is missing.
+pub(crate) fn two_numbers(text: &str) -> (u32, u32) {
+    match text.split_once(',') {
+        Some((first, second)) => (number(first), number(second)),
+        None => (number(text), 0),
+    }
+}
+
 /// The numbers that a text lists, parted by commas, and none of a dash.
 pub(crate) fn numbers_of(alloc: Global, text: &str) -> Result<Vec<u32>, AllocError> {
     let mut list = Vec::new(alloc);

@@ -10,15 +10,19 @@
 
 mod bindings;
 mod call;
+mod chances;
 mod cutting;
 mod drill;
 mod given;
+mod guessing;
+mod journal;
 mod lines;
 mod loads;
 mod machine;
 mod matching;
 mod numbers;
 mod predicates;
+mod predicting;
 mod queries;
 mod rows;
 mod schedule;
@@ -31,3 +35,4 @@ mod tokens;
 mod windows;
 
 pub use call::answer;
+pub use journal::{beginning_of, counts_of};

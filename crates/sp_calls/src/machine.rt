@@ -23,24 +23,6 @@ struct Bench<'a> {
     pieces: Vec<Piece>,
 }
 
-// Appends a number, which ends the line.
-fn push_last(text: &str, number: u64, out: &mut Answer) {
-    out.number(text, i128::from(number));
-    out.text("\n");
-}
-
-// Appends numbers of events with commas between them, or a dash.
-fn push_events(numbers: &[u32], out: &mut Answer) {
-    if numbers.is_empty() {
-        out.text("-");
-    }
-    let mut before = "";
-    for number in numbers {
-        out.number(before, i128::from(*number));
-        before = ",";
-    }
-}
-
 // Appends the values of a refusal.
 fn push_values(refusal: &Refusal, out: &mut Answer) {
     match *refusal {
@@ -87,8 +69,8 @@ fn push_job(job: &Job, out: &mut Answer) {
     out.number(" first=", i128::from(job.first));
     out.number(" count=", job.events.as_slice().len() as i128);
     out.text(" skip=");
-    push_events(job.snapshot.list(), out);
-    push_last(" closes=", u64::from(job.closes), out);
+    out.commas(job.snapshot.list());
+    out.last(" closes=", u64::from(job.closes));
 }
 
 // Where the piece of a ticket stands.
@@ -124,7 +106,7 @@ fn push_emitted(
     out.number("finish ", i128::from(emitted.window));
     out.number(" matches=", emitted.matches.len() as i128);
     match emitted.root {
-        Some(root) => push_last(" root=", root, out),
+        Some(root) => out.last(" root=", root),
         None => out.text(" root=-\n"),
     }
     for one in &emitted.matches {
@@ -140,7 +122,7 @@ impl Bench<'_> {
             return Ok(out.text("feed none\n"));
         };
         match feed_next(alloc, &mut self.core, event.copy(alloc)?) {
-            Ok(Some(number)) => Ok(push_last("feed ", u64::from(number), out)),
+            Ok(Some(number)) => Ok(out.last("feed ", u64::from(number))),
             Ok(None) => Ok(out.text("feed of an event that does not fit\n")),
             Err(fault) => push_fault("feed", &fault, out),
         }
@@ -167,7 +149,7 @@ impl Bench<'_> {
             return Ok(out.text("no label\n"));
         };
         match self.core.spawn(alloc, parent, label) {
-            Ok(id) => Ok(push_last("spawn ", id, out)),
+            Ok(id) => Ok(out.last("spawn ", id)),
             Err(fault) => push_fault("spawn", &fault, out),
         }
     }
@@ -275,7 +257,7 @@ impl Bench<'_> {
         match self.core.roll(version) {
             Ok(id) => {
                 out.number("roll ", i128::from(version));
-                push_last(" ", id, out);
+                out.last(" ", id);
             }
             Err(refusal) => push_refusal("roll", &refusal, out),
         }
@@ -296,7 +278,7 @@ impl Bench<'_> {
     // The conflict of a version.
     fn conflict(&self, version: u64, out: &mut Answer) -> Result<(), AllocError> {
         match conflict_of(&self.core, version)? {
-            Some(event) => push_last("conflict ", u64::from(event), out),
+            Some(event) => out.last("conflict ", u64::from(event)),
             None => out.text("conflict -\n"),
         }
         Ok(())

@@ -29,9 +29,27 @@ impl Answer {
         self.is_whole &= write!(self.text, "{text}{number}").is_ok();
     }
 
+    /// Appends a text and a number, which ends the line.
+    pub(crate) fn last(&mut self, text: &str, number: u64) {
+        self.number(text, i128::from(number));
+        self.text("\n");
+    }
+
     /// Appends a text and a list of numbers.
     pub(crate) fn list(&mut self, text: &str, numbers: &[u32]) {
         self.is_whole &= write!(self.text, "{text}{numbers:?}").is_ok();
+    }
+
+    /// Appends numbers with commas between them, or a dash.
+    pub(crate) fn commas(&mut self, numbers: &[u32]) {
+        if numbers.is_empty() {
+            self.text("-");
+        }
+        let mut before = "";
+        for number in numbers {
+            self.number(before, i128::from(*number));
+            before = ",";
+        }
     }
 
     /// Appends a text that was made, if there was memory for it.

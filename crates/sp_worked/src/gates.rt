@@ -1,35 +1,11 @@
 // Gates that delay some of the jobs: whichever they are, a run is to come to the same.
-use crate::fault::Fault;
 use sp_instance::Gate;
+use sp_sheet::Delayed;
 use std::sync::atomic::AtomicU64;
 use std::sync::atomic::Ordering::SeqCst;
 
 // How often a delay looks whether it is over.
 const LOOKS: u32 = 100_000;
-
-/// Which jobs are delayed.
-#[derive(Clone, Copy, Drop)]
-pub(crate) enum Delayed {
-    None,
-    /// The first one that was leased.
-    First,
-    /// Those that are done at the seat of this number.
-    AtSeat(u32),
-    /// Every second one.
-    Odd,
-}
-
-/// The jobs that a word says.
-pub(crate) fn delayed_by(word: &str) -> Result<Delayed, Fault> {
-    Ok(match word {
-        "open" => Delayed::None,
-        "first" => Delayed::First,
-        "seat0" => Delayed::AtSeat(0),
-        "seat1" => Delayed::AtSeat(1),
-        "odd" => Delayed::Odd,
-        _ => return Err(Fault::Bad("no such gate")),
-    })
-}
 
 /// Delays these jobs before they are done.
 #[derive(Drop)]

@@ -1,7 +1,6 @@
 use crate::escapes::{Named, unescaped};
 use crate::fault::Fault;
-use crate::key::key_of;
-use crate::line::{Line, push, repeated};
+use crate::line::{push, put, repeated};
 use crate::row::Row;
 use std::alloc::Global;
 
@@ -12,7 +11,7 @@ struct Reader {
     rows: Vec<Row>,
 }
 
-/// The rows of a file, or the number of the first line, from 1, that is not taken, and why.
+/// The rows of a sheet, or the number of the first line, from 1, that is not taken, and why.
 pub(crate) fn rows_of(alloc: Global, text: &str) -> Result<Vec<Row>, (usize, Fault)> {
     let mut reader = Reader {
         named: Vec::new(alloc),
@@ -34,23 +33,12 @@ impl Reader {
         if line.is_empty() || line.starts_with('#') {
             return Ok(());
         }
-        match line.split_once(' ') {
-            Some((key, text)) => self.take_part(alloc, key, text),
-            None => self.take_part(alloc, line, ""),
-        }
-    }
-
-    // Takes a line of this word and text.
-    fn take_part(&mut self, alloc: Global, word: &str, text: &str) -> Result<(), Fault> {
-        let (word, times) = repeated(word)?;
-        match word {
+        let (word, text) = line.split_once(' ').unwrap_or((line, ""));
+        let (key, times) = repeated(word)?;
+        match key {
             "row" => self.begin(alloc, text),
             "let" => self.name(alloc, text, times),
-            _ => {
-                let key = key_of(word)?;
-                let text = unescaped(alloc, self.named.as_slice(), text)?;
-                self.put(alloc, Line { key, times, text })
-            }
+            _ => self.put(alloc, key, times, text),
         }
     }
 
@@ -63,7 +51,7 @@ impl Reader {
     // Gives a name to so many times a text.
     fn name(&mut self, alloc: Global, text: &str, times: u32) -> Result<(), Fault> {
         let Some((name, text)) = text.split_once(' ') else {
-            return Err(Fault::Bad("a name without a text"));
+            return Err(Fault("a name without a text"));
         };
         let text = unescaped(alloc, self.named.as_slice(), text)?;
         let bytes = text.bytes.repeat(alloc, times as usize)?;
@@ -72,10 +60,11 @@ impl Reader {
     }
 
     // Puts a part into the last row.
-    fn put(&mut self, alloc: Global, line: Line) -> Result<(), Fault> {
+    fn put(&mut self, alloc: Global, key: &str, times: u32, text: &str) -> Result<(), Fault> {
+        let text = unescaped(alloc, self.named.as_slice(), text)?;
         match self.rows.last_mut() {
-            Some(row) => line.put(alloc, row),
-            None => Err(Fault::Bad("a part before the first row")),
+            Some(row) => put(alloc, key, times, &text, row),
+            None => Err(Fault("a part before the first row")),
         }
     }
 }

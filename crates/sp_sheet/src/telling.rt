@@ -1,48 +1,17 @@
+// What is told of a row that differs.
 use crate::call::Outcome;
-use crate::fault::Fault;
 use std::io;
 
-/// Tells on the error output which line of a file of rows is not taken, and why.
-pub(crate) fn tell_line(
-    rt: &impl Eprint,
-    file: &str,
-    line: usize,
-    fault: &Fault,
-) -> io::Result<()> {
-    let why = match fault {
-        Fault::Memory => "no memory",
-        Fault::Bad(why) => why,
-    };
-    eprintln!(rt; "{file}, line {line}: {why}")
-}
-
-/// Tells on the error output what was expected of a row and what came.
-pub(crate) fn tell_row(
-    rt: &impl Eprint,
-    file: &str,
-    name: &str,
-    expected: &Outcome,
-    came: &Outcome,
-) -> io::Result<()> {
-    eprintln!(rt; "{file}: differs: {name}")?;
+/// Tells on the error output what of an outcome differs from what was expected.
+pub(crate) fn tell(rt: &impl Eprint, expected: &Outcome, came: &Outcome) -> io::Result<()> {
     if expected.status != came.status {
         eprintln!(rt;
             "  status: expected {}, came {}",
             expected.status, came.status
         )?;
     }
-    tell_bytes(
-        rt,
-        "output",
-        expected.output.as_slice(),
-        came.output.as_slice(),
-    )?;
-    tell_bytes(
-        rt,
-        "error output",
-        expected.error.as_slice(),
-        came.error.as_slice(),
-    )
+    tell_bytes(rt, "output", &expected.output, &came.output)?;
+    tell_bytes(rt, "error output", &expected.error, &came.error)
 }
 
 // The most bytes of a text that are told.

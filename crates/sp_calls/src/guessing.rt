@@ -5,7 +5,8 @@ ghost use Rattle.sp_plan.specs.Runs.{is_among};
 ghost use Rattle.sp_group.specs.Family.{entry_at};
 ghost use Rattle.sp_tree.specs.Grown.{kin, is_open, CanStand};
 
-use crate::words::{numbers, push_line, push_number};
+use crate::given::numbers_of;
+use crate::text::Answer;
 use sp_base::Share;
 use sp_chance::Chances;
 use sp_group::Label;
@@ -160,15 +161,11 @@ impl Guesses {
 }
 
 // Appends a line with a number, or with a dash.
-fn push_found(
-    alloc: Global,
-    word: &str,
-    found: Option<u64>,
-    out: &mut String,
-) -> Result<(), AllocError> {
+fn push_found(word: &str, found: Option<u64>, out: &mut Answer) {
+    out.text(word);
     match found {
-        Some(number) => push_number(alloc, word, number, out),
-        None => push_line(alloc, word, "-", out),
+        Some(number) => out.last(" ", number),
+        None => out.text(" -\n"),
     }
 }
 
@@ -179,13 +176,13 @@ fn push_child(
     word: &str,
     parent: u64,
     runs: &[u32],
-    out: &mut String,
+    out: &mut Answer,
 ) -> Result<(), AllocError> {
     let id = match Label::new(alloc, runs)? {
         Some(label) => guesses.add_child(alloc, parent, label)?,
         None => None,
     };
-    push_found(alloc, word, id, out)
+    Ok(push_found(word, id, out))
 }
 
 // Appends how likely a child of the label of these runs is to survive.
@@ -195,13 +192,13 @@ fn push_survival_with(
     word: &str,
     parent: u64,
     runs: &[u32],
-    out: &mut String,
+    out: &mut Answer,
 ) -> Result<(), AllocError> {
     let survival = match Label::new(alloc, runs)? {
         Some(label) => guesses.survival_with(parent, &label),
         None => None,
     };
-    push_found(alloc, word, survival.map(u64::from), out)
+    Ok(push_found(word, survival.map(u64::from), out))
 }
 
 // Appends which of the versions are picked.
@@ -211,15 +208,14 @@ fn push_picked(
     word: &str,
     k: u32,
     ready: &[u32],
-    out: &mut String,
+    out: &mut Answer,
 ) -> Result<(), AllocError> {
     let ready = ready
         .iter()
         .map(|id| u64::from(*id))
         .collect::<Vec<u64>>(alloc)?;
     let picked = guesses.picked(alloc, &ready, k)?;
-    let line = format!(in alloc; "{word} {:?}\n", picked.as_slice())?;
-    out.push_str(line.as_str())
+    Ok(out.made(format!(in alloc; "{word} {:?}\n", picked.as_slice())))
 }
 
 // Adds the next child of a parent, and appends its label.
@@ -228,25 +224,26 @@ fn push_next(
     guesses: &mut Guesses,
     word: &str,
     parent: u64,
-    out: &mut String,
+    out: &mut Answer,
 ) -> Result<(), AllocError> {
+    out.text(word);
     let Some(label) = guesses.next_label(alloc, parent)? else {
-        return push_line(alloc, word, "-", out);
+        return Ok(out.text(" -\n"));
     };
-    let line = format!(in alloc; "{word} {:?}\n", label.runs())?;
-    out.push_str(line.as_str())?;
+    out.list(" ", label.runs());
+    out.text("\n");
     guesses.add_child(alloc, parent, label)?;
     Ok(())
 }
 
 // Does what a word says of a version, and of numbers behind it.
-fn push_step(
+fn step(
     alloc: Global,
     guesses: &mut Guesses,
     word: &str,
     what: &str,
     numbers: &[u32],
-    out: &mut String,
+    out: &mut Answer,
 ) -> Result<(), AllocError> {
     let [first, rest @ ..] = numbers else {
         return Ok(());
@@ -258,7 +255,7 @@ fn push_step(
         "pick" => push_picked(alloc, guesses, word, *first, rest, out),
         "survival" => {
             let survival = guesses.survival(version);
-            push_found(alloc, word, survival.map(u64::from), out)
+            Ok(push_found(word, survival.map(u64::from), out))
         }
         "next" => push_next(alloc, guesses, word, version, out),
         _ => set(guesses, what, version, rest),
@@ -279,14 +276,14 @@ fn push_word(
     alloc: Global,
     guesses: &mut Guesses,
     word: &str,
-    out: &mut String,
+    out: &mut Answer,
 ) -> Result<(), AllocError> {
     match word.split_once(':') {
         Some((what, text)) => {
-            let numbers = numbers(alloc, text)?;
-            push_step(alloc, guesses, word, what, &numbers, out)
+            let numbers = numbers_of(alloc, text)?;
+            step(alloc, guesses, word, what, &numbers, out)
         }
-        None => push_found(alloc, word, guesses.plant(alloc)?, out),
+        None => Ok(push_found(word, guesses.plant(alloc)?, out)),
     }
 }
 
@@ -295,7 +292,7 @@ fn push_words(
     alloc: Global,
     guesses: &mut Guesses,
     words: &[String],
-    out: &mut String,
+    out: &mut Answer,
 ) -> Result<(), AllocError> {
     for word in words {
         push_word(alloc, guesses, word.as_str(), out)?;
@@ -304,7 +301,7 @@ fn push_words(
 }
 
 /// Does what the words say, beginning with no version and no share, and appends what they ask for.
-pub(crate) fn guess(alloc: Global, words: &[String], out: &mut String) -> Result<(), AllocError> {
+pub(crate) fn guess(alloc: Global, words: &[String], out: &mut Answer) -> Result<(), AllocError> {
     let mut guesses = Guesses::new(alloc)?;
     let pushed = push_words(alloc, &mut guesses, words, out);
     drop(guesses);

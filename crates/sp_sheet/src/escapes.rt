@@ -55,7 +55,7 @@ pub(crate) fn unescaped(alloc: Global, named: &[Named], text: &str) -> Result<Te
             bytes: so_far.bytes,
             is_cut: true,
         }),
-        _ => Err(Fault::Bad("an escape or a name that does not end")),
+        _ => Err(Fault("an escape or a name that does not end")),
     }
 }
 
@@ -71,7 +71,7 @@ impl Written {
                 self.put(byte)
             }
             Place::Name => self.take_name(named, byte),
-            Place::Cut => Err(Fault::Bad("a text behind \\c")),
+            Place::Cut => Err(Fault("a text behind \\c")),
         }
     }
 
@@ -100,7 +100,7 @@ impl Written {
             b't' => self.put(b'\t'),
             b'x' => Ok(Place::FirstDigit),
             b'c' => Ok(Place::Cut),
-            _ => Err(Fault::Bad("no such escape")),
+            _ => Err(Fault("no such escape")),
         }
     }
 
@@ -115,7 +115,7 @@ impl Written {
                 self.bytes.extend_from_slice(found.bytes.as_slice())?;
                 Ok(Place::Plain)
             }
-            None => Err(Fault::Bad("a name that no text was given")),
+            None => Err(Fault("a name that no text was given")),
         }
     }
 }
@@ -125,6 +125,6 @@ fn digit(byte: u8) -> Result<u8, Fault> {
     match byte {
         b'0'..=b'9' => Ok(byte - b'0'),
         b'a'..=b'f' => Ok(byte - b'a' + 10),
-        _ => Err(Fault::Bad("no hexadecimal digit")),
+        _ => Err(Fault("no hexadecimal digit")),
     }
 }

@@ -1,9 +1,10 @@
-use crate::call::{Call, Outcome};
-use crate::gates::Delayed;
-use std::alloc::{AllocError, Global};
+use crate::call::{Call, Failing, Outcome};
+use crate::delayed::Delayed;
+use crate::told::Told;
+use std::alloc::Global;
 
 /// A worked row: what it shows, a call, and what is to come of it.
-#[derive(Clone, Drop)]
+#[derive(Drop)]
 pub(crate) struct Row {
     pub(crate) name: String,
     pub(crate) call: Call,
@@ -22,12 +23,15 @@ impl Row {
                 words: Vec::new(alloc),
                 input: Vec::new(alloc),
                 piece: 4096,
-                read_fails: None,
                 files: Vec::new(alloc),
-                load_fails: Vec::new(alloc),
-                write_fails: Vec::new(alloc),
-                tell_fails: Vec::new(alloc),
+                failing: Failing {
+                    reads: None,
+                    loads: Vec::new(alloc),
+                    writes: Vec::new(alloc),
+                    tells: Vec::new(alloc),
+                },
                 delayed: Delayed::None,
+                told: Told::Nothing,
             },
             expected: Outcome {
                 status: 0,
@@ -36,13 +40,5 @@ impl Row {
             },
             is_as_plain: false,
         }
-    }
-
-    /// The same row without an instance.
-    pub(crate) fn alone(&self, alloc: Global) -> Result<Row, AllocError> {
-        let mut row = self.clone()?;
-        row.name.push_str(", without an instance")?;
-        row.call.ask_for_none(alloc)?;
-        Ok(row)
     }
 }

@@ -1,5 +1,6 @@
 // Predictors: what they learn, and what they answer.
-use crate::words::{number, push_line, push_number, two_numbers};
+use crate::given::{number, two_numbers};
+use crate::text::Answer;
 use sp_chance::{Even, Markov, Predictor, Steady};
 use std::alloc::{AllocError, Global};
 
@@ -23,55 +24,44 @@ fn learn<P: Predictor>(predictor: &mut P, text: &str) {
 }
 
 // Does what a word says, as `learn:3,2*10`, or asks for a chance, as `1,16`.
-fn push_step<P: Predictor>(
-    alloc: Global,
-    predictor: &mut P,
-    word: &str,
-    out: &mut String,
-) -> Result<(), AllocError> {
+fn step<P: Predictor>(predictor: &mut P, word: &str, out: &mut Answer) {
     match word.split_once(':') {
-        Some((_, pairs)) => {
-            learn(predictor, pairs);
-            Ok(())
-        }
+        Some((_, pairs)) => learn(predictor, pairs),
         None => {
             let (left, events) = two_numbers(word);
-            push_number(alloc, word, u64::from(predictor.chance(left, events)), out)
+            out.text(word);
+            out.last(" ", u64::from(predictor.chance(left, events)));
         }
     }
 }
 
 // Appends a predictor's name, and then the chances that the words ask for.
-fn push_steps<P: Predictor>(
-    alloc: Global,
-    predictor: &mut P,
-    words: &[String],
-    out: &mut String,
-) -> Result<(), AllocError> {
-    push_line(alloc, "name", predictor.name(), out)?;
+fn steps<P: Predictor>(predictor: &mut P, words: &[String], out: &mut Answer) {
+    out.text("name ");
+    out.text(predictor.name());
+    out.text("\n");
     for word in words {
-        push_step(alloc, predictor, word.as_str(), out)?;
+        step(predictor, word.as_str(), out);
     }
-    Ok(())
 }
 
 // The same of the predictor that learns.
-fn push_learned(alloc: Global, words: &[String], out: &mut String) -> Result<(), AllocError> {
+fn learned(alloc: Global, words: &[String], out: &mut Answer) -> Result<(), AllocError> {
     let mut markov = Markov::new(alloc)?;
-    let pushed = push_steps(alloc, &mut markov, words, out);
+    steps(&mut markov, words, out);
     drop(markov);
-    pushed
+    Ok(())
 }
 
 /// Appends the name of the predictor that the first word says, `even`, `steady:SHARE` or `markov`, and then
 /// the chances that the other words ask for, which may have it learn between.
-pub(crate) fn predict(alloc: Global, words: &[String], out: &mut String) -> Result<(), AllocError> {
+pub(crate) fn predict(alloc: Global, words: &[String], out: &mut Answer) -> Result<(), AllocError> {
     let [predictor, words @ ..] = words else {
         return Ok(());
     };
     match predictor.as_str().split_once(':') {
-        Some((_, share)) => push_steps(alloc, &mut Steady::new(number(share)), words, out),
-        None if predictor.as_str() == "even" => push_steps(alloc, &mut Even::new(), words, out),
-        None => push_learned(alloc, words, out),
+        Some((_, share)) => Ok(steps(&mut Steady::new(number(share)), words, out)),
+        None if predictor.as_str() == "even" => Ok(steps(&mut Even::new(), words, out)),
+        None => learned(alloc, words, out),
     }
 }

@@ -1,0 +1,126 @@
+// The program and single calls, over objects in memory.
+ghost use Rattle.std.specs.Prelude.{◌≡◌, ◌<◌};
+
+use crate::gates::Delays;
+use crate::hostile::{Fickle, Greatest, Zero};
+use sp_calls::{answer, beginning_of, counts_of};
+use sp_chance::{Even, Markov, Predictor, Steady};
+use sp_io::{MemFiles, MemSink, MemSource};
+use sp_sheet::{Call, Caller, Outcome, Told};
+use sp_split::Ended;
+use sp_top::spectre;
+use std::alloc::{AllocError, Global};
+use std::sync::Wait;
+use std::thread::Threads;
+
+// What the sinks have room for.
+const ROOM: u32 = 1_000_000;
+
+// The share that the steady predictor holds for likely, in 65,536ths.
+const STEADY: u32 = 49_152;
+
+/// Makes calls: of the whole program by the top call, and single ones.
+pub(crate) struct Program;
+
+impl Caller for Program {
+    fn outcome<R: Threads + Wait + Sync>(
+        &self,
+        threads: &R,
+        alloc: Global,
+        call: Call,
+    ) -> Result<Outcome, AllocError> {
+        if call.single.is_empty() {
+            run(threads, alloc, call)
+        } else {
+            answered(alloc, call)
+        }
+    }
+}
+
+// What a single call answers, as the output.
+fn answered(alloc: Global, call: Call) -> Result<Outcome, AllocError> {
+    let failing = call.failing;
+    let mut files = MemFiles::new(call.files, failing.loads);
+    let single = call.single.as_str();
+    let answered = answer(alloc, single, &call.words, &mut files, &call.input);
+    drop(files);
+    Ok(Outcome {
+        status: 0,
+        output: answered?.into_bytes(),
+        error: Vec::new(alloc),
+    })
+}
+
+// What the program leaves, whose runs may choose among these predictors.
+fn run<R: Threads + Wait + Sync>(
+    threads: &R,
+    alloc: Global,
+    call: Call,
+) -> Result<Outcome, AllocError> {
+    let mut predictors: Vec<Box<dyn Predictor>> = Vec::new(alloc);
+    predictors.push(Box::new(alloc, Even::new())?)?;
+    predictors.push(Box::new(alloc, Steady::new(STEADY))?)?;
+    predictors.push(Box::new(alloc, Markov::new(alloc)?)?)?;
+    predictors.push(Box::new(alloc, Zero)?)?;
+    predictors.push(Box::new(alloc, Greatest)?)?;
+    predictors.push(Box::new(alloc, Fickle { learned: 0 })?)?;
+    run_by(threads, alloc, call, predictors)
+}
+
+// The same with the predictors.
+fn run_by<R: Threads + Wait + Sync>(
+    threads: &R,
+    alloc: Global,
+    call: Call,
+    predictors: Vec<Box<dyn Predictor>>,
+) -> Result<Outcome, AllocError> {
+    let failing = call.failing;
+    let mut out = MemSink::new(alloc, failing.writes, ROOM)?;
+    let mut err = MemSink::new(alloc, failing.tells, ROOM)?;
+    let mut input = MemSource::new(call.input, call.piece.max(1), failing.reads);
+    let mut files = MemFiles::new(call.files, failing.loads);
+    let gate = Delays::new(call.delayed);
+    let mut report = None;
+    let status = spectre(
+        threads,
+        alloc,
+        &call.words,
+        &mut input,
+        &mut files,
+        &mut out,
+        &mut err,
+        &gate,
+        predictors,
+        &mut report,
+    );
+    let journal = journal_of(alloc, call.told, &report);
+    drop(report);
+    outcome_of(alloc, status, &out, &err, journal?.as_str())
+}
+
+// What of the journal of a report is told.
+fn journal_of(alloc: Global, told: Told, report: &Option<Ended>) -> Result<String, AllocError> {
+    match (told, report) {
+        (Told::Counts, Some(ended)) => counts_of(alloc, ended.core.journal()),
+        (Told::Beginning, Some(ended)) => beginning_of(alloc, ended.core.journal()),
+        _ => Ok(String::new(alloc)),
+    }
+}
+
+// A status, what the sinks hold, and behind the output a text.
+fn outcome_of(
+    alloc: Global,
+    status: u8,
+    out: &MemSink,
+    err: &MemSink,
+    behind: &str,
+) -> Result<Outcome, AllocError> {
+    let mut output = out.bytes().to_vec(alloc)?;
+    output.extend_from_slice(behind.as_bytes())?;
+    let error = err.bytes().to_vec(alloc)?;
+    Ok(Outcome {
+        status: u32::from(status),
+        output,
+        error,
+    })
+}
