@@ -20,6 +20,7 @@ pub trait Caller {
 }
 
 // A sheet whose rows are run: its name, who makes their calls, and the threads that these may have.
+#[derive(Drop)]
 struct Running<'a, C, R> {
     sheet: &'a str,
     caller: &'a C,

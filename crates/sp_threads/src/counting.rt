@@ -7,14 +7,14 @@ use std::sync::atomic::Ordering::SeqCst;
 
 /// Answers a thousand for each pair that it has learned, whatever is asked.
 #[derive(Drop)]
-pub(crate) struct Counting {
+pub struct Counting {
     /// Whether its name is `other`, and not `counting`.
-    pub(crate) is_other: bool,
-    pub(crate) thousands: u32,
+    pub is_other: bool,
+    pub thousands: u32,
     /// What each call counts where it is asked or taught.
-    pub(crate) weight: u64,
+    pub weight: u64,
     /// What its calls add up to, with those of others that have the same counter.
-    pub(crate) calls: Arc<AtomicU64>,
+    pub calls: Arc<AtomicU64>,
 }
 
 impl Predictor for Counting {

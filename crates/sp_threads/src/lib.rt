@@ -1,21 +1,20 @@
-//! What no contract says of the threads: that jobs are done at two seats at once, and by two instances; that those
-//! who wait at a hub are woken; that a turn leases what it made and lets the predictor learn; which predictor a run
-//! has, and what its report shows; and single calls of a hub, a store, labels and a tree. Tests alone.
+//! What no contract says of the threads, below whole runs: that jobs are done at two seats at once; that those who wait
+//! at a hub are woken; that a turn leases what it made and lets the predictor learn; and single calls of a hub, a store,
+//! labels and a tree. Tests, and what they and the tests of whole runs look through.
 #![tactic(auto)]
 
-#[cfg(test)]
 mod counting;
 #[cfg(test)]
 mod feeding;
 #[cfg(test)]
 mod hubs;
-#[cfg(test)]
 mod meeting;
-#[cfg(test)]
-mod runs;
 #[cfg(test)]
 mod single;
 #[cfg(test)]
 mod turns;
 #[cfg(test)]
 mod waking;
+
+pub use counting::Counting;
+pub use meeting::Meeting;

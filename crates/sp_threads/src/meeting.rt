@@ -9,7 +9,7 @@ const LOOKS: u32 = 100_000_000;
 /// Holds the first one who leaves until another seat has entered with another ticket, and records whether it had
 /// when the first one looked no more: both were inside then.
 #[derive(Drop)]
-pub(crate) struct Meeting {
+pub struct Meeting {
     // The lowest seat that can meet others.
     lowest: u32,
     // The first seat and ticket that entered, 0 before.
@@ -25,12 +25,12 @@ pub(crate) struct Meeting {
 
 impl Meeting {
     /// Of two seats, whichever they are.
-    pub(crate) fn of_seats() -> Meeting {
+    pub fn of_seats() -> Meeting {
         Meeting::from(0)
     }
 
     /// Of two instances: the splitter's own seat, which is the first, is held at its first job until they have met.
-    pub(crate) fn of_instances() -> Meeting {
+    pub fn of_instances() -> Meeting {
         Meeting::from(1)
     }
 
@@ -46,7 +46,7 @@ impl Meeting {
     }
 
     /// Whether two seats were inside with two tickets when the first one left.
-    pub(crate) fn has_met(&self) -> bool {
+    pub fn has_met(&self) -> bool {
         self.met.load(SeqCst) > 0
     }
 

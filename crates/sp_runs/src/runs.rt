@@ -1,13 +1,12 @@
 // Runs of the whole program, and what is reported of them.
 ghost use Rattle.std.specs.Prelude.{◌≡◌, None};
 
-use crate::counting::Counting;
-use crate::meeting::Meeting;
 use sp_chance::{Even, Predictor};
 use sp_group::{Entry, Step};
 use sp_instance::{Gate, OpenGate};
 use sp_io::{ByteSource, Discard, MemFiles};
 use sp_split::Ended;
+use sp_threads::{Counting, Meeting};
 use sp_top::spectre;
 use std::alloc::{AllocError, Global};
 use std::process::Abort;
