@@ -2,3 +2,4 @@ pub mod Rising
 pub mod Placed
 pub mod Cut
 pub mod Merging
+pub mod RisingLists

@@ -5,7 +5,7 @@ use Rattle.std.specs.List.Sorted.{IsStrictlyIncreasing}
 use Rattle.std.proofs.lemmas.List.{drop_more, drop_all, append-nil, append_assoc}
 use Rattle.std.proofs.lemmas.Bool.{cases_eq, cases_lt, eq-eqb, ne_eqb}
 use Rattle.std.proofs.lemmas.Bool.Decides.{nat_tests}
-use Rattle.sp_base.specs.Numbers.{has}
+use Rattle.sp_base.specs.Numbers.{is_among}
 use Rattle.sp_base.specs.Merged.{IsMerged}
 use Rattle.sp_base.proofs.Rising.{Below, Rises, above_lower, rising_from, rises_from, rises_behind, rises_inserted, below_next, has_append}
 
@@ -15,7 +15,7 @@ pub record Merging (ones others list : List ℕ) (one other : ℕ) : Type 0 wher
   pub other_within : other ≤ length others
   pub first : Rises (list ++ drop one ones)
   pub second : Rises (list ++ drop other others)
-  pub members : (n : ℕ) → (has list n || (has (drop one ones) n || has (drop other others) n)) ≡ (has ones n || has others n)
+  pub members : (n : ℕ) → (is_among list n || (is_among (drop one ones) n || is_among (drop other others) n)) ≡ (is_among ones n || is_among others n)
 
 pub begun : (ones others : List ℕ) → IsStrictlyIncreasing ones → IsStrictlyIncreasing others → Merging ones others [] 0 0
 begun ones others rising other_rising = record {
@@ -59,18 +59,18 @@ twice : (a b : Bool) → (a || b) ≡ (a || (a || b))
 twice true b = refl
 twice false b = refl
 
-left_members : (m n k : ℕ) (ms : List ℕ) → (n == k || has (cond (m == n) ms (m ∷ ms)) k) ≡ (n == k || has (m ∷ ms) k)
+left_members : (m n k : ℕ) (ms : List ℕ) → (n == k || is_among (cond (m == n) ms (m ∷ ms)) k) ≡ (n == k || is_among (m ∷ ms) k)
 left_members m n k ms =
     elim (cases_eq m n) [
-      | inl e ↦ rw (eq-eqb m n e) (subst (λ j. (n == k || has ms k) ≡ (n == k || (j == k || has ms k))) (sym e) (twice (n == k) (has ms k)))
+      | inl e ↦ rw (eq-eqb m n e) (subst (λ j. (n == k || is_among ms k) ≡ (n == k || (j == k || is_among ms k))) (sym e) (twice (n == k) (is_among ms k)))
       | inr e ↦ rw (ne_eqb m n e)
     ]
 
-passed_members : (ns : List ℕ) (at n k : ℕ) → at < length ns → (n == k || has (drop (passed ns at n) ns) k) ≡ (n == k || has (drop at ns) k)
+passed_members : (ns : List ℕ) (at n k : ℕ) → at < length ns → (n == k || is_among (drop (passed ns at n) ns) k) ≡ (n == k || is_among (drop at ns) k)
 passed_members ns at n k within =
-    ap (λ l. n == k || has l k) (left_behind ns at n within)
+    ap (λ l. n == k || is_among l k) (left_behind ns at n within)
     ∙ left_members (get_or ns at 0) n k (drop (at + 1) ns)
-    ∙ ap (λ l. n == k || has l k) (sym (drop_more ns at 0 within))
+    ∙ ap (λ l. n == k || is_among l k) (sym (drop_more ns at 0 within))
 
 -- a number that goes from one of two rests to the list
 told_once : (l e a b a' b' : Bool) → (e || a') ≡ (e || a) → (e || b') ≡ (e || b) → (e ≡ true → (a || b) ≡ true) → (l || (e || false) || (a' || b')) ≡ (l || (a || b))
@@ -78,19 +78,19 @@ told_once true e a b a' b' p q h = refl
 told_once false true a b a' b' p q h = sym (h refl)
 told_once false false a b a' b' p q h = λ i. p i || q i
 
-stands_at : (ns : List ℕ) (at k : ℕ) → at < length ns → get_or ns at 0 ≡ k → has (drop at ns) k ≡ true
+stands_at : (ns : List ℕ) (at k : ℕ) → at < length ns → get_or ns at 0 ≡ k → is_among (drop at ns) k ≡ true
 stands_at ns at k within e =
-    ap (λ l. has l k) (drop_more ns at 0 within) ∙ ap (λ t. t || has (drop (at + 1) ns) k) (eq-eqb (get_or ns at 0) k e)
+    ap (λ l. is_among l k) (drop_more ns at 0 within) ∙ ap (λ t. t || is_among (drop (at + 1) ns) k) (eq-eqb (get_or ns at 0) k e)
 
 in_either : (a b : Bool) → (a ≡ true) ⊎ (b ≡ true) → (a || b) ≡ true
 in_either a b (inl h) = ap (λ t. t || b) h
 in_either true b (inr h) = refl
 in_either false b (inr h) = h
 
-smaller_there : (ones others : List ℕ) (one other n k : ℕ) → one < length ones → other < length others → n ≡ min (get_or ones one 0) (get_or others other 0) → (n == k) ≡ true → (has (drop one ones) k || has (drop other others) k) ≡ true
+smaller_there : (ones others : List ℕ) (one other n k : ℕ) → one < length ones → other < length others → n ≡ min (get_or ones one 0) (get_or others other 0) → (n == k) ≡ true → (is_among (drop one ones) k || is_among (drop other others) k) ≡ true
 smaller_there ones others one other n k within other_within least e =
     let same : n ≡ k = grind (arith, nat_tests) in
-    in_either (has (drop one ones) k) (has (drop other others) k)
+    in_either (is_among (drop one ones) k) (is_among (drop other others) k)
     (elim (cases_lt (get_or ones one 0) (get_or others other 0)) [
       | inl h ↦ inl (stands_at ones one k within (omega arith))
       | inr h ↦ inr (stands_at others other k other_within (omega arith))
@@ -120,8 +120,8 @@ taken ones others list one other n within other_within least going =
       first = passed_rises list ones one n within (omega arith) below going.first;
       second = passed_rises list others other n other_within (omega arith) below going.second;
       members = λ k.
-          ap (λ t. t || (has (drop (passed ones one n) ones) k || has (drop (passed others other n) others) k)) (has_append list (n ∷ []) k)
-          ∙ told_once (has list k) (n == k) (has (drop one ones) k) (has (drop other others) k) (has (drop (passed ones one n) ones) k) (has (drop (passed others other n) others) k)
+          ap (λ t. t || (is_among (drop (passed ones one n) ones) k || is_among (drop (passed others other n) others) k)) (has_append list (n ∷ []) k)
+          ∙ told_once (is_among list k) (n == k) (is_among (drop one ones) k) (is_among (drop other others) k) (is_among (drop (passed ones one n) ones) k) (is_among (drop (passed others other n) others) k)
           (passed_members ones one n k within) (passed_members others other n k other_within)
           (smaller_there ones others one other n k within other_within least)
           ∙ going.members k;
@@ -148,8 +148,8 @@ ended ones others list one other over going = record {
       (both_rise list (drop one ones) (drop other others) (none_left ones others one other over) going.first going.second);
   members = λ n.
       has_append (list ++ drop one ones) (drop other others) n
-      ∙ ap (λ t. t || has (drop other others) n) (has_append list (drop one ones) n)
-      ∙ or_assoc (has list n) (has (drop one ones) n) (has (drop other others) n) ∙ going.members n;
+      ∙ ap (λ t. t || is_among (drop other others) n) (has_append list (drop one ones) n)
+      ∙ or_assoc (is_among list n) (is_among (drop one ones) n) (is_among (drop other others) n) ∙ going.members n;
 }
 
 pub renamed : (ones others list list' : List ℕ) (one one' other other' : ℕ) → list' ≡ list → one' ≡ one → other' ≡ other → Merging ones others list one other → Merging ones others list' one' other'

@@ -10,7 +10,7 @@ use Rattle.std.proofs.lemmas.List.Sorted.{searched}
 use Rattle.std.proofs.lemmas.List.Elements.{All-from_get_or, recursion_from_All, All-drop}
 use Rattle.std.proofs.lemmas.Bool.{cases_eq, ltb-true, lt-ltb}
 use Rattle.std.proofs.lemmas.Bool.Decides.{nat_tests}
-use Rattle.sp_base.specs.Numbers.{has}
+use Rattle.sp_base.specs.Numbers.{is_among}
 use Rattle.sp_base.specs.Place.{IsPlace}
 use Rattle.sp_base.proofs.Rising.{Above, Below, Rises, above_lower, rises_from, rising_from, not_above, not_below, has_append, rises_inserted, rises_behind}
 
@@ -64,42 +64,42 @@ past_last ns n last rising some is = (
   (λ past. let below : get_or ns (length ns - 1) 0 < n = past (length ns - 1) 0 (omega arith) in lt-ltb last n (omega arith)),
 )
 
-at_first : (n m : ℕ) (ms : List ℕ) → n ≤ m → Above m ms → (m == n) ≡ has (m ∷ ms) n
+at_first : (n m : ℕ) (ms : List ℕ) → n ≤ m → Above m ms → (m == n) ≡ is_among (m ∷ ms) n
 at_first n m ms h above =
     elim (cases_eq m n) [
       | inl e ↦ grind (arith, nat_tests)
-      | inr e ↦ (let rest : has ms n ≡ false = not_above n ms (above_lower n m ms (omega arith) above) in grind (arith, nat_tests))
+      | inr e ↦ (let rest : is_among ms n ≡ false = not_above n ms (above_lower n m ms (omega arith) above) in grind (arith, nat_tests))
     ]
 
 -- whether a number is there is whether it is behind its place
-has_behind : (ns : List ℕ) (n at : ℕ) → IsPlace n ns at → has ns n ≡ has (drop at ns) n
+has_behind : (ns : List ℕ) (n at : ℕ) → IsPlace n ns at → is_among ns n ≡ is_among (drop at ns) n
 has_behind ns n at place =
-    ap (λ l. has l n) (sym (take-append-drop at ns)) ∙ has_append (take at ns) (drop at ns) n
-    ∙ ap (λ t. t || has (drop at ns) n) (not_below n (take at ns) (recursion_from_All (λ m. m < n) (take at ns) place.below))
+    ap (λ l. is_among l n) (sym (take-append-drop at ns)) ∙ has_append (take at ns) (drop at ns) n
+    ∙ ap (λ t. t || is_among (drop at ns) n) (not_below n (take at ns) (recursion_from_All (λ m. m < n) (take at ns) place.below))
 
 rises_drop : (ns : List ℕ) (at : ℕ) → IsStrictlyIncreasing ns → Rises (drop at ns)
 rises_drop ns at rising = rises_behind (take at ns) (drop at ns) (subst Rises (sym (take-append-drop at ns)) (rises_from ns rising))
 
-pub has_at : (ns : List ℕ) (n at : ℕ) → IsStrictlyIncreasing ns → IsPlace n ns at → at < length ns → (get_or ns at 0 == n) ≡ has ns n
+pub has_at : (ns : List ℕ) (n at : ℕ) → IsStrictlyIncreasing ns → IsPlace n ns at → at < length ns → (get_or ns at 0 == n) ≡ is_among ns n
 has_at ns n at rising place within =
     let split : drop at ns ≡ get_or ns at 0 ∷ drop (at + 1) ns = drop_more ns at 0 within in
     let above : AllByRecursion (λ m. n ≤ m) (get_or ns at 0 ∷ drop (at + 1) ns) = subst (λ l. AllByRecursion (λ m. n ≤ m) l) split (recursion_from_All (λ m. n ≤ m) (drop at ns) place.above) in
     let rises : Rises (get_or ns at 0 ∷ drop (at + 1) ns) = subst Rises split (rises_drop ns at rising) in
     at_first n (get_or ns at 0) (drop (at + 1) ns) above.0 rises.0
-    ∙ ap (λ l. has l n) (sym split) ∙ sym (has_behind ns n at place)
+    ∙ ap (λ l. is_among l n) (sym split) ∙ sym (has_behind ns n at place)
 
-pub not_at : (ns : List ℕ) (n at : ℕ) → IsPlace n ns at → length ns ≤ at → false ≡ has ns n
-not_at ns n at place past = ap (λ l. has l n) (sym (drop_all at ns past)) ∙ sym (has_behind ns n at place)
+pub not_at : (ns : List ℕ) (n at : ℕ) → IsPlace n ns at → length ns ≤ at → false ≡ is_among ns n
+not_at ns n at place past = ap (λ l. is_among l n) (sym (drop_all at ns past)) ∙ sym (has_behind ns n at place)
 
-strictly_above : (n : ℕ) (ns : List ℕ) → AllByRecursion (λ m. n ≤ m) ns → has ns n ≡ false → Above n ns
+strictly_above : (n : ℕ) (ns : List ℕ) → AllByRecursion (λ m. n ≤ m) ns → is_among ns n ≡ false → Above n ns
 strictly_above n [] h none = tt
 strictly_above n (m ∷ ms) h none =
     let least : n ≤ m = h.0 in
     let other : m ≡ n → ⊥ = λ e. grind (arith, nat_tests) in
-    let rest : has ms n ≡ false = grind (arith, nat_tests) in
+    let rest : is_among ms n ≡ false = grind (arith, nat_tests) in
     (omega arith, strictly_above n ms h.1 rest)
 
-pub rising_inserted : (ns : List ℕ) (n at : ℕ) → IsStrictlyIncreasing ns → IsPlace n ns at → has ns n ≡ false → IsStrictlyIncreasing (insert ns at n)
+pub rising_inserted : (ns : List ℕ) (n at : ℕ) → IsStrictlyIncreasing ns → IsPlace n ns at → is_among ns n ≡ false → IsStrictlyIncreasing (insert ns at n)
 rising_inserted ns n at rising place none =
     rising_from (insert ns at n)
     (rises_inserted (take at ns) (drop at ns) n (subst Rises (sym (take-append-drop at ns)) (rises_from ns rising))
@@ -114,11 +114,11 @@ moved false b c = refl
 same_test : (m n : ℕ) → (n == m) ≡ (m == n)
 same_test m n = grind (arith, nat_tests)
 
-pub has_inserted : (ns : List ℕ) (n at m : ℕ) → has (insert ns at n) m ≡ (m == n || has ns m)
+pub has_inserted : (ns : List ℕ) (n at m : ℕ) → is_among (insert ns at n) m ≡ (m == n || is_among ns m)
 has_inserted ns n at m =
-    has_append (take at ns) (n ∷ drop at ns) m ∙ moved (has (take at ns) m) (n == m) (has (drop at ns) m)
-    ∙ ap (λ t. n == m || t) (sym (has_append (take at ns) (drop at ns) m) ∙ ap (λ l. has l m) (take-append-drop at ns))
-    ∙ ap (λ t. t || has ns m) (same_test m n)
+    has_append (take at ns) (n ∷ drop at ns) m ∙ moved (is_among (take at ns) m) (n == m) (is_among (drop at ns) m)
+    ∙ ap (λ t. n == m || t) (sym (has_append (take at ns) (drop at ns) m) ∙ ap (λ l. is_among l m) (take-append-drop at ns))
+    ∙ ap (λ t. t || is_among ns m) (same_test m n)
 
 nothing_behind : (n : ℕ) (ns : List ℕ) → AllByRecursion (λ m. n ≤ m) ns → Below n ns → ns ≡ []
 nothing_behind n [] h below = refl
@@ -137,11 +137,11 @@ inserted_last ns n at place past =
     ap (λ l. take at ns ++ n ∷ l) none ∙ ap (λ l. l ++ n ∷ []) whole
 
 -- a number past all others isn't there
-pub not_there : (ns : List ℕ) (n : ℕ) → All (λ m. m < n) ns → has ns n ≡ false
+pub not_there : (ns : List ℕ) (n : ℕ) → All (λ m. m < n) ns → is_among ns n ≡ false
 not_there ns n past = not_below n ns (recursion_from_All (λ m. m < n) ns past)
 
 -- a number that is there is not past all others
-pub not_past : (ns : List ℕ) (n : ℕ) → has ns n ≡ true → All (λ m. m < n) ns → ⊥
+pub not_past : (ns : List ℕ) (n : ℕ) → is_among ns n ≡ true → All (λ m. m < n) ns → ⊥
 not_past ns n there past =
-    let none : has ns n ≡ false = not_there ns n past in
+    let none : is_among ns n ≡ false = not_there ns n past in
     cc

@@ -4,7 +4,7 @@ use Rattle.std.specs.List.{AllByRecursion}
 use Rattle.std.specs.List.Sorted.{IsStrictlyIncreasing}
 use Rattle.std.proofs.lemmas.Bool.{cases_eq}
 use Rattle.std.proofs.lemmas.Bool.Decides.{nat_tests}
-use Rattle.sp_base.specs.Numbers.{has, RisingSame}
+use Rattle.sp_base.specs.Numbers.{RisingSame, is_among}
 
 -- each number is above this one, below it
 abbrev pub Above : ℕ → List ℕ → Type 0
@@ -48,47 +48,47 @@ rising_from (n ∷ m ∷ ns) h = λ k. elim k as (λ k. k + 1 < suc (suc (length
       subst (λ i. get_or (m ∷ ns) j 0 < get_or (n ∷ m ∷ ns) i 0) next (rising_from (m ∷ ns) h.1 j (omega arith)))
 ]
 
-pub not_above : (n : ℕ) (ns : List ℕ) → Above n ns → has ns n ≡ false
+pub not_above : (n : ℕ) (ns : List ℕ) → Above n ns → is_among ns n ≡ false
 not_above n [] h = refl
 not_above n (m ∷ ns) h =
     let first : n < m = h.0 in
-    let rest : has ns n ≡ false = not_above n ns h.1 in
+    let rest : is_among ns n ≡ false = not_above n ns h.1 in
     grind (arith, nat_tests)
 
-pub not_below : (n : ℕ) (ns : List ℕ) → Below n ns → has ns n ≡ false
+pub not_below : (n : ℕ) (ns : List ℕ) → Below n ns → is_among ns n ≡ false
 not_below n [] h = refl
 not_below n (m ∷ ns) h =
     let first : m < n = h.0 in
-    let rest : has ns n ≡ false = not_below n ns h.1 in
+    let rest : is_among ns n ≡ false = not_below n ns h.1 in
     grind (arith, nat_tests)
 
 -- a number that is among numbers above this one is above it
-pub above_this : (m n : ℕ) (ns : List ℕ) → Above m ns → has ns n ≡ true → m < n
+pub above_this : (m n : ℕ) (ns : List ℕ) → Above m ns → is_among ns n ≡ true → m < n
 above_this m n [] h there = cc
 above_this m n (x ∷ xs) h there =
     let first : m < x = h.0 in
     elim (cases_eq x n) [
       | inl e ↦ omega arith
-      | inr e ↦ (let rest : has xs n ≡ true = grind (arith, nat_tests) in above_this m n xs h.1 rest)
+      | inr e ↦ (let rest : is_among xs n ≡ true = grind (arith, nat_tests) in above_this m n xs h.1 rest)
     ]
 
 -- the first number of two rising lists with the same numbers is the same
-first_at_least : (x y : ℕ) (xs ys : List ℕ) → Above y ys → ((n : ℕ) → has (x ∷ xs) n ≡ has (y ∷ ys) n) → y ≤ x
+first_at_least : (x y : ℕ) (xs ys : List ℕ) → Above y ys → ((n : ℕ) → is_among (x ∷ xs) n ≡ is_among (y ∷ ys) n) → y ≤ x
 first_at_least x y xs ys above same =
-    let there : has (y ∷ ys) x ≡ true = sym (same x) ∙ grind (arith, nat_tests) in
+    let there : is_among (y ∷ ys) x ≡ true = sym (same x) ∙ grind (arith, nat_tests) in
     elim (cases_eq y x) [
       | inl e ↦ omega arith
-      | inr e ↦ (let rest : has ys x ≡ true = grind (arith, nat_tests) in let more : y < x = above_this y x ys above rest in omega arith)
+      | inr e ↦ (let rest : is_among ys x ≡ true = grind (arith, nat_tests) in let more : y < x = above_this y x ys above rest in omega arith)
     ]
 
-same_rest : (x : ℕ) (xs ys : List ℕ) → Above x xs → Above x ys → ((n : ℕ) → has (x ∷ xs) n ≡ has (x ∷ ys) n) → (n : ℕ) → has xs n ≡ has ys n
+same_rest : (x : ℕ) (xs ys : List ℕ) → Above x xs → Above x ys → ((n : ℕ) → is_among (x ∷ xs) n ≡ is_among (x ∷ ys) n) → (n : ℕ) → is_among xs n ≡ is_among ys n
 same_rest x xs ys above other same n =
     elim (cases_eq x n) [
-      | inl e ↦ subst (λ k. has xs k ≡ has ys k) e (not_above x xs above ∙ sym (not_above x ys other))
+      | inl e ↦ subst (λ k. is_among xs k ≡ is_among ys k) e (not_above x xs above ∙ sym (not_above x ys other))
       | inr e ↦ (let whole = same n in grind (arith, nat_tests))
     ]
 
-same_lists : (ms ns : List ℕ) → Rises ms → Rises ns → ((n : ℕ) → has ms n ≡ has ns n) → ms ≡ ns
+same_lists : (ms ns : List ℕ) → Rises ms → Rises ns → ((n : ℕ) → is_among ms n ≡ is_among ns n) → ms ≡ ns
 same_lists [] [] g h same = refl
 same_lists [] (n ∷ ns) g h same = let no = same n in absurd (grind (arith, nat_tests))
 same_lists (m ∷ ms) [] g h same = let no = same m in absurd (grind (arith, nat_tests))
@@ -97,16 +97,16 @@ same_lists (m ∷ ms) (n ∷ ns) g h same =
     let high : m ≤ n = first_at_least n m ns ms g.0 (λ k. sym (same k)) in
     let one : n ≡ m = omega arith in
     let above : Above m ns = subst (λ k. Above k ns) one h.0 in
-    let all : (k : ℕ) → has (m ∷ ms) k ≡ has (m ∷ ns) k = subst (λ j. (k : ℕ) → has (m ∷ ms) k ≡ has (j ∷ ns) k) one same in
+    let all : (k : ℕ) → is_among (m ∷ ms) k ≡ is_among (m ∷ ns) k = subst (λ j. (k : ℕ) → is_among (m ∷ ms) k ≡ is_among (j ∷ ns) k) one same in
     ap (λ (l : List ℕ). m ∷ l) (same_lists ms ns g.1 h.1 (same_rest m ms ns g.0 above all)) ∙ ap (λ k. k ∷ ns) (sym one)
 
 or_assoc : (a b c : Bool) → (a || (b || c)) ≡ (a || b || c)
 or_assoc true b c = refl
 or_assoc false b c = refl
 
-pub has_append : (xs ys : List ℕ) (n : ℕ) → has (xs ++ ys) n ≡ (has xs n || has ys n)
+pub has_append : (xs ys : List ℕ) (n : ℕ) → is_among (xs ++ ys) n ≡ (is_among xs n || is_among ys n)
 has_append [] ys n = refl
-has_append (x ∷ xs) ys n = ap (λ t. x == n || t) (has_append xs ys n) ∙ or_assoc (x == n) (has xs n) (has ys n)
+has_append (x ∷ xs) ys n = ap (λ t. x == n || t) (has_append xs ys n) ∙ or_assoc (x == n) (is_among xs n) (is_among ys n)
 
 -- a number between those in front, all below it, and those behind, all above it
 above_inserted : (x n : ℕ) (xs ys : List ℕ) → x < n → Above x (xs ++ ys) → Above x (xs ++ n ∷ ys)

@@ -1,13 +1,21 @@
-//! Small values that several layers stand on: numbers in rising order, and shares of a whole.
+//! What every layer stands on: lists and texts as contracts see them, numbers in rising order and as texts,
+//! shares of a whole, the mark that a text may begin with, and the limits of the program.
 #![tactic(auto)]
 
+mod commas;
 mod laws;
+pub mod limits;
+mod listed;
+mod mark;
 mod merge;
 mod numbers;
 mod place;
 mod share;
 
+pub use commas::{push_commas, push_list};
 pub use laws::rising_same;
+pub use listed::{Listed, Text};
+pub use mark::{is_marked, without_mark};
 pub use numbers::Numbers;
 pub use share::Share;
 use std::alloc::AllocError;

@@ -1,11 +1,11 @@
-ghost use Rattle.std.specs.Prelude.{◌≡◌, ℕ, ◌+◌, ◌-◌, ◌<◌, ◌≤◌, ◌==◌, ◌||◌, not, [], ◌∷◌, ◌++◌, IsTrue, IsOk, IfOk, OnOk, OnErr, vec_len, vec_capacity, All, filter, length, take};
+ghost use Rattle.std.specs.Prelude.{◌≡◌, ℕ, ◌+◌, ◌-◌, ◌<◌, ◌≤◌, ◌==◌, ◌||◌, not, [], ◌∷◌, ◌++◌, IsTrue, IsOk, IfOk, IsSome, IsNone, IfSome, OnOk, OnErr, vec_len, vec_capacity, All, filter, length, take};
 ghost use Rattle.std.specs.Option.{option_to_list};
 ghost use Rattle.std.specs.List.Sorted.{IsStrictlyIncreasing};
-ghost use Rattle.sp_base.specs.Numbers.{NumberList, has, is_within};
+ghost use Rattle.sp_base.specs.Numbers.{NumberList, is_within, is_among};
 
 use crate::Memory;
 use crate::merge::merged;
-use crate::place::{is_at, is_past, place, within};
+use crate::place::{is_at, is_past, place, rises, within};
 use std::alloc::Global;
 use std::marker::Model;
 
@@ -35,6 +35,20 @@ impl Numbers {
         }
     }
 
+    /// The numbers of a list; None exactly where they don't rise strictly.
+    pub fn from_list(alloc: Global, list: &[u32]) -> Result<Option<Numbers>, Memory>
+        ensures value { IfOk result (λ numbers. IfSome numbers (λ n. n.list ≡ list.now)) }
+        ensures some { IfOk result (λ numbers. IsSome numbers → IsStrictlyIncreasing list.now) }
+        ensures none { IfOk result (λ numbers. IsNone numbers → ¬ IsStrictlyIncreasing list.now) }
+    {
+        if !rises(list) {
+            return Ok(None);
+        }
+        Ok(Some(Numbers {
+            list: list.to_vec(alloc)?,
+        }))
+    }
+
     /// Its numbers, rising strictly.
     pub fn list(&self) -> &[u32]
         ensures list { result.now ≡ self.now.list }
@@ -43,17 +57,9 @@ impl Numbers {
         &self.list
     }
 
-    /// The vector of its numbers, rising strictly. Takes no memory.
-    pub fn into_list(self) -> Vec<u32>
-        ensures list { result.items ≡ self.list }
-        ensures rising { IsStrictlyIncreasing result.items }
-    {
-        self.list
-    }
-
     /// Whether this number is among them.
     pub fn has(&self, n: u32) -> bool
-        ensures { result ≡ has self.now.list n }
+        ensures { result ≡ is_among self.now.list n }
     {
         is_at(&self.list, place(&self.list, n), n)
     }
@@ -61,12 +67,12 @@ impl Numbers {
     /// Takes a number in, behind the others where it is greater than all of them. True exactly where it
     /// wasn't there. After want of memory, which comes only where nothing is spare, the list is as before.
     pub fn insert(&mut self, n: u32) -> Result<bool, Memory>
-        ensures added { IfOk result (λ added. added ≡ not (has self.old.list n)) }
+        ensures added { IfOk result (λ added. added ≡ not (is_among self.old.list n)) }
         ensures members { OnOk result
-            ((m : ℕ) → has self.new.list m ≡ (m == n || has self.old.list m)) }
+            ((m : ℕ) → is_among self.new.list m ≡ (m == n || is_among self.old.list m)) }
         ensures last { OnOk result
             (All (λ m. m < n) self.old.list → self.new.list ≡ self.old.list ++ n ∷ []) }
-        ensures there { IsTrue (has self.old.list n) → self.new.list ≡ self.old.list }
+        ensures there { IsTrue (is_among self.old.list n) → self.new.list ≡ self.old.list }
         ensures rising { IsStrictlyIncreasing self.new.list }
         ensures err { OnErr result (self.new.list ≡ self.old.list) }
         ensures full { OnErr result (self.old.spare ≡ 0) }
@@ -89,10 +95,11 @@ impl Numbers {
     /// less is spare after it.
     pub fn put(&mut self, n: u32) -> bool
         requires { 0 < self.old.spare }
-        ensures added { result ≡ not (has self.old.list n) }
-        ensures members { (m : ℕ) → has self.new.list m ≡ (m == n || has self.old.list m) }
+        ensures added { result ≡ not (is_among self.old.list n) }
+        ensures members { (m : ℕ) → is_among self.new.list m
+            ≡ (m == n || is_among self.old.list m) }
         ensures last { All (λ m. m < n) self.old.list → self.new.list ≡ self.old.list ++ n ∷ [] }
-        ensures there { IsTrue (has self.old.list n) → self.new.list ≡ self.old.list }
+        ensures there { IsTrue (is_among self.old.list n) → self.new.list ≡ self.old.list }
         ensures rising { IsStrictlyIncreasing self.new.list }
         ensures spare { self.old.spare ≤ self.new.spare + 1 }
     {
@@ -113,7 +120,8 @@ impl Numbers {
     /// memory the list is as before.
     pub fn union(&mut self, alloc: Global, other: &Numbers) -> Result<(), Memory>
         ensures members { OnOk result
-            ((n : ℕ) → has self.new.list n ≡ (has self.old.list n || has other.now.list n)) }
+            ((n : ℕ) → is_among self.new.list n
+            ≡ (is_among self.old.list n || is_among other.now.list n)) }
         ensures rising { IsStrictlyIncreasing self.new.list }
         ensures err { OnErr result (self.new.list ≡ self.old.list) }
         ensures empty_ok { other.now.list ≡ [] → IsOk result }
@@ -129,6 +137,13 @@ impl Numbers {
                 Ok(())
             }
         }
+    }
+
+    /// Takes a number out, if it is among them. Takes no memory.
+    pub fn remove(&mut self, n: u32)
+        ensures { self.new.list ≡ filter (λ m. not (m == n)) self.old.list }
+    {
+        self.list.retain(|m| *m != n);
     }
 
     /// Takes the greatest number away, None where there is none. Takes no memory.

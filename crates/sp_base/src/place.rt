@@ -1,7 +1,19 @@
 ghost use Rattle.std.specs.Prelude.{◌≡◌, ◌<◌, ◌≤◌, ◌↔◌, IsTrue, length, All, filter};
 ghost use Rattle.std.specs.List.Sorted.{IsStrictlyIncreasing};
-ghost use Rattle.sp_base.specs.Numbers.{has, is_within};
+ghost use Rattle.sp_base.specs.Numbers.{is_within, is_among};
 ghost use Rattle.sp_base.specs.Place.{IsPlace};
+
+/// Whether numbers rise strictly.
+pub(crate) fn rises(list: &[u32]) -> bool
+    ensures { IsTrue result ↔ IsStrictlyIncreasing list.now }
+{
+    for i in 1..list.len() {
+        if list[i - 1] >= list[i] {
+            return false;
+        }
+    }
+    true
+}
 
 /// How many numbers of a rising list are below this one. A number past the last one is told at once,
 /// since most calls bring one; others are searched by halves.
@@ -33,7 +45,7 @@ pub(crate) fn is_past(list: &[u32], n: u32) -> bool
 pub(crate) fn is_at(list: &[u32], at: usize, n: u32) -> bool
     requires rising { IsStrictlyIncreasing list.now }
     requires place { IsPlace n list.now at }
-    ensures { result ≡ has list.now n }
+    ensures { result ≡ is_among list.now n }
 {
     at < list.len() && list[at] == n
 }

@@ -49,7 +49,6 @@ pub mod ReadOn
 pub mod ReadyIds
 pub mod Refused
 pub mod Renewing
-pub mod RisingLists
 pub mod Rolled
 pub mod Roomier
 pub mod Roots

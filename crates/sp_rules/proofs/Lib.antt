@@ -1,7 +1,6 @@
 pub mod Readings
 pub mod Numbers
 pub mod Lists
-pub mod RisingLists
 pub mod Facts
 pub mod Tickets
 pub mod Tree

@@ -1,14 +1,28 @@
--- Rising lists that grow by insertion: what is among them, and that they rise.
-use Rattle.std.proofs.Common.{◌≡◌, ◌≢◌, ℕ, zero, suc, ◌+◌, ◌<◌, ◌⊎◌, Bool, true, false, cond, ◌||◌, ◌==◌, nat_lt, List, [], ◌∷◌, ◌++◌, length, slice_index, filter, ⊎_elim, refl, sym, ap, ◌∙◌, subst, arith}
+-- Rising lists that take in numbers: what is among them, and that they rise.
+use Rattle.std.proofs.Common.{◌≡◌, ℕ, zero, suc, ◌+◌, ◌<◌, ◌⊎◌, Bool, true, false, cond, ◌||◌, ◌==◌, nat_lt, List, [], ◌∷◌, ◌++◌, length, slice_index, ⊎_elim, inl, inr, refl, sym, ap, ◌∙◌, subst, arith}
 use Rattle.std.specs.Prelude.{⊤}
 use Rattle.std.specs.List.Sorted.{IsStrictlyIncreasing}
 use Rattle.std.proofs.lemmas.Bool.Decides.{nat_tests}
-use Rattle.std.proofs.lemmas.List.Elements.{All-filter}
 use Rattle.std.proofs.lemmas.List.Sums.{fold-append}
-use Rattle.std.proofs.lemmas.List.Kept.{IsStrictlyIncreasing-filter}
-use Rattle.sp_plan.specs.Runs.{is_among}
-use Rattle.sp_group.specs.Rising.{with_number, with_numbers, IsLabel}
-use Rattle.sp_rules.proofs.Lists.{or_cases, or_left, or_right}
+use Rattle.sp_base.specs.Numbers.{RisingSame, is_among, with_number, with_numbers}
+use Rattle.sp_base.proofs.Rising.{rising_same as same_numbers}
+
+or_cases : (a b : Bool) → (a || b) ≡ true → (a ≡ true) ⊎ (b ≡ true)
+or_cases true b h = inl refl
+or_cases false b h = inr h
+
+or_left : (a b : Bool) → a ≡ true → (a || b) ≡ true
+or_left true b h = refl
+or_left false b h = absurd (cc)
+
+or_right : (a b : Bool) → b ≡ true → (a || b) ≡ true
+or_right true b h = refl
+or_right false b h = h
+
+either_way : (a b : Bool) → (a ≡ true → b ≡ true) → (b ≡ true → a ≡ true) → a ≡ b
+either_way true b f g = sym (f refl)
+either_way false true f g = g refl
+either_way false false f g = refl
 
 or_last : (a b c : Bool) → (a || (b || c)) ≡ ((b || c) || a)
 or_last true true c = refl
@@ -77,6 +91,7 @@ tail_increases x xs h k l =
     let at : suc k + 1 ≡ suc (k + 1) = omega arith in
     subst (λ (j : ℕ). slice_index xs k < slice_index (x ∷ xs) j) at (h (suc k) (omega (arith, l)))
 
+-- in a list that increases each number is below all those behind it
 pub rises : (xs : List ℕ) → IsStrictlyIncreasing xs → Rises xs
 rises [] h = tt
 rises (x ∷ xs) h = (first_below xs h (rises xs (tail_increases x xs h)), rises xs (tail_increases x xs h))
@@ -115,36 +130,39 @@ numbers_up : (ms ns : List ℕ) → Rises ms → Rises (with_numbers ms ns)
 numbers_up ms [] up = up
 numbers_up ms (n ∷ ns) up = numbers_up (with_number ms n) ns (number_rises ms n up)
 
+-- a rising list still rises with these numbers more
 pub numbers_rise : (ms ns : List ℕ) → IsStrictlyIncreasing ms → IsStrictlyIncreasing (with_numbers ms ns)
 numbers_rise ms ns rising = increases (with_numbers ms ns) (numbers_up ms ns (rises ms rising))
 
-same_rising : (xs ys : List ℕ) → Rises xs → Rises ys → ((r : ℕ) → is_among xs r ≡ true → is_among ys r ≡ true) → ((r : ℕ) → is_among ys r ≡ true → is_among xs r ≡ true) → xs ≡ ys
-same_rising [] [] hx hy a b = refl
-same_rising [] (y ∷ ys) hx hy a b = absurd (let h = b y (grind (arith, nat_tests)) in cc)
-same_rising (x ∷ xs) [] hx hy a b = absurd (let h = a x (grind (arith, nat_tests)) in cc)
-same_rising (x ∷ xs) (y ∷ ys) hx hy a b =
-    let same : x ≡ y = heads in
-    let rest : xs ≡ ys = same_rising xs ys hx.1 hy.1 (λ r m. left r m) (λ r m. right r m) in
-    cc
-  where
-    heads : x ≡ y
-    heads =
-        let p = a x (grind (arith, nat_tests)) in
-        let q = b y (grind (arith, nat_tests)) in
-        let l = hx.0 y in
-        let m = hy.0 x in
-        grind (arith, nat_tests)
-
-    left : (r : ℕ) → is_among xs r ≡ true → is_among ys r ≡ true
-    left r m = let l = hx.0 r m in let p = a r in let s = heads in grind (arith, nat_tests)
-
-    right : (r : ℕ) → is_among ys r ≡ true → is_among xs r ≡ true
-    right r m = let l = hy.0 r m in let p = b r in let s = heads in grind (arith, nat_tests)
-
 -- rising lists with the same members are the same
 pub rising_same : (xs ys : List ℕ) → IsStrictlyIncreasing xs → IsStrictlyIncreasing ys → ((r : ℕ) → is_among xs r ≡ true → is_among ys r ≡ true) → ((r : ℕ) → is_among ys r ≡ true → is_among xs r ≡ true) → xs ≡ ys
-rising_same xs ys hx hy a b = same_rising xs ys (rises xs hx) (rises ys hy) a b
+rising_same xs ys hx hy a b = same_numbers xs ys hx hy (λ r. either_way (is_among xs r) (is_among ys r) (a r) (b r))
 
--- a part of a label is a label
-pub label_filter : (p : ℕ → Bool) (xs : List ℕ) → IsLabel xs → IsLabel (filter p xs)
-label_filter p xs label = record { rising = IsStrictlyIncreasing-filter p xs label.rising; given = All-filter p (λ r. r ≢ 0) xs label.given }
+-- a rising list that has the numbers of both is the one with the others' numbers more
+pub union_is : RisingSame → (ms ns ks : List ℕ) → IsStrictlyIncreasing ms → IsStrictlyIncreasing ks → ((i : ℕ) → is_among ks i ≡ (is_among ms i || is_among ns i)) → ks ≡ with_numbers ms ns
+union_is law ms ns ks rising up members = law ks (with_numbers ms ns) up (numbers_rise ms ns rising) (λ i. members i ∙ sym (among_numbers ms ns i))
+
+same_test : (a b : ℕ) → (a == b) ≡ (b == a)
+same_test a b = one (a == b) (b == a) refl refl
+  where
+    one : (x y : Bool) → (a == b) ≡ x → (b == a) ≡ y → (a == b) ≡ (b == a)
+    one true true e f = e ∙ sym f
+    one false false e f = e ∙ sym f
+    one true false e f = grind (arith, nat_tests)
+    one false true e f = grind (arith, nat_tests)
+
+turned : (a b : Bool) → (a || b) ≡ (b || a)
+turned true true = refl
+turned true false = refl
+turned false true = refl
+turned false false = refl
+
+-- a rising list that has one number more is the one that took it in
+pub put_is : RisingSame → (ms : List ℕ) (n : ℕ) (ks : List ℕ) → IsStrictlyIncreasing ms → IsStrictlyIncreasing ks → ((i : ℕ) → is_among ks i ≡ (i == n || is_among ms i)) → ks ≡ with_number ms n
+put_is law ms n ks rising up members =
+    law ks (with_number ms n) up (numbers_rise ms (n ∷ []) rising)
+    (λ i. members i ∙ turned (i == n) (is_among ms i) ∙ ap (λ (b : Bool). is_among ms i || b) (same_test i n) ∙ sym (among_number ms n i))
+
+-- the groups of a version with a run that was taken in
+pub taken_in : (old new : List ℕ) (run : ℕ) → new ≡ with_number old run → (r : ℕ) → is_among new r ≡ (is_among old r || r == run)
+taken_in old new run is r = ap (λ (l : List ℕ). is_among l r) is ∙ among_number old run r ∙ ap (λ (b : Bool). is_among old r || b) (same_test run r)
