@@ -1,5 +1,6 @@
 -- A run over the input and the output: what it took, what that comes to, and what it wrote and answered.
 use Rattle.std.specs.Prelude.{◌≡◌, ◌≢◌, ◌⊎◌, ◌<◌, ◌≤◌, ℕ, Bool, true, false, List, [], ◌++◌, length}
+use Rattle.sp_base.specs.Limits.{piece_limit}
 use Rattle.sp_io.specs.Outside.{SourceState, SinkState, Gave, Grew, GrewWithin, Rose}
 use Rattle.sp_answer.specs.Outcome.{Outcome, Ending, ending_of, line_of}
 use Rattle.sp_answer.specs.declared.status.Status.TheVariants.{Done, Memory, Read, Write}
@@ -17,7 +18,7 @@ pub record ReadsNoFurther (is_outcome : List ℕ → Bool → Outcome → Type 0
   pub front : List ℕ
   pub piece : List ℕ
   pub are : taken ≡ front ++ piece
-  pub short : length piece ≤ 4096
+  pub short : length piece ≤ piece_limit
   pub outcome : Outcome
   pub goes_on : is_outcome front false outcome
   pub is_open : outcome.status ≡ Read

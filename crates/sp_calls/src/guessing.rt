@@ -1,7 +1,7 @@
 // A tree of guesses, and the shares of its open groups: how likely its versions are to survive, which of them
 // are picked, and which child comes next.
 ghost use Rattle.std.specs.Prelude.{◌≡◌, true, All, IsSome, IsTrue};
-ghost use Rattle.sp_plan.specs.Runs.{is_among};
+ghost use Rattle.sp_base.specs.Numbers.{is_among};
 ghost use Rattle.sp_group.specs.Family.{entry_at};
 ghost use Rattle.sp_tree.specs.Grown.{kin, is_open, CanStand};
 

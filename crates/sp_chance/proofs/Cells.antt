@@ -5,6 +5,7 @@ use Rattle.std.proofs.lemmas.List.{get_or-set_other, get_or-set_same, length-set
 use Rattle.std.proofs.lemmas.List.FromFn.{length-map-range_with_len, get_or-map-range_with_len}
 use Rattle.std.proofs.lemmas.Bool.Decides.{eqb_tells}
 use Rattle.std.proofs.lemmas.Bool.{eq-eqb}
+use Rattle.sp_base.specs.Limits.{whole_share}
 use Rattle.sp_chance.specs.Matrices.{total, matrix, at, others, settled_at, settled}
 use Rattle.sp_chance.proofs.Totals.{total-suc, total-same, total-le, total-first}
 
@@ -72,10 +73,10 @@ with-it f i r (suc n) reached =
     (let less : i ≤ n = omega arith in eq-or-lt_of_le less)
 
 -- each row of a settled matrix is whole, where the others leave something
-pub settled-whole : (f : ℕ → ℕ → ℕ) (i : ℕ) → i < 33 → total 33 (others f i) ≤ 65536 → total 33 (at (settled f) i) ≡ 65536
+pub settled-whole : (f : ℕ → ℕ → ℕ) (i : ℕ) → i < 33 → total 33 (others f i) ≤ whole_share → total 33 (at (settled f) i) ≡ whole_share
 unfolding settled
 settled-whole f i row most =
-    let r : ℕ = 65536 - total 33 (others f i) in
+    let r : ℕ = whole_share - total 33 (others f i) in
     let numbers : total 33 (at (matrix (settled_at f)) i) ≡ total 33 (settled_at f i)
     = total-same 33 _ _ (λ j column. at-matrix (settled_at f) i j row column) in
     omega (arith, numbers, with-it (f i) i r 33 row)
@@ -91,7 +92,7 @@ at-settled f i j row column = at-matrix (settled_at f) i j row column
 pub settled-off : (f : ℕ → ℕ → ℕ) (i j : ℕ) → i < j → j < 33 → at (settled f) i j ≡ f i j
 settled-off f i j up column =
     at-settled f i j (omega arith) column
-    ∙ ap (λ b. cond b (65536 - total 33 (others f i)) (f i j)) (eqb_not j i (omega arith))
+    ∙ ap (λ b. cond b (whole_share - total 33 (others f i)) (f i j)) (eqb_not j i (omega arith))
 
 -- nothing on the diagonal, and the number there, are the whole row
 pub others-and-it : (f : ℕ → ℕ → ℕ) (i : ℕ) → i < 33 → total 33 (others f i) ≤ total 33 (f i)
@@ -110,7 +111,7 @@ pub settled-row : (f g : ℕ → ℕ → ℕ) (i : ℕ) → i < 33 → ((j : ℕ
     → (j : ℕ) → j < 33 → at (settled f) i j ≡ at (settled g) i j
 settled-row f g i row same j column =
     at-settled f i j row column
-    ∙ settled_choice_same (j == i) _ _ (f i j) (g i j) (ap (λ x. 65536 - x) (others-same f g i same)) (same j column)
+    ∙ settled_choice_same (j == i) _ _ (f i j) (g i j) (ap (λ x. whole_share - x) (others-same f g i same)) (same j column)
     ∙ sym (at-settled g i j row column)
 
 nothing_else : (f : ℕ → ℕ → ℕ) (i k : ℕ) → (i < k → k < 33 → f i k ≡ 0) → i ≤ k → k < 33 → others f i k ≡ 0
@@ -146,25 +147,25 @@ pub at-set_same : (m : List ℕ) (r i j : ℕ) → i * 33 + j < length m → at 
 at-set_same m r i j within = get_or-set_same m (i * 33 + j) r 0 within
 
 -- the row that is settled now
-settled_row : (old m : List ℕ) (s r : ℕ) → AreSettled old m s → s < 33 → r ≡ 65536 - total 33 (others (at m) s)
+settled_row : (old m : List ℕ) (s r : ℕ) → AreSettled old m s → s < 33 → r ≡ whole_share - total 33 (others (at m) s)
     → (j : ℕ) → j < 33 → at (slice_set m (s * 33 + s) r) s j ≡ settled_at (at old) s j
 settled_row old m s r so row is j column =
     let kept : (k : ℕ) → k < 33 → at m s k ≡ at old s k = λ k below. so.left s k (omega arith) row below in
-    let rest : r ≡ 65536 - total 33 (others (at old) s) = is ∙ ap (λ x. 65536 - x) (others-same (at m) (at old) s (λ k below _. kept k below)) in
+    let rest : r ≡ whole_share - total 33 (others (at old) s) = is ∙ ap (λ x. whole_share - x) (others-same (at m) (at old) s (λ k below _. kept k below)) in
     ⊎_elim
     (λ (on : ((j == s) ≡ true) × (j ≡ s)).
     ap (λ k. at (slice_set m (s * 33 + s) r) s k) on.1
     ∙ at-set_same m r s s (rw so.size (cell_within s s row row))
     ∙ rest
-    ∙ sym (ap (λ b. cond b (65536 - total 33 (others (at old) s)) (at old s j)) on.0))
+    ∙ sym (ap (λ b. cond b (whole_share - total 33 (others (at old) s)) (at old s j)) on.0))
     (λ (off : ((j == s) ≡ false) × (j ≢ s)).
     let apart : j ≢ s = off.1 in
     at-set_other m (s * 33 + s) r s j (omega arith)
     ∙ kept j column
-    ∙ sym (ap (λ b. cond b (65536 - total 33 (others (at old) s)) (at old s j)) off.0))
+    ∙ sym (ap (λ b. cond b (whole_share - total 33 (others (at old) s)) (at old s j)) off.0))
     (eqb_tells j s)
 
-pub one-more-settled : (old m : List ℕ) (s r : ℕ) → AreSettled old m s → s < 33 → r ≡ 65536 - total 33 (others (at m) s)
+pub one-more-settled : (old m : List ℕ) (s r : ℕ) → AreSettled old m s → s < 33 → r ≡ whole_share - total 33 (others (at m) s)
     → AreSettled old (slice_set m (s * 33 + s) r) (s + 1)
 one-more-settled old m s r so row is = record {
   size = length-set m (s * 33 + s) r ∙ so.size;

@@ -7,6 +7,7 @@ use Rattle.std.proofs.lemmas.Bool.Decides.{eqb_tells, nat_tests}
 use Rattle.std.proofs.lemmas.List.{get_or-replicate, get_or-set_other, length-set, length-take, take_more}
 use Rattle.std.proofs.lemmas.List.Sums.{count_by-le-length, sum_by-cons, sum_by_push, sum_by-append}
 use Rattle.std.proofs.lemmas.Grind.{get_or-set_at}
+use Rattle.sp_base.specs.Limits.{whole_share}
 use Rattle.sp_chance.specs.Matrices.{at, count, leaving, moved}
 use Rattle.sp_chance.specs.Counted.{decoded, is_counted, tally, AreCounted, moved_by}
 use Rattle.sp_chance.proofs.Cells.{eqb_not, cell_within}
@@ -113,5 +114,5 @@ pub moved-counted : (pairs : List (ℕ × ℕ)) (counts : List ℕ) → AreCount
 moved-counted pairs counts counted i j row column off =
     let leave : at counts i i ≡ leaving i pairs = counted i i row row ∙ tally-on pairs i in
     let lead : at counts i j ≡ count i j pairs = counted i j row column ∙ tally-off pairs i j (not_same i j off) in
-    ap (λ t. cond (t == 0) (cond (j + 1 == i) 32768 0) (at counts i j * 65536 / t)) leave
-    ∙ ap (λ n. cond (leaving i pairs == 0) (cond (j + 1 == i) 32768 0) (n * 65536 / leaving i pairs)) lead
+    ap (λ t. cond (t == 0) (cond (j + 1 == i) 32768 0) (at counts i j * whole_share / t)) leave
+    ∙ ap (λ n. cond (leaving i pairs == 0) (cond (j + 1 == i) 32768 0) (n * whole_share / leaving i pairs)) lead

@@ -5,6 +5,7 @@ use Rattle.std.proofs.lemmas.Bool.{eqb-true, cases_lt}
 use Rattle.std.proofs.lemmas.Bool.Decides.{nat_tests}
 use Rattle.std.proofs.lemmas.List.Elements.{All-tail}
 use Rattle.std.proofs.lemmas.List.Sums.{sum_by-cons}
+use Rattle.sp_base.specs.Limits.{whole_share}
 use Rattle.sp_chance.specs.Matrices.{total, at, AreWhole, others, settled, count, leaving, moved, transitions, joined, product, first, power, RowsAreWhole}
 use Rattle.sp_chance.specs.Counted.{HasRows, SameRows, IsMove, AreCounted, moved_by}
 use Rattle.sp_chance.proofs.Totals.{total-same, total-le, total-plus, total-times, total-zeros, total-turned, total-rounded, total-once, total-nothing, part-le-total}
@@ -12,20 +13,20 @@ use Rattle.sp_chance.proofs.Cells.{eqb_not, others-and-it, settled-off, settled-
 use Rattle.sp_chance.proofs.Counting.{moved-counted}
 
 -- one row of a product, before it is rounded, where each row that it takes of is whole
-row_of_products : (a b : List ℕ) (i : ℕ) → total 33 (at a i) ≡ 65536
-    → ((k : ℕ) → k < 33 → total 33 (at b k) * at a i k ≡ 65536 * at a i k)
-    → total 33 (λ j. total 33 (λ k. at a i k * at b k j)) ≡ 65536 * 65536
+row_of_products : (a b : List ℕ) (i : ℕ) → total 33 (at a i) ≡ whole_share
+    → ((k : ℕ) → k < 33 → total 33 (at b k) * at a i k ≡ whole_share * at a i k)
+    → total 33 (λ j. total 33 (λ k. at a i k * at b k j)) ≡ whole_share * whole_share
 row_of_products a b i left right =
-    let one : (k : ℕ) → k < 33 → total 33 (λ j. at a i k * at b k j) ≡ at a i k * 65536
+    let one : (k : ℕ) → k < 33 → total 33 (λ j. at a i k * at b k j) ≡ at a i k * whole_share
     = λ k below.
     let turned : total 33 (λ j. at a i k * at b k j) ≡ total 33 (λ j. at b k j * at a i k) = total-same 33 _ _ (λ j _. omega arith) in
     omega (arith, turned, total-times 33 (at b k) (at a i k), right k below)
     in
-    let all : total 33 (λ k. total 33 (λ j. at a i k * at b k j)) ≡ total 33 (λ k. at a i k * 65536) = total-same 33 _ _ one in
-    omega (arith, total-turned 33 33 (λ j k. at a i k * at b k j), all, total-times 33 (at a i) 65536, left)
+    let all : total 33 (λ k. total 33 (λ j. at a i k * at b k j)) ≡ total 33 (λ k. at a i k * whole_share) = total-same 33 _ _ one in
+    omega (arith, total-turned 33 33 (λ j k. at a i k * at b k j), all, total-times 33 (at a i) whole_share, left)
 
 -- no number is above the whole
-cell_most : (m : List ℕ) (i j : ℕ) → total 33 (at m i) ≡ 65536 → j < 33 → at m i j ≤ 65536
+cell_most : (m : List ℕ) (i j : ℕ) → total 33 (at m i) ≡ whole_share → j < 33 → at m i j ≤ whole_share
 cell_most m i j whole column = omega (arith, part-le-total 33 (at m i) j column, whole)
 
 -- of a row behind the first ones nothing is taken
@@ -34,30 +35,30 @@ none_taken rows a left i k row behind below = left.falls i k row (omega arith) b
 
 -- nor is a sum of products above the square of the whole
 pub products-most : (rows : ℕ) (a b : List ℕ) → HasRows rows a → HasRows rows b → (i j : ℕ) → i < rows → j < 33
-    → total 33 (λ k. at a i k * at b k j) ≤ 65536 * 65536
+    → total 33 (λ k. at a i k * at b k j) ≤ whole_share * whole_share
 products-most rows a b left right i j row column =
-    let each : total 33 (λ k. at a i k * at b k j) ≤ total 33 (λ k. at a i k * 65536)
+    let each : total 33 (λ k. at a i k * at b k j) ≤ total 33 (λ k. at a i k * whole_share)
     = total-le 33 _ _ (λ k below.
     ⊎_elim
     (λ (first : k < rows). mul-le-mul_left (at a i k) (cell_most b k j (right.whole k first) column))
     (λ (behind : rows ≤ k). let none = none_taken rows a left i k row behind below in omega (arith, ap (λ x. x * at b k j) none))
     (cases_lt k rows)) in
-    omega (arith, each, total-times 33 (at a i) 65536, left.whole i row)
+    omega (arith, each, total-times 33 (at a i) whole_share, left.whole i row)
 
-joined_most : (a b : List ℕ) (i : ℕ) → i < 33 → total 33 (at a i) ≡ 65536
-    → ((k : ℕ) → k < 33 → total 33 (at b k) * at a i k ≡ 65536 * at a i k) → total 33 (others (joined a b) i) ≤ 65536
+joined_most : (a b : List ℕ) (i : ℕ) → i < 33 → total 33 (at a i) ≡ whole_share
+    → ((k : ℕ) → k < 33 → total 33 (at b k) * at a i k ≡ whole_share * at a i k) → total 33 (others (joined a b) i) ≤ whole_share
 joined_most a b i row left right =
-    omega (arith, others-and-it (joined a b) i row, total-rounded 33 (λ j. total 33 (λ k. at a i k * at b k j)) 65536, row_of_products a b i left right)
+    omega (arith, others-and-it (joined a b) i row, total-rounded 33 (λ j. total 33 (λ k. at a i k * at b k j)) whole_share, row_of_products a b i left right)
 
 takes : (rows : ℕ) (a b : List ℕ) → HasRows rows a → HasRows rows b → (i k : ℕ) → i < rows → k < 33
-    → total 33 (at b k) * at a i k ≡ 65536 * at a i k
+    → total 33 (at b k) * at a i k ≡ whole_share * at a i k
 takes rows a b left right i k row below =
     ⊎_elim
     (λ (first : k < rows). ap (λ x. x * at a i k) (right.whole k first))
     (λ (behind : rows ≤ k). let none = none_taken rows a left i k row behind below in omega (arith, ap (λ x. total 33 (at b k) * x) none))
     (cases_lt k rows)
 
-pub joined-most : (rows : ℕ) (a b : List ℕ) → HasRows rows a → HasRows rows b → rows ≤ 33 → (i : ℕ) → i < rows → total 33 (others (joined a b) i) ≤ 65536
+pub joined-most : (rows : ℕ) (a b : List ℕ) → HasRows rows a → HasRows rows b → rows ≤ 33 → (i : ℕ) → i < rows → total 33 (others (joined a b) i) ≤ whole_share
 joined-most rows a b left right most i row =
     joined_most a b i (omega arith) (left.whole i row) (λ k below. takes rows a b left right i k row below)
 
@@ -76,7 +77,7 @@ no_way_up rows a b left right i j row up column k below =
 
 pub joined-falls : (rows : ℕ) (a b : List ℕ) → HasRows rows a → HasRows rows b → (i j : ℕ) → i < rows → i < j → j < 33 → joined a b i j ≡ 0
 joined-falls rows a b left right i j row up column =
-    ap (λ x. x / 65536) (total-nothing 33 (λ k. at a i k * at b k j) (no_way_up rows a b left right i j row up column))
+    ap (λ x. x / whole_share) (total-nothing 33 (λ k. at a i k * at b k j) (no_way_up rows a b left right i j row up column))
 
 pub product-rows : (rows : ℕ) (a b : List ℕ) → HasRows rows a → HasRows rows b → rows ≤ 33 → HasRows rows (product a b)
 unfolding product
@@ -90,7 +91,7 @@ product-rows rows a b left right most = record {
 joined_same : (rows : ℕ) (a b c d : List ℕ) → HasRows rows a → SameRows rows a c → SameRows rows b d → (i j : ℕ) → i < rows → j < 33
     → joined a b i j ≡ joined c d i j
 joined_same rows a b c d left same other i j row column =
-    ap (λ x. x / 65536) (total-same 33 (λ k. at a i k * at b k j) (λ k. at c i k * at d k j) (λ k below.
+    ap (λ x. x / whole_share) (total-same 33 (λ k. at a i k * at b k j) (λ k. at c i k * at d k j) (λ k below.
     ⊎_elim
     (λ (first : k < rows). ap (λ x. x * at b k j) (same i k row below) ∙ ap (λ x. at c i k * x) (other k j first column))
     (λ (behind : rows ≤ k).
@@ -147,7 +148,7 @@ counts-within n i (p ∷ ps) =
 step_down : ℕ → ℕ → ℕ
 step_down i j = cond (j + 1 == i) 32768 0
 
-parts : (b : Bool) (t n : ℕ) (f : ℕ → ℕ) (i : ℕ) → (b ≡ false → 0 < t) → total n f ≤ t → total n (λ j. cond b (cond (j + 1 == i) 32768 0) (f j * 65536 / t)) ≤ 65536
+parts : (b : Bool) (t n : ℕ) (f : ℕ → ℕ) (i : ℕ) → (b ≡ false → 0 < t) → total n f ≤ t → total n (λ j. cond b (cond (j + 1 == i) 32768 0) (f j * whole_share / t)) ≤ whole_share
 parts true t n f i some within =
     omega (
       arith,
@@ -156,16 +157,16 @@ parts true t n f i some within =
     )
 parts false t n f i some within =
     let above : 0 < t = some refl in
-    let rounded : total n (λ j. f j * 65536 / t) * t ≤ total n (λ j. f j * 65536) = total-rounded n (λ j. f j * 65536) t in
-    let all : total n (λ j. f j * 65536) ≡ total n f * 65536 = total-times n f 65536 in
-    let enough : total n (λ j. f j * 65536 / t) * t ≤ 65536 * t = omega arith in
+    let rounded : total n (λ j. f j * whole_share / t) * t ≤ total n (λ j. f j * whole_share) = total-rounded n (λ j. f j * whole_share) t in
+    let all : total n (λ j. f j * whole_share) ≡ total n f * whole_share = total-times n f whole_share in
+    let enough : total n (λ j. f j * whole_share / t) * t ≤ whole_share * t = omega arith in
     le_of_mul-le-mul_right enough above
 
 zero_not : (t : ℕ) → (t == 0) ≡ false → 0 < t
 zero_not zero is = absurd (cc)
 zero_not (suc t) is = omega arith
 
-pub moved-most : (pairs : List (ℕ × ℕ)) (i : ℕ) → i < 33 → total 33 (others (moved pairs) i) ≤ 65536
+pub moved-most : (pairs : List (ℕ × ℕ)) (i : ℕ) → i < 33 → total 33 (others (moved pairs) i) ≤ whole_share
 moved-most pairs i row =
     let t : ℕ = leaving i pairs in
     omega (arith, others-and-it (moved pairs) i row, parts (t == 0) t 33 (λ j. count i j pairs) i (zero_not t) (counts-within 33 i pairs))
@@ -190,8 +191,8 @@ not_down false c x no_step none = none
 
 moved-falls : (pairs : List (ℕ × ℕ)) → All IsMove pairs → (i j : ℕ) → i < j → moved pairs i j ≡ 0
 moved-falls pairs moves i j up =
-    not_down (leaving i pairs == 0) (j + 1 == i) (count i j pairs * 65536 / leaving i pairs) (eqb_not (j + 1) i (omega arith))
-    (ap (λ n. n * 65536 / leaving i pairs) (count-up pairs moves i j up) ∙ zero-div (leaving i pairs))
+    not_down (leaving i pairs == 0) (j + 1 == i) (count i j pairs * whole_share / leaving i pairs) (eqb_not (j + 1) i (omega arith))
+    (ap (λ n. n * whole_share / leaving i pairs) (count-up pairs moves i j up) ∙ zero-div (leaving i pairs))
 
 pub transitions-rows : (pairs : List (ℕ × ℕ)) → All IsMove pairs → HasRows 33 (transitions pairs)
 unfolding transitions
@@ -215,7 +216,7 @@ transitions-written rows pairs counts m most counted written i j row column =
     settled-row (at m) (moved pairs) i (omega arith) (λ k below off. parts_written rows pairs counts m most counted written i k row below off) j column
 
 pub written-most : (rows : ℕ) (pairs : List (ℕ × ℕ)) (counts m : List ℕ) → rows ≤ 33 → AreCounted pairs counts
-    → ((n : ℕ) → n < rows * 33 → get_or m n 0 ≡ moved_by counts (n / 33) (n % 33)) → (i : ℕ) → i < rows → total 33 (others (at m) i) ≤ 65536
+    → ((n : ℕ) → n < rows * 33 → get_or m n 0 ≡ moved_by counts (n / 33) (n % 33)) → (i : ℕ) → i < rows → total 33 (others (at m) i) ≤ whole_share
 written-most rows pairs counts m most counted written i row =
     omega (
       arith,

@@ -1,13 +1,14 @@
 -- What the calls that build matrices do, over the numbers that stand in memory.
 use Rattle.std.specs.Prelude.{◌≡◌, ℕ, ◌+◌, ◌*◌, ◌/◌, ◌%◌, ◌<◌, ◌≤◌, Bool, List, length, ◌==◌, ◌&&◌, ◌||◌, if◌then◌else◌, slice_index}
 use Rattle.std.specs.List.{count_by}
+use Rattle.sp_base.specs.Limits.{whole_share}
 use Rattle.sp_chance.specs.Matrices.{total, at, power}
 
 -- room for 33 rows of 33 numbers; in the first rows, so many, the sum is 65,536, and nothing stands where more
 -- events would be wanted than before
 pub record HasRows (rows : ℕ) (m : List ℕ) : Type 0 where
   pub size : length m ≡ 1089
-  pub whole : (i : ℕ) → i < rows → total 33 (at m i) ≡ 65536
+  pub whole : (i : ℕ) → i < rows → total 33 (at m i) ≡ whole_share
   pub falls : (i j : ℕ) → i < rows → i < j → j < 33 → at m i j ≡ 0
 
 -- the first rows, so many, are the same
@@ -47,7 +48,7 @@ HaveRoom more counts = (i j : ℕ) → i < 33 → j < 33 → at counts i j + mor
 abbrev pub moved_by : List ℕ → ℕ → ℕ → ℕ
 moved_by counts i j =
     let t = at counts i i in
-    if t == 0 then if j + 1 == i then 32768 else 0 else at counts i j * 65536 / t
+    if t == 0 then if j + 1 == i then 32768 else 0 else at counts i j * whole_share / t
 
 -- for the first states, so many, how likely each is to come to 0 in each of sixteen powers
 abbrev pub HasColumns : ℕ → List ℕ → List ℕ → Type 0

@@ -1,6 +1,7 @@
 -- What a predictor has learned, and how likely it holds a completion to be.
 use Rattle.std.specs.Prelude.{◌≡◌, ℕ, ◌+◌, ◌-◌, ◌/◌, ◌≤◌, Bool, List, [], ◌∷◌, ◌++◌, min, All, fold, length, nat_le, ◌==◌, ◌&&◌, if◌then◌else◌}
 use Rattle.circular_buffer.specs.Buffer.{keep_last}
+use Rattle.sp_base.specs.Limits.{renewal, whole_share}
 use Rattle.sp_chance.specs.Matrices.{at, first, power}
 use Rattle.sp_chance.specs.Counted.{IsMove, HasColumns}
 
@@ -25,7 +26,7 @@ with_pair ring from to = keep_last 256 (ring ++ (from, to) ∷ [])
 -- with this ring after one pair more: each 1,024th builds the matrices anew
 abbrev pub turned : Learned → List (ℕ × ℕ) → Learned
 turned m ring =
-    if m.since + 1 == 1024 then record { ring = ring; since = 0; built = ring }
+    if m.since + 1 == renewal then record { ring = ring; since = 0; built = ring }
     else record { ring = ring; since = m.since + 1; built = m.built }
 
 -- a pair more; one that doesn't count changes nothing
@@ -43,7 +44,7 @@ sixteens events = min ((events + 15) / 16) 16
 -- how likely so many wanted events come while so many events pass, in 65,536ths
 abbrev pub chance_of : List (ℕ × ℕ) → ℕ → ℕ → ℕ
 chance_of pairs left events =
-    if left == 0 then 65536
+    if left == 0 then whole_share
     else if events == 0 then 0
     else at (power (first pairs) (sixteens events - 1)) (min left 32) 0
 

@@ -1,6 +1,7 @@
 -- The numbers of a matrix over the states 0 to 32, which are the events still wanted, in 65,536ths.
 use Rattle.std.specs.Prelude.{◌≡◌, ℕ, ◌+◌, ◌-◌, ◌*◌, ◌/◌, ◌%◌, ◌<◌, zero, suc, List, map, ◌==◌, ◌&&◌, if◌then◌else◌, slice_index}
 use Rattle.std.specs.List.{count_by, sum, range_with_len}
+use Rattle.sp_base.specs.Limits.{whole_share}
 
 -- the sum of the numbers of the first states, each given by f
 unfoldable pub total : ℕ → (ℕ → ℕ) → ℕ
@@ -16,7 +17,7 @@ at m i j = slice_index m (i * 33 + j)
 
 -- each row's sum is 65,536
 abbrev pub AreWhole : List ℕ → Type 0
-AreWhole m = (i : ℕ) → i < 33 → total 33 (at m i) ≡ 65536
+AreWhole m = (i : ℕ) → i < 33 → total 33 (at m i) ≡ whole_share
 
 -- row i with nothing on the diagonal
 abbrev pub others : (ℕ → ℕ → ℕ) → ℕ → ℕ → ℕ
@@ -24,7 +25,7 @@ others f i j = if j == i then 0 else f i j
 
 -- off the diagonal the number given, on it 65,536 less the row's others
 abbrev pub settled_at : (ℕ → ℕ → ℕ) → ℕ → ℕ → ℕ
-settled_at f i j = if j == i then 65536 - total 33 (others f i) else f i j
+settled_at f i j = if j == i then whole_share - total 33 (others f i) else f i j
 
 unfoldable pub settled : (ℕ → ℕ → ℕ) → List ℕ
 settled f = matrix (settled_at f)
@@ -41,7 +42,7 @@ leaving i pairs = count_by (λ p. p.0 == i) pairs
 abbrev pub moved : List (ℕ × ℕ) → ℕ → ℕ → ℕ
 moved pairs i j =
     let t = leaving i pairs in
-    if t == 0 then if j + 1 == i then 32768 else 0 else count i j pairs * 65536 / t
+    if t == 0 then if j + 1 == i then 32768 else 0 else count i j pairs * whole_share / t
 
 -- one step: what the pairs tell
 unfoldable pub transitions : List (ℕ × ℕ) → List ℕ
@@ -49,7 +50,7 @@ transitions pairs = settled (moved pairs)
 
 -- off the diagonal: the sum of the products of row i and column j, rounded down
 abbrev pub joined : List ℕ → List ℕ → ℕ → ℕ → ℕ
-joined a b i j = total 33 (λ k. at a i k * at b k j) / 65536
+joined a b i j = total 33 (λ k. at a i k * at b k j) / whole_share
 
 -- one step behind the other
 unfoldable pub product : List ℕ → List ℕ → List ℕ

@@ -1,6 +1,9 @@
 ghost use Rattle.std.specs.Prelude.{◌≡◌, ℕ, ◌+◌, ◌*◌, ◌-◌, ◌/◌, ◌^◌, ◌<◌, ◌≤◌, length, slice_index};
+ghost use Rattle.sp_base.specs.Limits.{whole_share};
 ghost use Rattle.sp_chance.specs.Matrices.{total, at, others, joined, settled, product};
 ghost use Rattle.sp_chance.specs.Counted.{HasRows, SameRows};
+
+use sp_base::limits::WHOLE_SHARE;
 
 /// The states are 0 to 32, the events still wanted.
 pub(crate) const STATES: usize = 33;
@@ -9,7 +12,7 @@ pub(crate) const STATES: usize = 33;
 pub(crate) const CELLS: usize = STATES * STATES;
 
 /// The whole, in 65,536ths: the sum of each row.
-pub(crate) const WHOLE: u64 = 65_536;
+pub(crate) const WHOLE: u64 = WHOLE_SHARE as u64;
 
 /// The first rows, so many, of the matrix of the steps of one behind those of the other. No row needs one that
 /// is behind it.
@@ -75,10 +78,10 @@ fn add_row(times: u64, matrix: &[u32], row: usize, sums: &mut [u64; STATES])
 
 // Writes sums of products as a row of parts of the whole, rounded down.
 fn write_parts(sums: &[u64; STATES], row: usize, target: &mut [u32])
-    requires most { (j : ℕ) → j < 33 → slice_index sums.now j ≤ 65536 * 65536 }
+    requires most { (j : ℕ) → j < 33 → slice_index sums.now j ≤ whole_share * whole_share }
     requires row { row < 33 }
     requires size { length target.old ≡ 1089 }
-    ensures here { (j : ℕ) → j < 33 → at target.new row j ≡ slice_index sums.now j / 65536 }
+    ensures here { (j : ℕ) → j < 33 → at target.new row j ≡ slice_index sums.now j / whole_share }
     ensures before { (n : ℕ) → n < row * 33 → slice_index target.new n ≡ slice_index target.old n }
 {
     for column in 0..STATES {
@@ -92,7 +95,7 @@ pub(crate) fn settle(target: &mut [u32], rows: usize)
     requires size { length target.old ≡ 1089 }
     requires rows { rows ≤ 33 }
     requires falls { (i j : ℕ) → i < rows → i < j → j < 33 → at target.old i j ≡ 0 }
-    requires most { (i : ℕ) → i < rows → total 33 (others (at target.old) i) ≤ 65536 }
+    requires most { (i : ℕ) → i < rows → total 33 (others (at target.old) i) ≤ whole_share }
     ensures { SameRows rows target.new (settled (at target.old)) }
 {
     for state in 0..rows {
@@ -105,8 +108,8 @@ fn rest(matrix: &[u32], row: usize) -> u32
     requires size { length matrix.now ≡ 1089 }
     requires row { row < 33 }
     requires falls { (j : ℕ) → row < j → j < 33 → at matrix.now row j ≡ 0 }
-    requires most { total 33 (others (at matrix.now) row) ≤ 65536 }
-    ensures { result ≡ 65536 - total 33 (others (at matrix.now) row) }
+    requires most { total 33 (others (at matrix.now) row) ≤ whole_share }
+    ensures { result ≡ whole_share - total 33 (others (at matrix.now) row) }
 {
     let mut rest = WHOLE;
     for column in 0..row {

@@ -1,4 +1,5 @@
 ghost use Rattle.std.specs.Prelude.{◌≡◌, ◌<◌, ◌≤◌, [], ◌∷◌, All, map, length};
+ghost use Rattle.sp_base.specs.Limits.{whole_share};
 ghost use Rattle.sp_chance.specs.Matrices.{at, transitions};
 ghost use Rattle.sp_chance.specs.Counted.{HasRows, SameRows, IsMove, AreCounted, AreAdded, HaveRoom, decoded, moved_by};
 
@@ -69,7 +70,7 @@ fn part(counts: &[u32], row: usize, column: usize) -> u32
     requires column { column < 33 }
     requires most { at counts.now row column ≤ at counts.now row row }
     ensures value { result ≡ moved_by counts.now row column }
-    ensures most { result ≤ 65536 }
+    ensures most { result ≤ whole_share }
 {
     let leaving = counts[row * STATES + row];
     if leaving == 0 {

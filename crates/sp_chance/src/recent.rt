@@ -1,19 +1,18 @@
 ghost use Rattle.std.specs.Prelude.{◌≡◌, ◌+◌, [], ◌==◌, map, if◌then◌else◌};
+ghost use Rattle.sp_base.specs.Limits.{renewal};
 ghost use Rattle.sp_chance.specs.Counted.{decoded, IsMove};
 ghost use Rattle.sp_chance.specs.Learned.{with_pair};
 
 use crate::pairs::{RECENT, encode};
+use sp_base::limits::RENEWAL;
 use std::marker::Model;
-
-/// At each so many pairs learned the answers turn to the last pairs. So many go round the ring some times
-/// over: behind a turn it begins at its first place.
-const TURN: u32 = 1_024;
 
 /// The last 256 pairs that were learned. Contracts see them, and how many were learned since the last turn.
 #[derive(Drop)]
 pub(crate) struct Recent {
     codes: [u16; RECENT],
-    // This is also the place of the next pair, round the ring.
+    // This is also the place of the next pair, round the ring: a turn begins anew at its first place, since the
+    // pairs between two turns go round it some times over.
     since: u32,
     // Whether there was a turn, so that no place is empty.
     full: bool,
@@ -28,7 +27,7 @@ impl Model for Recent {
 
     ghost view = { λ r. record { ring = map decoded (ring_of r.codes r.since r.full); since = r.since } };
 
-    ghost invariant = { λ r. r.since < 1024 };
+    ghost invariant = { λ r. r.since < renewal };
 }
 
 impl Recent {
@@ -47,12 +46,12 @@ impl Recent {
     pub(crate) fn push(&mut self, from: u32, to: u32) -> bool
         requires { IsMove (from, to) }
         ensures ring { self.new.ring ≡ with_pair self.old.ring from to }
-        ensures turn { result ≡ (self.old.since + 1 == 1024) }
+        ensures turn { result ≡ (self.old.since + 1 == renewal) }
         ensures since { self.new.since
-            ≡ (if self.old.since + 1 == 1024 then 0 else self.old.since + 1) }
+            ≡ (if self.old.since + 1 == renewal then 0 else self.old.since + 1) }
     {
         self.codes[self.since as usize % RECENT] = encode(from, to);
-        if self.since + 1 < TURN {
+        if self.since + 1 < RENEWAL {
             self.since += 1;
             return false;
         }

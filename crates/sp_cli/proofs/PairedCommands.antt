@@ -2,6 +2,7 @@
 use Rattle.std.proofs.Common.{◌≡◌, List, ◌∷◌, ◌∙◌, ap}
 use Rattle.std.specs.Prelude.{option_and_then, option_map, unwrap_or, codes}
 use Rattle.clap.specs.Walk.{Row, Text, first_of}
+use Rattle.sp_base.specs.Limits.{live_limit, batch_limit, event_limit}
 use Rattle.sp_cli.specs.Numbers.{number, number_or}
 use Rattle.sp_cli.specs.Commands.{plain, one_source, with_numbers, run_of, trace_of, drill_of, source_in, live_in, speed_in, run_in, plain_in, trace_in}
 use Rattle.sp_cli.specs.Paired.{PairsAreFound, value_of}
@@ -13,10 +14,10 @@ module _ (rows : List Row) (said : List (Text × Text)) (are : (id : Text) → f
   source_same = λ i. one_source (are (codes "query") i) (are (codes "file") i)
 
   live_same : live_in rows ≡ live_said said
-  live_same = λ i. number_or 64 1 4096 (are (codes "live") i)
+  live_same = λ i. number_or 64 1 live_limit (are (codes "live") i)
 
   speed_same : speed_in rows ≡ speed_said said
-  speed_same = λ i. with_numbers (number_or 2 0 16 (are (codes "instances") i)) (live_same i) (number_or 64 1 1024 (are (codes "batch") i)) (unwrap_or (are (codes "predictor") i) (codes "markov"))
+  speed_same = λ i. with_numbers (number_or 2 0 16 (are (codes "instances") i)) (live_same i) (number_or 64 1 batch_limit (are (codes "batch") i)) (unwrap_or (are (codes "predictor") i) (codes "markov"))
 
 pub pairs_are_commands : PairsAreFound → PairsAreCommands
 pairs_are_commands finds = record {
@@ -32,5 +33,5 @@ pairs_are_commands finds = record {
   drill = λ events seed words said pairs.
       let at = finds.drill words said pairs in
       let speed = ap (option_and_then speed_in) at.1 ∙ speed_same at.0 said at.2 in
-      ap (drill_of (number 1 1048576 events) (number 0 4294967295 seed)) speed;
+      ap (drill_of (number 1 event_limit events) (number 0 4294967295 seed)) speed;
 }

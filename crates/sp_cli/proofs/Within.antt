@@ -4,6 +4,7 @@ use Rattle.std.specs.Prelude.{codes, option_and_then, option_map, unwrap_or}
 use Rattle.std.specs.Str.{bytes_eq}
 use Rattle.std.specs.Str.Parse.{digits_value}
 use Rattle.clap.specs.Walk.{Row, Text, first_of}
+use Rattle.sp_base.specs.Limits.{live_limit, batch_limit, event_limit}
 use Rattle.sp_cli.specs.Numbers.{number, number_or, is_numeral, is_between}
 use Rattle.sp_cli.specs.Options.{found, run_options, plain_options, trace_options, drill_options}
 use Rattle.sp_cli.specs.Commands.{Command, QuerySource, Speed, run, plain, trace, drill, with_numbers, instances_in, live_in, batch_in, predictor_in, source_in, speed_in, run_of, trace_of, drill_of, run_in, plain_in, trace_in, drill_at, run_at, plain_at, trace_at}
@@ -39,20 +40,20 @@ number_or_within : (left_out least greatest : ℕ) → IsBetween least greatest 
 number_or_within left_out least greatest within None = has_some (IsBetween least greatest) left_out within
 number_or_within left_out least greatest within (Some text) = number_within least greatest text
 
-numbers_within : (i l b : Option ℕ) (p : Text) → Has (IsBetween 0 16) i → Has (IsBetween 1 4096) l → Has (IsBetween 1 1024) b → Has IsSpeedWithin (with_numbers i l b p)
+numbers_within : (i l b : Option ℕ) (p : Text) → Has (IsBetween 0 16) i → Has (IsBetween 1 live_limit) l → Has (IsBetween 1 batch_limit) b → Has IsSpeedWithin (with_numbers i l b p)
 numbers_within None l b p hi hl hb = has_none IsSpeedWithin
 numbers_within (Some i) None b p hi hl hb = has_none IsSpeedWithin
 numbers_within (Some i) (Some l) None p hi hl hb = has_none IsSpeedWithin
 numbers_within (Some i) (Some l) (Some b) p hi hl hb =
     has_some IsSpeedWithin (record { instances = i; live = l; batch = b; predictor = p }) (record { instances = hi i refl; live = hl l refl; batch = hb b refl })
 
-live_within : (rows : List Row) → Has (IsBetween 1 4096) (live_in rows)
-live_within rows = number_or_within 64 1 4096 (omega arith, omega arith) (first_of (codes "live") rows)
+live_within : (rows : List Row) → Has (IsBetween 1 live_limit) (live_in rows)
+live_within rows = number_or_within 64 1 live_limit (omega arith, omega arith) (first_of (codes "live") rows)
 
 speed_within : (rows : List Row) → Has IsSpeedWithin (speed_in rows)
 speed_within rows = numbers_within (instances_in rows) (live_in rows) (batch_in rows) (predictor_in rows)
     (number_or_within 2 0 16 (omega arith, omega arith) (first_of (codes "instances") rows)) (live_within rows)
-    (number_or_within 64 1 1024 (omega arith, omega arith) (first_of (codes "batch") rows))
+    (number_or_within 64 1 batch_limit (omega arith, omega arith) (first_of (codes "batch") rows))
 
 run_within : (query : Option QuerySource) (speed : Option Speed) → Has IsSpeedWithin speed → Has IsWithin (run_of query speed)
 run_within None speed h = has_none IsWithin
@@ -63,13 +64,13 @@ plain_within : (query : Option QuerySource) → Has IsWithin (option_map plain q
 plain_within None = has_none IsWithin
 plain_within (Some query) = has_some IsWithin (plain query) tt
 
-trace_within : (query : Option QuerySource) (schedule : Option Text) (live : Option ℕ) → Has (IsBetween 1 4096) live → Has IsWithin (trace_of query schedule live)
+trace_within : (query : Option QuerySource) (schedule : Option Text) (live : Option ℕ) → Has (IsBetween 1 live_limit) live → Has IsWithin (trace_of query schedule live)
 trace_within None schedule live h = has_none IsWithin
 trace_within (Some query) None live h = has_none IsWithin
 trace_within (Some query) (Some schedule) None h = has_none IsWithin
 trace_within (Some query) (Some schedule) (Some live) h = has_some IsWithin (trace query schedule live) (h live refl)
 
-drill_within : (events seed : Option ℕ) (speed : Option Speed) → Has (IsBetween 1 1048576) events → Has (IsBetween 0 4294967295) seed → Has IsSpeedWithin speed
+drill_within : (events seed : Option ℕ) (speed : Option Speed) → Has (IsBetween 1 event_limit) events → Has (IsBetween 0 4294967295) seed → Has IsSpeedWithin speed
     → Has IsWithin (drill_of events seed speed)
 drill_within None seed speed he hs h = has_none IsWithin
 drill_within (Some events) None speed he hs h = has_none IsWithin
@@ -83,8 +84,8 @@ behind P read h (Some rows) = h rows
 drill_at_within : (words : List Text) → Has IsWithin (drill_at words)
 drill_at_within [] = has_none IsWithin
 drill_at_within (events ∷ []) = has_none IsWithin
-drill_at_within (events ∷ seed ∷ words) = drill_within (number 1 1048576 events) (number 0 4294967295 seed) (option_and_then speed_in (found drill_options words))
-    (number_within 1 1048576 events) (number_within 0 4294967295 seed) (behind IsSpeedWithin speed_in speed_within (found drill_options words))
+drill_at_within (events ∷ seed ∷ words) = drill_within (number 1 event_limit events) (number 0 4294967295 seed) (option_and_then speed_in (found drill_options words))
+    (number_within 1 event_limit events) (number_within 0 4294967295 seed) (behind IsSpeedWithin speed_in speed_within (found drill_options words))
 
 either : (b : Bool) (one other : Option Command) → Has IsWithin one → Has IsWithin other → Has IsWithin (if b then one else other)
 either true one other h k = h

@@ -4,6 +4,7 @@ use Rattle.std.specs.Str.{bytes_eq}
 use Rattle.clap.specs.Walk.{Row, Text, first_of, rows_of}
 use Rattle.clap.specs.Matches.{found_of}
 use Rattle.clap.specs.declared.parser.matches.ArgMatches.{ArgMatches}
+use Rattle.sp_base.specs.Limits.{live_limit, batch_limit, event_limit}
 use Rattle.sp_cli.specs.Numbers.{number, number_or}
 use Rattle.sp_cli.specs.Options.{found, run_options, plain_options, trace_options, drill_options}
 use Rattle.sp_cli.specs.declared.command.Command.{Command as FoundCommand}
@@ -46,10 +47,10 @@ abbrev pub instances_in : List Row → Option ℕ
 instances_in rows = number_or 2 0 16 (first_of (codes "instances") rows)
 
 abbrev pub live_in : List Row → Option ℕ
-live_in rows = number_or 64 1 4096 (first_of (codes "live") rows)
+live_in rows = number_or 64 1 live_limit (first_of (codes "live") rows)
 
 abbrev pub batch_in : List Row → Option ℕ
-batch_in rows = number_or 64 1 1024 (first_of (codes "batch") rows)
+batch_in rows = number_or 64 1 batch_limit (first_of (codes "batch") rows)
 
 abbrev pub predictor_in : List Row → Text
 predictor_in rows = unwrap_or (first_of (codes "predictor") rows) (codes "markov")
@@ -97,7 +98,7 @@ trace_at words = option_and_then trace_in (found trace_options words)
 -- the two words behind `drill` are its events and its seed
 abbrev pub drill_at : List Text → Option Command
 drill_at (events ∷ seed ∷ words) =
-    drill_of (number 1 1048576 events) (number 0 4294967295 seed) (option_and_then speed_in (found drill_options words))
+    drill_of (number 1 event_limit events) (number 0 4294967295 seed) (option_and_then speed_in (found drill_options words))
 drill_at _ = None
 
 abbrev pub command_at : Text → List Text → Option Command

@@ -1,6 +1,7 @@
 -- Words in pairs as whole commands.
 use Rattle.std.specs.Prelude.{◌≡◌, ℕ, List, ◌∷◌, Option, option_map, unwrap_or, codes}
 use Rattle.clap.specs.Walk.{Text}
+use Rattle.sp_base.specs.Limits.{live_limit, batch_limit, event_limit}
 use Rattle.sp_cli.specs.Numbers.{number, number_or}
 use Rattle.sp_cli.specs.Commands.{QuerySource, Speed, plain, one_source, with_numbers, run_of, trace_of, drill_of, command_of}
 use Rattle.sp_cli.specs.Paired.{IsSourceName, IsSpeedName, IsRunName, IsTraceName, ArePairs, value_of}
@@ -10,11 +11,11 @@ abbrev pub source_said : List (Text × Text) → Option QuerySource
 source_said said = one_source (value_of (codes "query") said) (value_of (codes "file") said)
 
 abbrev pub live_said : List (Text × Text) → Option ℕ
-live_said said = number_or 64 1 4096 (value_of (codes "live") said)
+live_said said = number_or 64 1 live_limit (value_of (codes "live") said)
 
 abbrev pub speed_said : List (Text × Text) → Option Speed
 speed_said said =
-    with_numbers (number_or 2 0 16 (value_of (codes "instances") said)) (live_said said) (number_or 64 1 1024 (value_of (codes "batch") said))
+    with_numbers (number_or 2 0 16 (value_of (codes "instances") said)) (live_said said) (number_or 64 1 batch_limit (value_of (codes "batch") said))
     (unwrap_or (value_of (codes "predictor") said) (codes "markov"))
 
 -- Behind the name of a command, and behind the two numbers of a drill, words in pairs give the command that their values say.
@@ -26,4 +27,4 @@ pub record PairsAreCommands : Type 0 where
   pub trace : (words : List Text) (said : List (Text × Text)) → ArePairs IsTraceName words said
       → command_of (codes "trace" ∷ words) ≡ trace_of (source_said said) (value_of (codes "schedule") said) (live_said said)
   pub drill : (events seed : Text) (words : List Text) (said : List (Text × Text)) → ArePairs IsSpeedName words said
-      → command_of (codes "drill" ∷ events ∷ seed ∷ words) ≡ drill_of (number 1 1048576 events) (number 0 4294967295 seed) (speed_said said)
+      → command_of (codes "drill" ∷ events ∷ seed ∷ words) ≡ drill_of (number 1 event_limit events) (number 0 4294967295 seed) (speed_said said)

@@ -5,12 +5,13 @@ ghost use Rattle.sp_cli.specs.Commands.{command_of, run_at, plain_at, trace_at, 
 use crate::command::{Command, UsageFault};
 use crate::options::{drill_options, find_options, plain_options, run_options, trace_options};
 use crate::values::{Limits, live_in, number_of, source_in, speed_in, value_of};
+use sp_base::limits::EVENT_LIMIT;
 use std::alloc::Global;
 
 // How many events a drill may have.
 const EVENTS: Limits = Limits {
     least: 1,
-    greatest: 1_048_576,
+    greatest: EVENT_LIMIT,
 };
 
 const SEED: Limits = Limits {

@@ -7,6 +7,7 @@ ghost use Rattle.sp_cli.specs.Commands as specs;
 
 use crate::command::{QuerySource, Speed, UsageFault};
 use clap::ArgMatches;
+use sp_base::limits::{BATCH_LIMIT, LIVE_LIMIT};
 use std::alloc::Global;
 
 /// The numbers that a word may write.
@@ -27,12 +28,12 @@ const INSTANCES: Limits = Limits {
 
 const LIVE: Limits = Limits {
     least: 1,
-    greatest: 4096,
+    greatest: LIVE_LIMIT,
 };
 
 const BATCH: Limits = Limits {
     least: 1,
-    greatest: 1024,
+    greatest: BATCH_LIMIT,
 };
 
 /// The number within the limits that the text writes: one to ten digits.

@@ -3,6 +3,8 @@ use Rattle.std.proofs.Common.{◌≡◌, ℕ, zero, suc, ◌+◌, Bool, false, n
 use Rattle.std.specs.Prelude.{pos, is_some, is_none, slice_get, filter, find, ◌==◌, if◌then◌else◌, codes}
 use Rattle.std.specs.List.{fold, flat_map, filter_map, enumerate_from, range_with_len, list_all, last_or, zip}
 use Rattle.std.specs.Fmt.{decimal}
+use Rattle.sp_base.specs.Commas.{commas, list_text}
+use Rattle.sp_base.specs.Numbers.{is_among}
 use Rattle.sp_cut.specs.CutRows.{CutRow, row, long_row, open_quote, rows}
 use Rattle.sp_plan.specs.declared.event.Event.{Event}
 use Rattle.sp_plan.specs.declared.plan.Plan.{Plan}
@@ -16,9 +18,9 @@ use Rattle.sp_plan.specs.declared.plan.Select.{Select}
 use Rattle.sp_plan.specs.declared.plan.Select.TheVariants.{First, Last, Each}
 use Rattle.sp_plan.specs.declared.found.Match.{Match}
 use Rattle.sp_plan.specs.Texts.{with_text}
-use Rattle.sp_plan.specs.Lines.{name_text, commas, used_text, line, text}
+use Rattle.sp_plan.specs.Lines.{name_text, line, text}
 use Rattle.sp_plan.specs.Windows.{Numbered, Window, windows_by, window_from, numbered, windows, closed}
-use Rattle.sp_plan.specs.Runs.{Run, Started, State, Handling, Pair, unbound, is_filled, again, bound_events, fits_name, takes, is_complete, is_consumed, used, is_among, holds_one, numbers_under, fresh, completed, kept_with, grown, leaves, passed, offered, handle_run, may_start, started_with, handle, state, matched_runs}
+use Rattle.sp_plan.specs.Runs.{Run, Started, State, Handling, Pair, unbound, is_filled, again, bound_events, fits_name, takes, is_complete, is_consumed, used, holds_one, numbers_under, fresh, completed, kept_with, grown, leaves, passed, offered, handle_run, may_start, started_with, handle, state, matched_runs}
 use Rattle.sp_plan.specs.Sequential.{Progress, match_of, visible, after_window, seq, whole}
 use Rattle.sp_rows.specs.Rows.{RowsRead, ColumnAt, nothing, place_of, columns_at, is_place, header_or_fault, event_or_fault, first_fault, row_of_cells, by_cells}
 use Rattle.sp_rows.specs.Cells.{RowCells, blank, one, several, row_cells}
@@ -179,7 +181,7 @@ module _ (q p : Plan) (alike : Alike q p) where
   line_same m = λ i.
       codes "w=" ++ decimal m.window ++ codes " m=" ++ decimal m.number
       ++ flat_map (λ (pair : ℕ × List ℕ). codes " " ++ text_same (slice_get q.names pair.0) (slice_get p.names pair.0) (alike.names pair.0) i ++ codes "=" ++ commas pair.1) m.bound
-      ++ codes " used=" ++ used_text m.used ++ codes "\n"
+      ++ codes " used=" ++ list_text m.used ++ codes "\n"
 
   pub lines_same : (matches : List Match) → text q matches ≡ text p matches
   lines_same matches = λ i. flat_map (λ (m : Match). line_same m i) matches

@@ -2,10 +2,11 @@
 use Rattle.std.proofs.Common.{◌≡◌, ℕ, zero, suc, ◌+◌, ◌-◌, Bool, true, false, not, List, [], ◌∷◌, ◌++◌, length, map, Option, Some, None, refl, sym, ◌∙◌, ap}
 use Rattle.std.specs.Prelude.{◌&&◌, ◌||◌, is_some, slice_get, filter, find, reverse, ◌==◌, nat_lt, nat_le, if◌then◌else◌}
 use Rattle.std.specs.List.{flat_map, list_all, list_any, enumerate_from, range_with_len}
+use Rattle.sp_base.specs.Numbers.{is_among, with_numbers}
 use Rattle.sp_plan.specs.declared.event.Event.{Event}
 use Rattle.sp_plan.specs.declared.found.Match.{Match}
 use Rattle.sp_plan.specs.declared.plan.Plan.{Plan}
-use Rattle.sp_plan.specs.Runs.{Run, Started, State, is_among, after_closing, matched_runs}
+use Rattle.sp_plan.specs.Runs.{Run, Started, State, after_closing, matched_runs}
 use Rattle.sp_plan.specs.Windows.{Window, closed}
 use Rattle.sp_plan.specs.Reading.{event_of, after_event, read_one, reading}
 use Rattle.sp_plan.specs.WindowNumbers.{count, first_of, size_of, first, size}
@@ -14,7 +15,7 @@ use Rattle.sp_plan.specs.Moves.{pairs_of}
 use Rattle.sp_group.specs.declared.refusal.Refusal.TheVariants as r
 use Rattle.sp_group.specs.declared.step.Step.{Step}
 use Rattle.sp_group.specs.declared.step.Step.TheVariants as s
-use Rattle.sp_group.specs.Rising.{has_number, least, with_numbers}
+use Rattle.sp_group.specs.Rising.{has_number, least}
 use Rattle.sp_group.specs.Family.{prune, is_parent}
 use Rattle.sp_group.specs.Machine.{Version, Ticket, Machine, opening, kin, version_at, ticket_at, out_for, root_in, inner, is_group, is_spent, is_named, is_withheld, withheld_by, suppressed_below, suppressed_by, is_read, is_bare, is_hit, conflict}
 use Rattle.sp_group.specs.Refusing.{refuse_if, refuse_for, id_of, child_with, not_open, has_nothing_to_read, root_refusal, child_refusal, spawn_refusal, lease_refusal, roll_refusal, refusal}

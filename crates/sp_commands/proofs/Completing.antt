@@ -4,6 +4,8 @@ use Rattle.std.proofs.lemmas.List.{append-nil}
 use Rattle.std.proofs.lemmas.List.Sums.{fold-append}
 use Rattle.std.specs.Prelude.{is_some}
 use Rattle.std.specs.List.{fold, Contains}
+use Rattle.sp_base.specs.Marks.{without_mark}
+use Rattle.sp_base.specs.Limits.{query_limit, schedule_limit}
 use Rattle.sp_cut.specs.CutRows.{rows}
 use Rattle.sp_cut.specs.Growth.{RowsStay}
 use Rattle.sp_io.specs.Outside.{Told, ToldFiles, SinkState, Gave, Grew, IsUsedUp, Rose, HoldsFile, HoldsLonger, first_file}
@@ -16,7 +18,7 @@ use Rattle.sp_intake.specs.declared.input.Stop.{Stop}
 use Rattle.sp_intake.specs.declared.input.Stop.TheVariants.{End, Failed}
 use Rattle.sp_intake.specs.Reading.{Reading, start, take_row, read, stop_of, stop_or}
 use Rattle.sp_intake.proofs.Leading.{stopped_stays}
-use Rattle.sp_load.specs.Places.{Place, without_mark, longest_query, HasText, IsLonger, long_word, long_file}
+use Rattle.sp_load.specs.Places.{Place, HasText, IsLonger, long_word, long_file}
 use Rattle.sp_load.specs.Places as places
 use Rattle.sp_load.specs.Queries.{IsPlanFor, IsFaulty}
 use Rattle.sp_load.specs.Laws.{OneReading}
@@ -32,7 +34,7 @@ use Rattle.sp_commands.specs.Completes.{StandsAt, in_word, in_file, TellsSchedul
 use Rattle.sp_commands.specs.Ends.{status_of, reading_outcome}
 use Rattle.sp_commands.specs.Outcome.{IsOutcome, CommandOutcome, Promise}
 use Rattle.sp_commands.specs.Run.{run_outcome, windows_text, RunOutcome, too_long, faulty, runs}
-use Rattle.sp_commands.specs.Trace.{trace_text, trace_outcome, longest_schedule, HasSchedule, TextsOutcome, traces, TraceOutcome, long_query, long_schedule, of_texts}
+use Rattle.sp_commands.specs.Trace.{trace_text, trace_outcome, HasSchedule, TextsOutcome, traces, TraceOutcome, long_query, long_schedule, of_texts}
 use Rattle.sp_commands.proofs.OneCommand.{one_command}
 use Rattle.sp_commands.proofs.OneOutcome.{one_run, one_texts}
 use Rattle.sp_commands.proofs.OneRun.{OneTruth}
@@ -74,10 +76,10 @@ gave_all bytes taken None gave used_up = absurd gave
 -- ---- the one outcome
 
 -- what stands there is within the limit
-within_limit : (files : ToldFiles) (place : Place) (text : List ℕ) → StandsAt files place text → IsLonger files longest_query place → ⊥
+within_limit : (files : ToldFiles) (place : Place) (text : List ℕ) → StandsAt files place text → IsLonger files query_limit place → ⊥
 within_limit _ _ _ (in_word text short) (long_word _ long) = omega (arith, long, short)
 within_limit files _ _ (in_file told name content are holds short) (long_file _ long) =
-    not_longer told name content longest_query holds short (subst (λ (fs : ToldFiles). HoldsLonger fs name longest_query) are long)
+    not_longer told name content query_limit holds short (subst (λ (fs : ToldFiles). HoldsLonger fs name query_limit) are long)
 
 -- and is one text
 text_there : (files : ToldFiles) (place : Place) (text other : List ℕ) → StandsAt files place text → HasText files place other → other ≡ text
@@ -109,7 +111,7 @@ module _ (reading : OneReading) (truth : OneTruth) (files : ToldFiles) (q : Plan
     trace_at : (o : Outcome) → TraceOutcome place name bound files bytes ended o → o ≡ trace_outcome q bound steps bytes ended
     trace_at _ (long_query long) = absurd (within_limit files place text stands long)
     trace_at _ (long_schedule other has longer) =
-        absurd (not_longer tells.told name tells.content longest_schedule tells.holds tells.short (subst (λ (fs : ToldFiles). HoldsLonger fs name longest_schedule) tells.are longer))
+        absurd (not_longer tells.told name tells.content schedule_limit tells.holds tells.short (subst (λ (fs : ToldFiles). HoldsLonger fs name schedule_limit) tells.are longer))
     trace_at o (of_texts other content _ has holds is) =
         one_texts reading sched truth text tells.content bound bytes ended o (trace_outcome q bound steps bytes ended)
         (subst (λ (c : List ℕ). TextsOutcome text c bound bytes ended o) (one_content content holds) (subst (λ (t : List ℕ). TextsOutcome t content bound bytes ended o) (text_there files place text other stands has) is))

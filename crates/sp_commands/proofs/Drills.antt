@@ -1,11 +1,11 @@
 -- A drill is done where no fault stands in the way.
 use Rattle.std.proofs.Common.{◌⊎◌, ◌≡◌, ◌≢◌, inl, inr, ⊎_elim, ℕ, Bool, true, false, List, [], length, sym, ◌∙◌, ap, subst, arith}
 use Rattle.std.specs.List.{Contains}
+use Rattle.sp_base.specs.Numbers.{with_numbers}
 use Rattle.sp_io.specs.Outside.{Told, ToldFiles, Grew, Rose}
 use Rattle.sp_plan.specs.declared.plan.Plan.{Plan}
 use Rattle.sp_plan.specs.Sequential.{whole}
 use Rattle.sp_plan.specs.Windows.{windows}
-use Rattle.sp_group.specs.Rising.{with_numbers}
 use Rattle.sp_emit.specs.Summary.{summary}
 use Rattle.sp_gen.specs.Generated.{generated}
 use Rattle.sp_intake.specs.Reading.{read}

@@ -1,12 +1,13 @@
 -- Words, told files and bytes have one outcome, since texts have one reading and alike plans run and trace alike.
 use Rattle.std.proofs.Common.{◌≡◌, inl, inr, ℕ, Bool, true, List, [], length, Some, refl, sym, ◌∙◌, ap, subst}
 use Rattle.std.specs.Prelude.{if◌then◌else◌}
+use Rattle.sp_base.specs.Numbers.{with_numbers}
+use Rattle.sp_base.specs.Limits.{schedule_limit}
 use Rattle.sp_io.specs.Outside.{HoldsLonger}
 use Rattle.sp_plan.specs.declared.event.Event.{Event}
 use Rattle.sp_plan.specs.declared.plan.Plan.{Plan}
 use Rattle.sp_sched.specs.Schedules.{OneSchedule}
 use Rattle.sp_sched.specs.declared.step.TraceStep.{TraceStep}
-use Rattle.sp_group.specs.Rising.{with_numbers}
 use Rattle.sp_emit.specs.Summary.{summary}
 use Rattle.sp_intake.specs.Reading.{Reading, read, is_end}
 use Rattle.sp_intake.specs.declared.input.Stop.{Stop}
@@ -25,7 +26,7 @@ use Rattle.sp_commands.specs.Alike.{Alike}
 use Rattle.sp_commands.specs.OneOutcome.{OneOutcome}
 use Rattle.sp_commands.specs.Outcome.{CommandOutcome}
 use Rattle.sp_commands.specs.Run.{run_outcome, RunOutcome, too_long, faulty, runs}
-use Rattle.sp_commands.specs.Trace.{trace_text, trace_outcome, longest_schedule, HasSchedule, TextsOutcome, faulty as faulty_query, bad_line, traces, TraceOutcome, long_query, long_schedule, of_texts}
+use Rattle.sp_commands.specs.Trace.{trace_text, trace_outcome, HasSchedule, TextsOutcome, faulty as faulty_query, bad_line, traces, TraceOutcome, long_query, long_schedule, of_texts}
 use Rattle.sp_commands.proofs.Alike.{read_same, windows_same, whole_same}
 use Rattle.sp_commands.proofs.AlikeTraces.{traced_same}
 use Rattle.sp_commands.proofs.OneCommand.{one_command}
@@ -92,8 +93,8 @@ one_texts reading sched truth query schedule bound bytes ended _ _ (traces q ste
 
 module _ (laws : RunLaws) (files : List (List ℕ × List ℕ)) (place : Place) (name : List ℕ) (bound : ℕ) (bytes : List ℕ) (ended : Bool) where
   -- a schedule within the limit is none that is longer
-  within : (content : List ℕ) → HasSchedule (Some files) name content → HoldsLonger (Some files) name longest_schedule → ⊥
-  within content holds longer = not_longer files name content longest_schedule holds.0 holds.1 longer
+  within : (content : List ℕ) → HasSchedule (Some files) name content → HoldsLonger (Some files) name schedule_limit → ⊥
+  within content holds longer = not_longer files name content schedule_limit holds.0 holds.1 longer
 
   one_trace_outcome : (a b : Outcome) → TraceOutcome place name bound (Some files) bytes ended a → TraceOutcome place name bound (Some files) bytes ended b → a ≡ b
   one_trace_outcome _ _ (long_query long) (long_query other) = refl

@@ -7,6 +7,7 @@ use Rattle.std.proofs.lemmas.Grind.{flat_map-append}
 use Rattle.std.proofs.lemmas.List.{take_more, drop_more}
 use Rattle.std.proofs.lemmas.List.Elements.{All-nil, All-cons}
 use Rattle.std.proofs.lemmas.List.Sums.{fold-append}
+use Rattle.sp_base.specs.Limits.{schedule_limit}
 use Rattle.sp_io.specs.Outside.{ToldFiles, SinkState, HoldsLonger, Grew, GrewWithin}
 use Rattle.sp_plan.specs.declared.event.Event.{Event}
 use Rattle.sp_plan.specs.declared.plan.Plan.{Plan}
@@ -34,7 +35,7 @@ use Rattle.sp_io.proofs.Grew.{within_more}
 use Rattle.sp_answer.proofs.Writing.{out_of_memory, cut_within, piece_grew, piece_quiet}
 use Rattle.sp_commands.specs.Commands.{files_at}
 use Rattle.sp_commands.specs.Ends.{status_of, status_of_refusal}
-use Rattle.sp_commands.specs.Trace.{TraceOutcome, long_query, long_schedule, of_texts, TextsOutcome, faulty, longest_schedule, trace_text, HasSchedule, RefusesTexts, RefusesTrace, OneRose, AnswersTexts, by_memory, by_refusal, by_run}
+use Rattle.sp_commands.specs.Trace.{TraceOutcome, long_query, long_schedule, of_texts, TextsOutcome, faulty, trace_text, HasSchedule, RefusesTexts, RefusesTrace, OneRose, AnswersTexts, by_memory, by_refusal, by_run}
 use Rattle.sp_commands.proofs.Running.{by_read, quiet_served, fault_served}
 
 -- ---- lines
@@ -159,14 +160,14 @@ module _ (place : Place) (name : List ℕ) (bound : ℕ) (before after_ : Filed)
 -- ---- loads
 
 -- a schedule that is too long refuses the texts, where the query is not
-pub schedule_refuses : (held : ToldFiles) (place : Place) (name text : List ℕ) → HasText held place text → (refusal : Refusal) → RefusesLoad held longest_schedule (file name) refusal → RefusesTexts held place name refusal
+pub schedule_refuses : (held : ToldFiles) (place : Place) (name text : List ℕ) → HasText held place text → (refusal : Refusal) → RefusesLoad held schedule_limit (file name) refusal → RefusesTexts held place name refusal
 schedule_refuses held place name text has r.Memory refuses = tt
 schedule_refuses held place name text has r.Read refuses = tt
 schedule_refuses held place name text has (r.Limited limit) refuses = inr (refuses.0, (text, has), longer (file name) refuses.1 refl)
   where
-    longer : (at : Place) → IsLonger held longest_schedule at → at ≡ file name → HoldsLonger held name longest_schedule
+    longer : (at : Place) → IsLonger held schedule_limit at → at ≡ file name → HoldsLonger held name schedule_limit
     longer _ (long_word words more) is = absurd (cc is)
-    longer _ (long_file own more) is = let same : own ≡ name = cc is in subst (λ (n : List ℕ). HoldsLonger held n longest_schedule) same more
+    longer _ (long_file own more) is = let same : own ≡ name = cc is in subst (λ (n : List ℕ). HoldsLonger held n schedule_limit) same more
 schedule_refuses held place name text has (r.Query code at) refuses = absurd refuses
 
 -- a fault of the query's text refuses the texts

@@ -1,5 +1,7 @@
 -- Where nothing stands in the way, a call answers done or want of memory.
 use Rattle.std.specs.Prelude.{◌≡◌, ◌⊎◌, ◌≤◌, ℕ, true, List, [], length, Some}
+use Rattle.sp_base.specs.Marks.{without_mark}
+use Rattle.sp_base.specs.Limits.{query_limit, schedule_limit}
 use Rattle.sp_io.specs.Outside.{SourceState, SinkState, ToldFiles, Grew, Rose, first_file}
 use Rattle.sp_plan.specs.declared.event.Event.{Event}
 use Rattle.sp_plan.specs.declared.plan.Plan.{Plan}
@@ -10,7 +12,7 @@ use Rattle.sp_sched.specs.declared.step.TraceStep.{TraceStep}
 use Rattle.sp_trace.specs.Traced.{traced}
 use Rattle.sp_intake.specs.declared.input.Stop.TheVariants.{End}
 use Rattle.sp_intake.specs.Reading.{read, stop_of}
-use Rattle.sp_load.specs.Places.{Place, word, file, longest_query, without_mark}
+use Rattle.sp_load.specs.Places.{Place, word, file}
 use Rattle.sp_load.specs.Queries.{IsPlanFor}
 use Rattle.sp_answer.specs.Ran.{Outside}
 use Rattle.sp_answer.specs.Promise.{Filed, NoFaultRose}
@@ -19,12 +21,11 @@ use Rattle.sp_drill.specs.Query.{drill_query}
 use Rattle.sp_commands.specs.Commands.{place_of, IsCall, GivesFiles}
 use Rattle.sp_commands.specs.Drill.{drill_text}
 use Rattle.sp_commands.specs.Outcome.{Promise}
-use Rattle.sp_commands.specs.Trace.{longest_schedule}
 
 -- The query's text stands there and is within its limit; of a file the bytes are told.
 pub data StandsAt (files : ToldFiles) : Place → List ℕ → Type 0 where
-  in_word : (query_text : List ℕ) → length query_text ≤ longest_query → StandsAt files (word query_text) query_text
-  in_file : (told : List (List ℕ × List ℕ)) (name content : List ℕ) → files ≡ Some told → first_file told name ≡ Some content → length content ≤ longest_query
+  in_word : (query_text : List ℕ) → length query_text ≤ query_limit → StandsAt files (word query_text) query_text
+  in_file : (told : List (List ℕ × List ℕ)) (name content : List ℕ) → files ≡ Some told → first_file told name ≡ Some content → length content ≤ query_limit
       → StandsAt files (file name) (without_mark content)
 
 -- The file of this name is told, within its limit, and is a schedule of these steps.
@@ -33,7 +34,7 @@ pub record TellsSchedule (files : ToldFiles) (name : List ℕ) (steps : List Tra
   pub content : List ℕ
   pub are : files ≡ Some told
   pub holds : first_file told name ≡ Some content
-  pub short : length content ≤ longest_schedule
+  pub short : length content ≤ schedule_limit
   pub is : IsSchedule content steps
 
 -- the text of the matches of all windows of these events

@@ -1,11 +1,11 @@
 -- What a drill comes to: the summary of its query over generated rows.
 use Rattle.std.specs.Prelude.{◌≡◌, ℕ, true, List, [], length}
+use Rattle.sp_base.specs.Numbers.{with_numbers}
 use Rattle.sp_io.specs.Outside.{SinkState, Grew, GrewWithin, Rose}
 use Rattle.sp_plan.specs.declared.event.Event.{Event}
 use Rattle.sp_plan.specs.declared.plan.Plan.{Plan}
 use Rattle.sp_plan.specs.Windows.{windows}
 use Rattle.sp_plan.specs.Sequential.{whole}
-use Rattle.sp_group.specs.Rising.{with_numbers}
 use Rattle.sp_emit.specs.Summary.{summary}
 use Rattle.sp_gen.specs.Generated.{generated}
 use Rattle.sp_drill.specs.Query.{drill_query}

@@ -1,5 +1,6 @@
 -- What a run comes to: the query that stands there, window by window over the input.
 use Rattle.std.specs.Prelude.{◌≡◌, ℕ, Bool, List}
+use Rattle.sp_base.specs.Limits.{query_limit}
 use Rattle.sp_io.specs.Outside.{ToldFiles}
 use Rattle.sp_plan.specs.declared.event.Event.{Event}
 use Rattle.sp_plan.specs.declared.plan.Plan.{Plan}
@@ -7,7 +8,7 @@ use Rattle.sp_plan.specs.Sequential.{whole}
 use Rattle.sp_plan.specs.Lines.{text}
 use Rattle.sp_intake.specs.Reading.{is_end}
 use Rattle.sp_intake.specs.declared.input.Stop.{Stop}
-use Rattle.sp_load.specs.Places.{Place, longest_query, IsLonger}
+use Rattle.sp_load.specs.Places.{Place, IsLonger}
 use Rattle.sp_load.specs.Queries.{IsPlanAt, IsFaultyAt}
 use Rattle.sp_answer.specs.Outcome.{Outcome, nothing_for}
 use Rattle.sp_answer.specs.declared.status.Status.TheVariants.{Query, Limited}
@@ -27,6 +28,6 @@ IsPlanRun q bytes ended o = o ≡ run_outcome q bytes ended
 
 -- The outcome of a run of the query that stands there, over what the files hold and the bytes taken from the input.
 pub data RunOutcome (place : Place) (held : ToldFiles) (bytes : List ℕ) (ended : Bool) : Outcome → Type 0 where
-  too_long : IsLonger held longest_query place → RunOutcome place held bytes ended (nothing_for (Limited longest_query))
+  too_long : IsLonger held query_limit place → RunOutcome place held bytes ended (nothing_for (Limited query_limit))
   faulty : (code at : ℕ) → IsFaultyAt held place code at → RunOutcome place held bytes ended (nothing_for (Query code at))
   runs : (q : Plan) → IsPlanAt held place q → RunOutcome place held bytes ended (run_outcome q bytes ended)

@@ -1,6 +1,7 @@
 -- What a trace comes to: the machine over the input, as a schedule steps it.
 use Rattle.std.specs.Prelude.{◌≡◌, ◌⊎◌, ◌≤◌, ℕ, Bool, List, [], length, if◌then◌else◌}
 use Rattle.std.specs.List.{Contains}
+use Rattle.sp_base.specs.Limits.{query_limit, schedule_limit}
 use Rattle.sp_io.specs.Outside.{ToldFiles, HoldsFile, HoldsLonger, Rose}
 use Rattle.sp_plan.specs.declared.event.Event.{Event}
 use Rattle.sp_plan.specs.declared.plan.Plan.{Plan}
@@ -9,7 +10,7 @@ use Rattle.sp_sched.specs.declared.step.TraceStep.{TraceStep}
 use Rattle.sp_trace.specs.Traced.{traced}
 use Rattle.sp_intake.specs.Reading.{is_end}
 use Rattle.sp_intake.specs.declared.input.Stop.{Stop}
-use Rattle.sp_load.specs.Places.{Place, longest_query, HasText, IsLonger}
+use Rattle.sp_load.specs.Places.{Place, HasText, IsLonger}
 use Rattle.sp_load.specs.Queries.{IsPlanFor, IsFaulty}
 use Rattle.sp_load.specs.declared.refusal.Refusal.{Refusal}
 use Rattle.sp_load.specs.declared.refusal.Refusal.TheVariants as r
@@ -19,10 +20,6 @@ use Rattle.sp_answer.specs.Promise.{Refused}
 use Rattle.sp_answer.specs.declared.status.Status.{Status}
 use Rattle.sp_answer.specs.declared.status.Status.TheVariants.{Memory, Query, Limited, Schedule}
 use Rattle.sp_commands.specs.Ends.{reading_outcome}
-
--- the greatest length of a schedule's file
-abbrev pub longest_schedule : ℕ
-longest_schedule = 1048576
 
 -- the printed run, where the input was read to its end
 abbrev pub trace_text : ℕ → List TraceStep → Plan → List Event → Stop → List ℕ
@@ -45,14 +42,14 @@ pub data TextsOutcome (query schedule : List ℕ) (bound : ℕ) (bytes : List �
 
 -- the file of this name holds this, within the limit of a schedule
 abbrev pub HasSchedule : ToldFiles → List ℕ → List ℕ → Type 0
-HasSchedule held name content = HoldsFile held name content × (length content ≤ longest_schedule)
+HasSchedule held name content = HoldsFile held name content × (length content ≤ schedule_limit)
 
 -- The outcome of a trace of the query that stands there by the schedule in the file of this name: the length of the query counts first,
 -- then that of the schedule, and then their texts.
 pub data TraceOutcome (place : Place) (name : List ℕ) (bound : ℕ) (held : ToldFiles) (bytes : List ℕ) (ended : Bool) : Outcome → Type 0 where
-  long_query : IsLonger held longest_query place → TraceOutcome place name bound held bytes ended (nothing_for (Limited longest_query))
-  long_schedule : (text : List ℕ) → HasText held place text → HoldsLonger held name longest_schedule
-      → TraceOutcome place name bound held bytes ended (nothing_for (Limited longest_schedule))
+  long_query : IsLonger held query_limit place → TraceOutcome place name bound held bytes ended (nothing_for (Limited query_limit))
+  long_schedule : (text : List ℕ) → HasText held place text → HoldsLonger held name schedule_limit
+      → TraceOutcome place name bound held bytes ended (nothing_for (Limited schedule_limit))
   of_texts : (text content : List ℕ) (o : Outcome) → HasText held place text → HasSchedule held name content
       → TextsOutcome text content bound bytes ended o → TraceOutcome place name bound held bytes ended o
 
@@ -63,8 +60,8 @@ abbrev pub RefusesTexts : ToldFiles → Place → List ℕ → Refusal → Type 
 RefusesTexts held place name r.Memory = Unit {0}
 RefusesTexts held place name r.Read = Unit {0}
 RefusesTexts held place name (r.Limited limit) =
-    ((limit ≡ longest_query) × IsLonger held longest_query place)
-    ⊎ ((limit ≡ longest_schedule) × ((text : List ℕ) × HasText held place text) × HoldsLonger held name longest_schedule)
+    ((limit ≡ query_limit) × IsLonger held query_limit place)
+    ⊎ ((limit ≡ schedule_limit) × ((text : List ℕ) × HasText held place text) × HoldsLonger held name schedule_limit)
 RefusesTexts held place name (r.Query code at) = ⊥
 
 -- the count of one of these files rose

@@ -2,11 +2,12 @@
 ghost use Rattle.std.specs.Prelude.{◌≡◌, ◌≢◌, ◌≤◌, ℕ, List, [], ◌∷◌, ◌++◌, false, length, IfOk, IfErr, OnOk, Err};
 ghost use Rattle.std.specs.Arc.{arc_value};
 ghost use Rattle.std.specs.List.{All};
+ghost use Rattle.sp_base.specs.Limits.{query_limit, schedule_limit, live_limit};
 ghost use Rattle.sp_plan.specs.Compiled.{IsCompiled};
 ghost use Rattle.sp_plan.specs.Events.{AllFit, NeverGoesBack};
 ghost use Rattle.sp_sched.specs.Schedules.{CanStand, IsSchedule};
 ghost use Rattle.sp_trace.specs.Traced.{after, joined, lines_for, lines_from, traced};
-ghost use Rattle.sp_load.specs.Places.{place_of, text_of, longest_query, HasText};
+ghost use Rattle.sp_load.specs.Places.{place_of, text_of, HasText};
 ghost use Rattle.sp_load.specs.Queries.{IsPlanFor};
 ghost use Rattle.sp_answer.specs.Outcome.{ending};
 ghost use Rattle.sp_answer.specs.Promise.{filed, Served};
@@ -29,6 +30,7 @@ use crate::ends::{status_of, status_of_refusal};
 use crate::output::write_texts;
 use crate::windowed::shared;
 use sp_answer::{Status, Written};
+use sp_base::limits::SCHEDULE_LIMIT;
 use sp_intake::read_input;
 use sp_io::{Files, Sink, Source};
 use sp_load::{Place, QueryText, Refusal, load_file, plan_of_text, text_at};
@@ -37,9 +39,6 @@ use sp_sched::{SchedFault, TraceStep, read_schedule};
 use sp_trace::Tracer;
 use std::alloc::Global;
 use std::sync::Arc;
-
-// The greatest length of a schedule's file.
-const LONGEST: u32 = 1_048_576;
 
 // The text of the query, and all bytes of the schedule's file.
 #[derive(Drop)]
@@ -64,7 +63,7 @@ fn load_texts<'a, F: Files>(
 ) -> Result<Texts<'a>, Refusal>
     ensures query { IfOk result
         (λ texts. HasText (F.held files.old) (place_of place.entry) (text_of texts.query)) }
-    ensures short { IfOk result (λ texts. length (text_of texts.query) ≤ longest_query) }
+    ensures short { IfOk result (λ texts. length (text_of texts.query) ≤ query_limit) }
     ensures schedule { IfOk result
         (λ texts. HasSchedule (F.held files.old) schedule.now texts.schedule.items) }
     ensures refused { IfErr result
@@ -79,7 +78,7 @@ fn load_texts<'a, F: Files>(
         Ok(query) => query,
         Err(refusal) => return Err(refusal),
     };
-    match load_file(alloc, schedule, LONGEST, files) {
+    match load_file(alloc, schedule, SCHEDULE_LIMIT, files) {
         Ok(schedule) => Ok(Texts { query, schedule }),
         Err(refusal) => Err(refusal),
     }
@@ -88,8 +87,8 @@ fn load_texts<'a, F: Files>(
 // What the texts ask for, or the status that refuses them: a fault of the query counts before a bad line
 // of the schedule.
 fn task_of(alloc: Global, texts: &Texts) -> Result<Task, Status>
-    requires short { length (text_of texts.now.query) ≤ longest_query }
-    requires few { length texts.now.schedule.items ≤ 1048576 }
+    requires short { length (text_of texts.now.query) ≤ query_limit }
+    requires few { length texts.now.schedule.items ≤ schedule_limit }
     ensures plan { IfOk result (λ task. IsPlanFor (text_of texts.now.query) task.plan) }
     ensures steps { IfOk result (λ task. IsSchedule texts.now.schedule.items task.steps.items) }
     ensures refused { IfErr result
@@ -154,7 +153,7 @@ fn print_trace<K: Sink>(
 ) -> Result<Written, Memory>
     requires compiled { IsCompiled (arc_value plan) }
     requires some { 1 ≤ live }
-    requires most { live ≤ 4096 }
+    requires most { live ≤ live_limit }
     requires fit { AllFit (arc_value plan) events.items }
     requires ordered { NeverGoesBack events.items }
     requires steps { All CanStand steps.now }
@@ -175,7 +174,7 @@ fn trace_task<S: Source, K: Sink>(
 ) -> Status
     requires compiled { IsCompiled task.plan }
     requires some { 1 ≤ live }
-    requires most { live ≤ 4096 }
+    requires most { live ≤ live_limit }
     requires steps { All CanStand task.steps.items }
     requires not_ended { (S.state input.old).ended ≡ false }
     ensures { Ran (IsPlanTrace task.plan live task.steps.items)
@@ -208,10 +207,10 @@ fn trace_texts<S: Source, K: Sink>(
     input: &mut S,
     out: &mut K,
 ) -> Status
-    requires short { length (text_of texts.now.query) ≤ longest_query }
-    requires few { length texts.now.schedule.items ≤ 1048576 }
+    requires short { length (text_of texts.now.query) ≤ query_limit }
+    requires few { length texts.now.schedule.items ≤ schedule_limit }
     requires some { 1 ≤ live }
-    requires most { live ≤ 4096 }
+    requires most { live ≤ live_limit }
     requires not_ended { (S.state input.old).ended ≡ false }
     ensures { AnswersTexts (TextsOutcome (text_of texts.now.query) texts.now.schedule.items live)
         (outside (S.state input.old) (K.state out.old))
@@ -233,7 +232,7 @@ pub fn trace<S: Source, F: Files, K: Sink>(
     out: &mut K,
 ) -> Status
     requires some { 1 ≤ asked.live }
-    requires most { asked.live ≤ 4096 }
+    requires most { asked.live ≤ live_limit }
     requires not_ended { (S.state input.old).ended ≡ false }
     ensures { let place = place_of asked.entry.place in
         let name = asked.entry.schedule.now in

@@ -1,6 +1,7 @@
 // The command `plain`: a query over the input, window by window.
 ghost use Rattle.std.specs.Prelude.{◌≡◌, ◌≤◌, false, length, IfOk};
 ghost use Rattle.std.specs.Arc.{arc_value};
+ghost use Rattle.sp_base.specs.Limits.{event_limit};
 ghost use Rattle.sp_plan.specs.Compiled.{IsCompiled};
 ghost use Rattle.sp_plan.specs.Events.{AllFit, NeverGoesBack};
 ghost use Rattle.sp_load.specs.Places.{place_of};
@@ -36,7 +37,7 @@ fn write_windows<K: Sink>(
     out: &mut K,
 ) -> Result<Written, Memory>
     requires compiled { IsCompiled (arc_value plan.now) }
-    requires few { length given.now.events.items ≤ 1048576 }
+    requires few { length given.now.events.items ≤ event_limit }
     requires fit { AllFit (arc_value plan.now) given.now.events.items }
     requires ordered { NeverGoesBack given.now.events.items }
     ensures { let text = windows_text (arc_value plan.now) given.now.events.items given.now.stop in

@@ -1,6 +1,7 @@
 -- What is known of a column that an expression reads.
 use Rattle.std.proofs.Common.{◌≡◌, ℕ, ℤ, ◌<◌, ◌≤◌, Bool, List, Some, Ok, Err, slice_get, refl, sym, ◌∙◌, ap, subst, arith}
 use Rattle.std.specs.Prelude.{if◌then◌else◌}
+use Rattle.sp_base.specs.Limits.{number_limit}
 use Rattle.sp_lex.specs.declared.token.Span.{Span}
 use Rattle.sp_lex.specs.declared.token.Word.{Word}
 use Rattle.sp_lex.specs.declared.token.Word.TheVariants as w
@@ -67,7 +68,7 @@ module _ (scope : Scope) (name text : List ℕ) (here number place : ℕ) (found
       datum_by_kind _ digits value = refl
 
 -- a column's numbers are within the bound of its sort
-bounded_by_kind : (expr : Expr) (kind : Word) (digits : ℕ) → bound expr ≡ 1000000000000000 → (kind ≡ w.Dec → digits ≤ 6) → IsBounded expr (sort_of kind digits)
+bounded_by_kind : (expr : Expr) (kind : Word) (digits : ℕ) → bound expr ≡ number_limit → (kind ≡ w.Dec → digits ≤ 6) → IsBounded expr (sort_of kind digits)
 bounded_by_kind expr w.Int digits is few = (is, omega arith)
 bounded_by_kind expr w.Dec digits is few = let less : digits ≤ 6 = few refl in (is, omega arith)
 bounded_by_kind expr _ digits is few = tt

@@ -6,6 +6,7 @@ use Rattle.std.proofs.lemmas.Nat.{div_below, le-div}
 use Rattle.std.proofs.lemmas.Grind.{div_ceil_times}
 use Rattle.std.proofs.lemmas.Bool.Decides.{nat_tests}
 use Rattle.std.proofs.lemmas.Bool.{and_parts}
+use Rattle.sp_base.specs.Limits.{number_limit, length_limit, step_limit}
 use Rattle.sp_lex.specs.declared.token.Word.{Word}
 use Rattle.sp_lex.specs.declared.token.Word.TheVariants as w
 use Rattle.sp_plan.specs.Windows.{windows_per_event, IsLength, IsOpening}
@@ -36,9 +37,9 @@ true_where false fault none = absurd (cc none)
 -- a length that has no fault
 pub length_keeps : (time : Option Ident) (number : ℕ) (unit : Word) → length_is_fine time number unit ≡ true → IsLength (plan_length number unit)
 length_keeps time number w.Time fine =
-    let limits = within_limits number 1000000000000000 ((and_parts (is_some time) (is_within number 1000000000000000) fine).1) in
+    let limits = within_limits number number_limit ((and_parts (is_some time) (is_within number number_limit) fine).1) in
     (omega (arith, ints, limits.0), omega (arith, ints, limits.1))
-length_keeps time number _ fine = within_limits number 65536 fine
+length_keeps time number _ fine = within_limits number length_limit fine
 
 -- the length of a query that has no fault there
 pub fine_length : (query : Query) → length_fault query ≡ None → length_is_fine query.time query.length.0 query.length.1 ≡ true
@@ -51,25 +52,25 @@ few size step is = grind (arith, nat_tests)
 -- a step that has none, with a length
 pub step_keeps : (size : ℕ) (of : Word) (step : ℕ) (unit : Word) → step_is_fine size of step unit ≡ true → IsOpening (plan_length size of) (plan_step step unit)
 step_keeps size w.Time step w.Time fine =
-    let both = and_parts (is_within step 1000000000000000) (nat_le (windows_per_event size step) 64) fine in
-    let limits = within_limits step 1000000000000000 both.0 in
+    let both = and_parts (is_within step number_limit) (nat_le (windows_per_event size step) 64) fine in
+    let limits = within_limits step number_limit both.0 in
     (omega (arith, ints, limits.0), omega (arith, ints, limits.1), few size step both.1)
 step_keeps size _ step w.Time fine = absurd (cc fine)
-step_keeps size w.Time step _ fine = within_limits step 1048576 fine
+step_keeps size w.Time step _ fine = within_limits step step_limit fine
 step_keeps size _ step _ fine =
-    let both = and_parts (is_within step 1048576) (nat_le (windows_per_event size step) 64) fine in
-    let limits = within_limits step 1048576 both.0 in
+    let both = and_parts (is_within step step_limit) (nat_le (windows_per_event size step) 64) fine in
+    let limits = within_limits step step_limit both.0 in
     (limits.0, limits.1, few size step both.1)
 
 -- how great such a step is, of time and of events
-timed : (size : ℕ) (of : Word) (step : ℕ) → step_is_fine size of step w.Time ≡ true → step ≤ 1000000000000000
-timed size w.Time step fine = (within_limits step 1000000000000000 ((and_parts (is_within step 1000000000000000) (nat_le (windows_per_event size step) 64) fine).0)).1
+timed : (size : ℕ) (of : Word) (step : ℕ) → step_is_fine size of step w.Time ≡ true → step ≤ number_limit
+timed size w.Time step fine = (within_limits step number_limit ((and_parts (is_within step number_limit) (nat_le (windows_per_event size step) 64) fine).0)).1
 timed size _ step fine = absurd (cc fine)
 
-pub step_of_time : (size : ℕ) (of : Word) (step : ℕ) (unit : Word) → step_is_fine size of step unit ≡ true → unit ≡ w.Time → step ≤ 1000000000000000
+pub step_of_time : (size : ℕ) (of : Word) (step : ℕ) (unit : Word) → step_is_fine size of step unit ≡ true → unit ≡ w.Time → step ≤ number_limit
 step_of_time size of step unit fine is = timed size of step (subst (λ u. step_is_fine size of step u ≡ true) is fine)
 
-pub step_of_events : (size : ℕ) (of : Word) (step : ℕ) (unit : Word) → step_is_fine size of step unit ≡ true → (unit ≡ w.Time → ⊥) → is_within step 1048576 ≡ true
+pub step_of_events : (size : ℕ) (of : Word) (step : ℕ) (unit : Word) → step_is_fine size of step unit ≡ true → (unit ≡ w.Time → ⊥) → is_within step step_limit ≡ true
 step_of_events size of step w.Time fine out = absurd (out refl)
 step_of_events size w.Time step _ fine out = fine
-step_of_events size _ step _ fine out = (and_parts (is_within step 1048576) (nat_le (windows_per_event size step) 64) fine).0
+step_of_events size _ step _ fine out = (and_parts (is_within step step_limit) (nat_le (windows_per_event size step) 64) fine).0

@@ -2,6 +2,7 @@
 use Rattle.std.specs.Prelude.{◌≡◌, ℕ, Bool, true, false, ◌&&◌, not, nat_le, List, [], ◌∷◌, ◌++◌, length, Option, Some, None, Ok, is_some, if◌then◌else◌}
 use Rattle.std.specs.List.{list_any, last_or}
 use Rattle.std.specs.Str.{bytes_eq}
+use Rattle.sp_base.specs.Limits.{number_limit, length_limit, step_limit}
 use Rattle.sp_lex.specs.declared.token.Span.{Span}
 use Rattle.sp_lex.specs.declared.token.Word.{Word}
 use Rattle.sp_lex.specs.declared.token.Word.TheVariants as w
@@ -133,18 +134,18 @@ abbrev pub is_within : ℕ → ℕ → Bool
 is_within number limit = nat_le 1 number && nat_le number limit
 
 abbrev pub length_is_fine : Option Ident → ℕ → Word → Bool
-length_is_fine time number w.Time = is_some time && is_within number 1000000000000000
-length_is_fine time number _ = is_within number 65536
+length_is_fine time number w.Time = is_some time && is_within number number_limit
+length_is_fine time number _ = is_within number length_limit
 
 abbrev pub length_fault : Query → Option CompileFault
 length_fault query = if length_is_fine query.time query.length.0 query.length.1 then None else Some (f.BadWindow query.length.2)
 
 -- whether a step keeps its limits: with a length of the same unit an event is in at most 64 windows, and a step in time goes with a length in time
 abbrev pub step_is_fine : ℕ → Word → ℕ → Word → Bool
-step_is_fine size w.Time step w.Time = is_within step 1000000000000000 && nat_le (windows_per_event size step) 64
+step_is_fine size w.Time step w.Time = is_within step number_limit && nat_le (windows_per_event size step) 64
 step_is_fine size _ step w.Time = false
-step_is_fine size w.Time step _ = is_within step 1048576
-step_is_fine size _ step _ = is_within step 1048576 && nat_le (windows_per_event size step) 64
+step_is_fine size w.Time step _ = is_within step step_limit
+step_is_fine size _ step _ = is_within step step_limit && nat_le (windows_per_event size step) 64
 
 -- The opening's fault, if there is one.
 abbrev pub OpeningFault : Query → QueryOpening → Option CompileFault → Type 0

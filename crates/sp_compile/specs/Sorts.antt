@@ -1,5 +1,6 @@
 -- Of what sort an expression is, and which fault is found first.
 use Rattle.std.specs.Prelude.{ℕ, ◌+◌, ◌-◌, ◌*◌, ◌^◌, max, Bool, true, false, ◌&&◌, nat_le, nat_lt, List, Option, Some, None, Result, Ok, Err, slice_get, if◌then◌else◌}
+use Rattle.sp_base.specs.Limits.{number_limit}
 use Rattle.sp_lex.specs.declared.token.Span.{Span}
 use Rattle.sp_lex.specs.declared.token.Word.{Word}
 use Rattle.sp_lex.specs.declared.token.Word.TheVariants as w
@@ -26,8 +27,8 @@ first None other = other
 
 -- a column's sort: numbers are at most 10^15 in magnitude
 abbrev pub sort_of : Word → ℕ → Sort
-sort_of w.Int digits = s.Number 0 1000000000000000
-sort_of w.Dec digits = s.Number digits 1000000000000000
+sort_of w.Int digits = s.Number 0 number_limit
+sort_of w.Dec digits = s.Number digits number_limit
 sort_of _ digits = s.Text
 
 abbrev pub column_sort : QueryColumn → Sort

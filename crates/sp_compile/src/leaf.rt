@@ -8,11 +8,9 @@ ghost use Rattle.sp_compile.specs.Parts.{MadeAnswer, NumberAnswer, TextAnswer, R
 use crate::lookup::{column_place, name_place, text_number};
 use crate::scope::Scope;
 use crate::{CompileFault, Sort};
+use sp_base::limits::NUMBER_LIMIT;
 use sp_plan::{Expr, Text};
 use sp_query::{QueryColumn, Span, Word};
-
-// The greatest magnitude of a number that a query or an event may have.
-const GREATEST_NUMBER: u64 = 1_000_000_000_000_000;
 
 // The most decimals that a query writes.
 const MOST_DIGITS: u8 = 6;
@@ -22,7 +20,7 @@ fn column_sort(column: &QueryColumn) -> Sort
     requires { column.now.kind ≡ w.Dec → column.now.digits ≤ 6 }
     ensures { result ≡ sorts.column_sort column.now }
 {
-    let bound = u128::from(GREATEST_NUMBER);
+    let bound = u128::from(NUMBER_LIMIT);
     match column.kind {
         Word::Int => Sort::Number { scale: 0, bound },
         Word::Dec => Sort::Number {
@@ -38,7 +36,7 @@ pub(crate) fn number(units: u64, scale: u8) -> Result<(Expr, Sort), CompileFault
     ensures { NumberAnswer units scale result }
 {
     // No text has such a number.
-    if units > GREATEST_NUMBER || scale > MOST_DIGITS {
+    if units > NUMBER_LIMIT || scale > MOST_DIGITS {
         return Err(CompileFault::Memory);
     }
     let sort = Sort::Number {

@@ -1,5 +1,6 @@
 // The length of windows, and the step between them.
 ghost use Rattle.std.specs.Prelude.{◌≡◌, ◌≤◌, ◌<◌, None, nat_le, if◌then◌else◌};
+ghost use Rattle.sp_base.specs.Limits.{number_limit, step_limit};
 ghost use Rattle.sp_lex.specs.declared.token.Word.TheVariants as w;
 ghost use Rattle.sp_plan.specs.Windows as windows;
 ghost use Rattle.sp_compile.specs.declared.fault.CompileFault.TheVariants as f;
@@ -7,17 +8,9 @@ ghost use Rattle.sp_compile.specs.Checks as checks;
 ghost use Rattle.sp_compile.specs.Stands as stands;
 
 use crate::CompileFault;
+use sp_base::limits::{LENGTH_LIMIT, NUMBER_LIMIT, STEP_LIMIT};
 use sp_plan::{Length, Opening};
 use sp_query::{Query, Span, Word};
-
-/// The greatest length and step in time.
-const MOST_TIME: u64 = 1_000_000_000_000_000;
-
-/// How many events a window may have.
-const MOST_EVENTS: u64 = 65_536;
-
-/// How many events may be from one window's first to the next one's.
-const MOST_STEP: u64 = 1_048_576;
 
 /// In how many windows an event may be.
 const MOST_WINDOWS: u64 = 64;
@@ -35,8 +28,8 @@ fn length_is_fine(query: &Query) -> bool
 {
     let (number, unit, _) = query.length;
     match unit {
-        Word::Time => query.time.is_some() && is_within(number, MOST_TIME),
-        _ => is_within(number, MOST_EVENTS),
+        Word::Time => query.time.is_some() && is_within(number, NUMBER_LIMIT),
+        _ => is_within(number, LENGTH_LIMIT),
     }
 }
 
@@ -64,10 +57,10 @@ fn step_is_fine(size: u64, of: Word, step: u64, unit: Word) -> bool
     ensures { result ≡ checks.step_is_fine size of step unit }
 {
     match (of, unit) {
-        (Word::Time, Word::Time) => is_within(step, MOST_TIME) && is_in_few(size, step),
+        (Word::Time, Word::Time) => is_within(step, NUMBER_LIMIT) && is_in_few(size, step),
         (_, Word::Time) => false,
-        (Word::Time, _) => is_within(step, MOST_STEP),
-        _ => is_within(step, MOST_STEP) && is_in_few(size, step),
+        (Word::Time, _) => is_within(step, STEP_LIMIT),
+        _ => is_within(step, STEP_LIMIT) && is_in_few(size, step),
     }
 }
 
@@ -97,8 +90,8 @@ pub(crate) fn plan_length(number: u64, unit: Word) -> Length
 
 /// The plan's step between windows.
 pub(crate) fn plan_step(number: u64, unit: Word) -> Opening
-    requires time { unit ≡ w.Time → number ≤ 1000000000000000 }
-    requires events { (unit ≡ w.Time → ⊥) → number ≤ 1048576 }
+    requires time { unit ≡ w.Time → number ≤ number_limit }
+    requires events { (unit ≡ w.Time → ⊥) → number ≤ step_limit }
     ensures { result ≡ stands.plan_step number unit }
 {
     match unit {

@@ -6,12 +6,13 @@ use Rattle.std.proofs.lemmas.Bool.Decides.{nat_tests}
 use Rattle.std.proofs.lemmas.List.{append_assoc, length-append, length-map}
 use Rattle.std.proofs.lemmas.List.Elements.{All-map}
 use Rattle.std.proofs.lemmas.Option.{slice_get_within}
-use Rattle.sp_base.specs.Numbers.{NumberList}
+use Rattle.sp_base.specs.Limits.{live_limit}
+use Rattle.sp_base.specs.Numbers.{NumberList, is_among, with_numbers}
 use Rattle.sp_plan.specs.declared.event.Event.{Event}
 use Rattle.sp_plan.specs.declared.found.Match.{Match}
 use Rattle.sp_plan.specs.declared.plan.Plan.{Plan}
 use Rattle.sp_plan.specs.Groups.{used_by_all}
-use Rattle.sp_plan.specs.Runs.{Started, State, is_among, used}
+use Rattle.sp_plan.specs.Runs.{Started, State, used}
 use Rattle.sp_plan.specs.WindowNumbers.{first}
 use Rattle.sp_match.specs.public.Laws.{completion}
 use Rattle.sp_match.specs.public.Matching.{Stands}
@@ -24,7 +25,6 @@ use Rattle.sp_group.specs.Effects.{after_reading, home, is_newly_spent, without}
 use Rattle.sp_group.specs.Family.{entry_at, is_parent, prune}
 use Rattle.sp_group.specs.Machine as machine
 use Rattle.sp_group.specs.Machine.{Machine, Ticket, inner, is_group, out_for, ticket_at}
-use Rattle.sp_group.specs.Rising.{with_numbers}
 use Rattle.sp_group.specs.Steps.{step, steps}
 use Rattle.sp_rules.specs.ByGroups.{AreToDecide, IsByGroups, ended, grouped, outcome_in, using_runs}
 use Rattle.sp_rules.specs.Returning.{IsReadAndReturned, read_to, readings, reads_and_return}
@@ -412,7 +412,7 @@ module _ (laws : HomeLaws) (h : Holding) (p : Pieced) (a : Coming h p) (b : Brou
           compiled = c.compiled;
           known_are = c.known_are;
           some = subst (λ k. 1 ≤ k) (sym bound_is) c.some;
-          most = subst (λ k. k ≤ 4096) (sym bound_is) c.most;
+          most = subst (λ k. k ≤ live_limit) (sym bound_is) c.most;
           windows_plan = c.windows_plan;
           windows = c.windows;
           grown = grown;

@@ -6,8 +6,7 @@ use Rattle.std.proofs.lemmas.Grind.{flat_map-append}
 use Rattle.std.proofs.lemmas.List.{take_more, map-append}
 use Rattle.std.proofs.lemmas.List.Elements.{filter-append}
 use Rattle.std.proofs.lemmas.List.Sums.{fold-append}
-use Rattle.sp_base.specs.Numbers.{NumberList}
-use Rattle.sp_group.specs.Rising.{with_number, with_numbers}
+use Rattle.sp_base.specs.Numbers.{NumberList, with_number, with_numbers}
 use Rattle.sp_match.specs.declared.moves.Move.{Move}
 use Rattle.sp_match.specs.declared.moves.Move.TheVariants as m
 use Rattle.sp_match.specs.public.Laws.{is_completion}

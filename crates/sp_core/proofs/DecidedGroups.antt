@@ -8,7 +8,8 @@ use Rattle.std.proofs.lemmas.List.{append-nil}
 use Rattle.std.proofs.lemmas.List.Elements.{filter-append}
 use Rattle.std.proofs.lemmas.List.Folds.{list_any-append}
 use Rattle.std.proofs.lemmas.Map.Views.{any-filter_same}
-use Rattle.sp_plan.specs.Runs.{is_among}
+use Rattle.sp_base.proofs.RisingLists.{Rises, rises}
+use Rattle.sp_base.specs.Numbers.{is_among}
 use Rattle.sp_group.specs.Deciding.{others_than}
 use Rattle.sp_group.specs.Family.{entry_at}
 use Rattle.sp_tree.specs.Changes.{decided}
@@ -16,7 +17,6 @@ use Rattle.sp_tree.specs.Decided.{DecisionsAddUp, rule_of, with_groups}
 use Rattle.sp_tree.specs.Grown.{Entry, Grown, groups_of, kin, pruned}
 use Rattle.sp_version.specs.declared.version.Version.{Version}
 use Rattle.sp_core.specs.Homecoming.{CanDecide, ended_in, is_grouped, outcome_of}
-use Rattle.sp_rules.proofs.RisingLists.{Rises, rises}
 
 or_left : (a b : Bool) → a ≡ true → (a || b) ≡ true
 or_left true b h = refl

@@ -5,10 +5,11 @@ use Rattle.std.specs.Option.{option_map}
 use Rattle.std.proofs.lemmas.List.Elements.{All-nil, All-cons, All-head, All-tail, All-map}
 use Rattle.std.proofs.lemmas.Bool.Decides.{nat_tests}
 use Rattle.std.proofs.lemmas.Simd.{map-map}
+use Rattle.sp_base.specs.Numbers.{is_among}
 use Rattle.sp_plan.specs.declared.plan.Plan.{Plan}
 use Rattle.sp_plan.specs.Groups.{is_open}
 use Rattle.sp_plan.specs.Moves.{is_run, pairs_of}
-use Rattle.sp_plan.specs.Runs.{Started, State, is_among, used}
+use Rattle.sp_plan.specs.Runs.{Started, State, used}
 use Rattle.sp_match.specs.public.Laws.{OpenHasNoMatch, Sound}
 use Rattle.sp_match.specs.public.Matching.{Matching}
 use Rattle.sp_group.specs.declared.outcome.Outcome.{Outcome}

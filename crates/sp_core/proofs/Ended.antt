@@ -2,6 +2,7 @@
 use Rattle.std.proofs.Common.{◌≡◌, ℕ, ◌+◌, ◌*◌, ◌≤◌, List, [], ◌∷◌, ◌++◌, length, get_or, map, Option, Some, None, refl, sym, ap, subst, ◌∙◌, arith}
 use Rattle.std.specs.List.{All, sum, remove}
 use Rattle.std.specs.Option.{option_map}
+use Rattle.sp_base.specs.Limits.{live_limit}
 use Rattle.sp_version.specs.declared.version.Version.{Version}
 use Rattle.sp_group.specs.declared.step.Entry as step
 use Rattle.sp_group.specs.declared.step.Step.TheVariants as s
@@ -175,7 +176,7 @@ module _ (h : Holding) (n : ℕ) (d : Lent) (left : List Lent) (a : IsOutAt h n 
             compiled = k.compiled;
             known_are = k.known_are;
             some = subst (λ b. 1 ≤ b) (sym l.bound) k.some;
-            most = subst (λ b. b ≤ 4096) (sym l.bound) k.most;
+            most = subst (λ b. b ≤ live_limit) (sym l.bound) k.most;
             windows_plan = k.windows_plan;
             windows = k.windows;
             grown = l.grown;

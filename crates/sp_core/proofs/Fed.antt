@@ -4,6 +4,8 @@ use Rattle.std.specs.Prelude.{int_le, unsigned_abs}
 use Rattle.std.specs.List.{All, last_or, list_all, zip}
 use Rattle.std.proofs.lemmas.Int.{ints}
 use Rattle.std.proofs.lemmas.List.Elements.{All-head, All-tail}
+use Rattle.sp_base.specs.Limits.{number_limit}
+use Rattle.sp_base.specs.Numbers.{with_numbers}
 use Rattle.sp_plan.specs.declared.event.Event.{Event}
 use Rattle.sp_plan.specs.declared.plan.Plan.{Plan}
 use Rattle.sp_plan.specs.Events.{fits, fits_column}
@@ -15,7 +17,6 @@ use Rattle.sp_window.specs.Laws.{IsNumber}
 use Rattle.sp_window.specs.Times.{stamp_or_zero, last_stamp}
 use Rattle.sp_match.specs.public.Matching.{Stands}
 use Rattle.sp_version.specs.declared.version.Version.{Version}
-use Rattle.sp_group.specs.Rising.{with_numbers}
 use Rattle.sp_group.specs.Machine as machine
 use Rattle.sp_group.specs.Machine.{Ticket, inner, is_group}
 use Rattle.sp_tree.specs.Grown.{Entry}
@@ -44,7 +45,7 @@ third false b c d is = absurd (cc is)
 -- the time of an event that fits is 0 or later
 not_before : (q : Plan) (e : Event) → fits q e ≡ true → pos 0 ≤ℤ e.time
 not_before q e fit =
-    let low : int_le (pos 0) e.time ≡ true = third (length q.schema.columns == length e.values) (list_all fits_column (zip q.schema.columns e.values)) (int_le (pos 0) e.time) (int_le e.time (pos 1000000000000000)) fit in
+    let low : int_le (pos 0) e.time ≡ true = third (length q.schema.columns == length e.values) (list_all fits_column (zip q.schema.columns e.values)) (int_le (pos 0) e.time) (int_le e.time (pos number_limit)) fit in
     grind (arith, ints)
 
 at_stamp : (s t : ℤ) → pos 0 ≤ℤ s → s ≤ℤ t → pos (unsigned_abs s) ≤ℤ t

@@ -6,10 +6,12 @@ use Rattle.std.specs.List.{All, sum}
 use Rattle.std.specs.List.Sorted.{IsStrictlyIncreasing}
 use Rattle.std.proofs.lemmas.Bool.{true≢false}
 use Rattle.std.proofs.lemmas.Option.{none-some, same_Some}
-use Rattle.sp_base.specs.Numbers.{NumberList, RisingSame, has}
+use Rattle.sp_base.specs.Limits.{live_limit}
+use Rattle.sp_base.proofs.RisingLists.{among_numbers, numbers_rise, union_is}
+use Rattle.sp_base.specs.Numbers.{NumberList, RisingSame, is_among, with_numbers}
 use Rattle.sp_plan.specs.declared.found.Match.{Match}
 use Rattle.sp_plan.specs.Groups.{used_by_all}
-use Rattle.sp_plan.specs.Runs.{is_among, matched_runs}
+use Rattle.sp_plan.specs.Runs.{matched_runs}
 use Rattle.sp_plan.specs.Sequential.{seq}
 use Rattle.sp_version.specs.declared.version.Version.{Version}
 use Rattle.sp_group.specs.declared.refusal.Refusal.TheVariants as r
@@ -20,7 +22,6 @@ use Rattle.sp_group.specs.Family.{entry_at}
 use Rattle.sp_group.specs.Machine as machine
 use Rattle.sp_group.specs.Machine.{Machine, inner, is_out}
 use Rattle.sp_group.specs.Refusing.{finish_refusal, id_of, refuse_if}
-use Rattle.sp_group.specs.Rising.{with_numbers}
 use Rattle.sp_group.specs.Steps.{Finished, finish_answer}
 use Rattle.sp_tree.specs.Changes.{promoted}
 use Rattle.sp_tree.specs.Grown.{Grown, Entry, AreGrown, groups_of, kin, lifted, pruned, root_in, value_of}
@@ -39,8 +40,6 @@ use Rattle.sp_core.proofs.Journal.{reached, replayed_on}
 use Rattle.sp_core.proofs.Numbering.{numbered_on}
 use Rattle.sp_core.proofs.Entries.{found_of_all}
 use Rattle.sp_core.proofs.Pruning.{all_pruned, sum_without}
-use Rattle.sp_core.proofs.RisingLists.{union_is}
-use Rattle.sp_rules.proofs.RisingLists.{among_numbers, numbers_rise}
 use Rattle.sp_core.proofs.Roots.{Done, done_is, root_id}
 use Rattle.sp_core.proofs.Settled.{Settles, settles}
 
@@ -84,7 +83,7 @@ same_value root x w (other n is) = ap (λ (e : Entry Version). e.value) is
 pub record Handed (h : Holding) (v : Version) (emitted : List Match) (emitted_room : ℕ) (consumed : NumberList) : Type 0 where
   pub emitted_is : emitted ≡ h.emitted ++ numbered (length h.emitted + 1) v.copies.items
   pub left : h.emitted_room ≤ emitted_room + length v.copies.items
-  pub members : (i : ℕ) → has consumed.list i ≡ (has h.consumed.list i || has v.used.list i)
+  pub members : (i : ℕ) → is_among consumed.list i ≡ (is_among h.consumed.list i || is_among v.used.list i)
   pub rising : IsStrictlyIncreasing consumed.list
   pub spare : h.consumed.spare ≤ consumed.spare + length v.used.list
 
@@ -240,7 +239,7 @@ module _ (law : EverySchedule) (h : Holding) (c : IsCore h) (root window : ℕ) 
         compiled = c.compiled;
         known_are = c.known_are;
         some = subst (λ n. 1 ≤ n) (sym bound_is) c.some;
-        most = subst (λ n. n ≤ 4096) (sym bound_is) c.most;
+        most = subst (λ n. n ≤ live_limit) (sym bound_is) c.most;
         windows_plan = c.windows_plan;
         windows = c.windows;
         grown = new_grown;

@@ -4,10 +4,11 @@ use Rattle.std.specs.Option.{option_map}
 use Rattle.std.proofs.lemmas.Bool.Decides.{nat_tests}
 use Rattle.std.proofs.lemmas.List.Elements.{All-cons}
 use Rattle.std.proofs.lemmas.List.Sums.{sum_by-cons}
+use Rattle.sp_base.specs.Numbers.{is_among, with_numbers}
 use Rattle.sp_plan.specs.declared.event.Event.{Event}
 use Rattle.sp_plan.specs.declared.plan.Plan.{Plan}
 use Rattle.sp_plan.specs.Same.{SamePlan}
-use Rattle.sp_plan.specs.Runs.{State, is_among}
+use Rattle.sp_plan.specs.Runs.{State}
 use Rattle.sp_plan.specs.Runs as runs
 use Rattle.sp_plan.specs.Groups.{used_by_all}
 use Rattle.sp_plan.specs.WindowNumbers.{count, first, numbered_window, size}
@@ -21,7 +22,7 @@ use Rattle.sp_group.specs.declared.refusal.Refusal.TheVariants as r
 use Rattle.sp_group.specs.declared.step.Entry as step
 use Rattle.sp_group.specs.declared.step.Step.TheVariants as s
 use Rattle.sp_group.specs.Family.{entry_at, parent_there}
-use Rattle.sp_group.specs.Rising.{IsLabel, with_numbers}
+use Rattle.sp_group.specs.Rising.{IsLabel}
 use Rattle.sp_group.specs.Machine as machine
 use Rattle.sp_group.specs.Machine.{Ticket, inner, is_group, is_out, out_for}
 use Rattle.sp_group.specs.Refusing.{child_with, id_of, not_open}

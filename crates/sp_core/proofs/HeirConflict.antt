@@ -2,8 +2,9 @@
 use Rattle.std.proofs.Common.{◌≡◌, ℕ, Bool, true, false, ◌&&◌, ◌||◌, List, [], map, Option, Some, None, refl, sym, ap, ◌∙◌}
 use Rattle.std.specs.Option.{option_map}
 use Rattle.std.proofs.lemmas.Option.{same_Some}
+use Rattle.sp_base.proofs.RisingLists.{among_numbers}
+use Rattle.sp_base.specs.Numbers.{is_among}
 use Rattle.sp_plan.specs.Groups.{used_by_all}
-use Rattle.sp_plan.specs.Runs.{is_among}
 use Rattle.sp_plan.specs.WindowNumbers.{first, size}
 use Rattle.sp_version.specs.declared.version.Version.{Version}
 use Rattle.sp_group.specs.Effects as effects
@@ -22,7 +23,6 @@ use Rattle.sp_core.proofs.Least.{least_alike}
 use Rattle.sp_core.proofs.Entries.{version_found}
 use Rattle.sp_core.proofs.Pruning.{promoted_pruned}
 use Rattle.sp_core.proofs.Renewing.{at_entry}
-use Rattle.sp_rules.proofs.RisingLists.{among_numbers}
 use Rattle.sp_core.proofs.Roots.{Done, root_id}
 use Rattle.sp_core.proofs.Settled.{no_root}
 

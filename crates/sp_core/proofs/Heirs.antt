@@ -4,9 +4,10 @@ use Rattle.std.specs.Option.{option_map}
 use Rattle.std.proofs.lemmas.Bool.{false≢true, true≢false}
 use Rattle.std.proofs.lemmas.Bool.Decides.{nat_tests}
 use Rattle.std.proofs.lemmas.Option.{same_Some, none-some}
+use Rattle.sp_base.specs.Numbers.{is_among}
 use Rattle.sp_plan.specs.declared.event.Event.{Event}
 use Rattle.sp_plan.specs.declared.plan.Plan.{Plan}
-use Rattle.sp_plan.specs.Runs.{State, is_among}
+use Rattle.sp_plan.specs.Runs.{State}
 use Rattle.sp_version.specs.declared.version.Version.{Version}
 use Rattle.sp_group.specs.Family.{entry_at, is_parent, kept, parent_there, prune}
 use Rattle.sp_group.specs.Machine as machine

@@ -3,8 +3,8 @@ use Rattle.std.proofs.Common.{◌≡◌, ℕ, ◌+◌, ◌<◌, ◌≤◌, Bool,
 use Rattle.std.specs.Prelude.{nat_le, nat_lt}
 use Rattle.std.proofs.lemmas.Bool.Decides.{nat_tests}
 use Rattle.std.proofs.lemmas.Option.{none-some, same_Some}
+use Rattle.sp_base.specs.Numbers.{is_among}
 use Rattle.sp_plan.specs.declared.plan.Plan.{Plan}
-use Rattle.sp_plan.specs.Runs.{is_among}
 use Rattle.sp_plan.specs.WindowNumbers.{first, size}
 use Rattle.sp_group.specs.Rising.{least}
 use Rattle.sp_group.specs.Machine.{Machine, Ticket, Version, conflict, is_bare, is_hit, is_lent, is_read, is_suppressed, out_for, ticket_at}

@@ -5,9 +5,9 @@ use Rattle.std.proofs.lemmas.List.{take_all}
 use Rattle.std.proofs.lemmas.Bool.{eqb-true}
 use Rattle.std.proofs.lemmas.List.Folds.{list_any_more}
 use Rattle.std.proofs.lemmas.Map.Views.{any-filter_same}
-use Rattle.sp_base.specs.Numbers.{has, is_within}
+use Rattle.sp_base.specs.Numbers.{is_within, is_among}
 use Rattle.sp_plan.specs.declared.plan.Plan.{Plan}
-use Rattle.sp_plan.specs.Runs.{Started, is_among, used as used_by}
+use Rattle.sp_plan.specs.Runs.{Started, used as used_by}
 use Rattle.sp_match.specs.declared.run.Run.{Run}
 use Rattle.sp_match.specs.public.Matching.{Shown, shown}
 use Rattle.sp_match.specs.public.Seen.{seen_run}
@@ -83,7 +83,7 @@ pub kept_by_all : (used label : List ℕ) (q : Plan) (runs : List Run) (open_run
 kept_by_all used label q runs open_runs n i same all = ap (λ (b : Bool). is_among used i || b) (held_by_all q runs open_runs label i n same all)
 
 -- numbers that are cut to those that pass a test
-pub has_filtered : (p : ℕ → Bool) (ns : List ℕ) (i : ℕ) → has (filter p ns) i ≡ (p i && has ns i)
+pub has_filtered : (p : ℕ → Bool) (ns : List ℕ) (i : ℕ) → is_among (filter p ns) i ≡ (p i && is_among ns i)
 has_filtered p ns i = any-filter_same (λ (m : ℕ). m == i) p (p i) (λ k same. ap p (eqb-true k i same)) ns
 
 cut_more : (a w b c : Bool) → ((a || (w && b)) || (w && c)) ≡ (a || (w && (b || c)))
@@ -93,20 +93,20 @@ cut_more false false b c = refl
 
 -- numbers that take in those of others that are within a range
 pub takes_in : (old new now : List ℕ) (first count : ℕ) (kept kept_now : ℕ → Bool) (before : ℕ → Bool)
-    → ((i : ℕ) → has old i ≡ (before i || (is_within first count i && kept i)))
-    → ((i : ℕ) → has new i ≡ (has old i || has (filter (is_within first count) now) i))
+    → ((i : ℕ) → is_among old i ≡ (before i || (is_within first count i && kept i)))
+    → ((i : ℕ) → is_among new i ≡ (is_among old i || is_among (filter (is_within first count) now) i))
     → ((i : ℕ) → (kept i || is_among now i) ≡ kept_now i)
-    → (i : ℕ) → has new i ≡ (before i || (is_within first count i && kept_now i))
+    → (i : ℕ) → is_among new i ≡ (before i || (is_within first count i && kept_now i))
 takes_in old new now first count kept kept_now before had has_now more i =
-    has_now i ∙ ap (λ (b : Bool). b || has (filter (is_within first count) now) i) (had i)
+    has_now i ∙ ap (λ (b : Bool). b || is_among (filter (is_within first count) now) i) (had i)
     ∙ ap (λ (b : Bool). (before i || (is_within first count i && kept i)) || b) (has_filtered (is_within first count) now i)
     ∙ cut_more (before i) (is_within first count i) (kept i) (is_among now i)
     ∙ ap (λ (b : Bool). before i || (is_within first count i && b)) (more i)
 
 -- what its matches used, within a range
 pub takes_first : (old new used label : List ℕ) (runs : List Run) (first count : ℕ)
-    → ((i : ℕ) → has new i ≡ (has old i || has (filter (is_within first count) used) i))
-    → (i : ℕ) → has new i ≡ (has old i || (is_within first count i && is_kept_by used label runs 0 i))
+    → ((i : ℕ) → is_among new i ≡ (is_among old i || is_among (filter (is_within first count) used) i))
+    → (i : ℕ) → is_among new i ≡ (is_among old i || (is_within first count i && is_kept_by used label runs 0 i))
 takes_first old new used label runs first count has_now i =
-    has_now i ∙ ap (λ (b : Bool). has old i || b) (has_filtered (is_within first count) used i)
-    ∙ ap (λ (b : Bool). has old i || (is_within first count i && b)) (kept_by_none used label runs i)
+    has_now i ∙ ap (λ (b : Bool). is_among old i || b) (has_filtered (is_within first count) used i)
+    ∙ ap (λ (b : Bool). is_among old i || (is_within first count i && b)) (kept_by_none used label runs i)

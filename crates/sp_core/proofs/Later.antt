@@ -6,22 +6,22 @@ use Rattle.std.proofs.lemmas.List.{append_cancel_left, map-append}
 use Rattle.std.proofs.lemmas.List.Concat.{flat_map-cons}
 use Rattle.std.proofs.lemmas.List.Elements.{All-nil, All-cons, All-head, All-tail}
 use Rattle.std.proofs.lemmas.List.Sums.{fold-append}
-use Rattle.sp_base.specs.Numbers.{RisingSame}
+use Rattle.sp_base.proofs.RisingLists.{among_numbers, numbers_rise}
+use Rattle.sp_base.specs.Numbers.{RisingSame, is_among, with_number, with_numbers}
 use Rattle.sp_plan.specs.declared.found.Match.{Match}
 use Rattle.sp_plan.specs.declared.plan.Plan.{Plan}
 use Rattle.sp_plan.specs.Moves.{Told}
-use Rattle.sp_plan.specs.Runs.{Run, Started, State, is_among, used}
+use Rattle.sp_plan.specs.Runs.{Run, Started, State, used}
 use Rattle.sp_plan.specs.Sequential.{match_of}
 use Rattle.sp_match.specs.declared.moves.Moves.{Moves}
 use Rattle.sp_match.specs.public.Laws.{completion, is_completion}
 use Rattle.sp_match.specs.public.Seen.{seen}
 use Rattle.sp_piece.specs.Alike.{all_told}
 use Rattle.sp_piece.specs.Reading.{Account, seen_moves}
-use Rattle.sp_group.specs.Rising.{has_number, with_number, with_numbers}
+use Rattle.sp_group.specs.Rising.{has_number}
 use Rattle.sp_rules.specs.ByGroups.{using_runs}
 use Rattle.sp_core.specs.Holding.{unnumbered}
 use Rattle.sp_core.specs.Homecoming.{completions, spent_run, unnumbered_told, used_told}
-use Rattle.sp_rules.proofs.RisingLists.{among_numbers, numbers_rise}
 
 -- what moves tell is what their accounts tell
 all_seen : (moves : List Moves) → flat_map (λ (m : Moves). map seen m.list.items) moves ≡ all_told (map seen_moves moves)

@@ -4,6 +4,7 @@ use Rattle.std.specs.List.{All, AllZip}
 use Rattle.std.proofs.lemmas.Bool.Decides.{nat_tests}
 use Rattle.std.proofs.lemmas.List.Elements.{All-nil, All-take, All-drop}
 use Rattle.std.proofs.lemmas.List.{length-drop, length-take}
+use Rattle.sp_base.specs.Limits.{event_limit}
 use Rattle.sp_plan.specs.declared.event.Event.{Event}
 use Rattle.sp_plan.specs.declared.plan.Plan.{Plan}
 use Rattle.sp_plan.specs.declared.plan.Schema.{Schema}
@@ -68,7 +69,7 @@ part_of {X = X} events fed place n is =
 pub record IsFed (h : Holding) (lent : Lent) : Type 0 where
   pub low : 1 ≤ lent.first
   pub high : lent.first + lent.count ≤ length h.events + 1
-  pub few : length h.events ≤ 1048576
+  pub few : length h.events ≤ event_limit
 
 module _ (h : Holding) (lent : Lent) (n : ℕ) (a : Leases h lent n) (r : Reached h.plan h.tree.bound (machine_of h)) (law : Lawful h.plan) where
   here : Local h.plan h.events h.ended (map ticket_of h.tickets) (is_suppressed h.plan (machine_of h) lent.version) (version_of a.entry.entry)

@@ -2,11 +2,11 @@
 use Rattle.std.proofs.Common.{◌≡◌, ℕ, ◌+◌, ◌≤◌, Bool, true, false, cond, ◌==◌, ◌&&◌, ◌||◌, not, nat_lt, List, [], ◌∷◌, filter, Option, Some, None, is_some, refl, sym, ap, ◌∙◌, arith}
 use Rattle.std.specs.List.{list_all}
 use Rattle.std.proofs.lemmas.Bool.Decides.{nat_tests}
+use Rattle.sp_base.specs.Numbers.{is_among, with_numbers}
 use Rattle.sp_plan.specs.declared.plan.Plan.{Plan}
-use Rattle.sp_plan.specs.Runs.{Started, State, is_among}
+use Rattle.sp_plan.specs.Runs.{Started, State}
 use Rattle.sp_group.specs.Family.{kept, parent_there, prune, is_parent}
 use Rattle.sp_group.specs.Machine.{Machine, Ticket, Version, inner, is_group, is_spent, kin, version_at}
-use Rattle.sp_group.specs.Rising.{with_numbers}
 use Rattle.sp_group.specs.Effects.{after_reading, after_ticket, child_after, home, is_newly_spent, names_completed, names_no_abandoned, without}
 use Rattle.sp_rules.specs.Kept.{Child, Placed, Shape, Stands}
 

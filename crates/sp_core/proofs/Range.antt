@@ -5,10 +5,10 @@ use Rattle.std.specs.List.Sorted.{IsStrictlyIncreasing}
 use Rattle.std.proofs.lemmas.Bool.Decides.{nat_tests}
 use Rattle.std.proofs.lemmas.List.FromFn.{get_or-range_with_len, length-range_with_len}
 use Rattle.std.proofs.lemmas.List.Kept.{IsStrictlyIncreasing-filter}
-use Rattle.sp_base.specs.Numbers.{has, is_within, RisingSame}
+use Rattle.sp_base.specs.Numbers.{is_within, RisingSame, is_among}
 use Rattle.sp_core.proofs.KeptBack.{has_filtered}
 
-has_range : (first n i : ℕ) → has (range_with_len first n) i ≡ is_within first n i
+has_range : (first n i : ℕ) → is_among (range_with_len first n) i ≡ is_within first n i
 has_range first zero i = none
   where
     none : false ≡ is_within first 0 i
@@ -32,7 +32,7 @@ and_swaps false true = refl
 and_swaps false false = refl
 
 -- a rising list that has just those numbers is their list
-pub passing_is : RisingSame → (p : ℕ → Bool) (first n : ℕ) (ns : List ℕ) → IsStrictlyIncreasing ns → ((i : ℕ) → has ns i ≡ (is_within first n i && p i))
+pub passing_is : RisingSame → (p : ℕ → Bool) (first n : ℕ) (ns : List ℕ) → IsStrictlyIncreasing ns → ((i : ℕ) → is_among ns i ≡ (is_within first n i && p i))
     → ns ≡ filter p (range_with_len first n)
 passing_is same p first n ns rising has_them =
     same ns (filter p (range_with_len first n)) rising (IsStrictlyIncreasing-filter p (range_with_len first n) (range_rises first n))

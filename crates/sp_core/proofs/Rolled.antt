@@ -2,6 +2,7 @@
 use Rattle.std.proofs.Common.{◌≡◌, ℕ, ◌+◌, ◌<◌, ◌≤◌, Bool, true, false, not, ◌||◌, nat_lt, List, [], ◌∷◌, ◌++◌, length, map, Option, Some, None, is_some, refl, sym, ap, subst, ◌∙◌, arith}
 use Rattle.std.specs.List.{All, sum}
 use Rattle.std.specs.Option.{option_map}
+use Rattle.sp_base.specs.Limits.{live_limit}
 use Rattle.sp_plan.specs.declared.plan.Plan.{Plan}
 use Rattle.sp_version.specs.declared.version.Version.{Version}
 use Rattle.sp_group.specs.declared.refusal.Refusal.TheVariants as r
@@ -136,7 +137,7 @@ module _ (law : EverySchedule) (h : Holding) (c : IsCore h) (id : ℕ) (hit : is
       compiled = c.compiled;
       known_are = c.known_are;
       some = subst (λ n. 1 ≤ n) (sym bound_is) c.some;
-      most = subst (λ n. n ≤ 4096) (sym bound_is) c.most;
+      most = subst (λ n. n ≤ live_limit) (sym bound_is) c.most;
       windows_plan = c.windows_plan;
       windows = c.windows;
       grown = grown;

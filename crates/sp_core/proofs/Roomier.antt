@@ -1,7 +1,7 @@
 -- A core that has the same values, and more room, is the same core.
 use Rattle.std.proofs.Common.{◌≡◌, ℕ, ◌≤◌, Bool, cond, ◌||◌, nat_lt, is_some, List, [], length, map, sym, ap, subst, ◌∙◌, arith}
 use Rattle.std.specs.List.{sum}
-use Rattle.sp_base.specs.Numbers.{NumberList}
+use Rattle.sp_base.specs.Numbers.{NumberList, with_numbers}
 use Rattle.sp_plan.specs.declared.event.Event.{Event}
 use Rattle.sp_plan.specs.declared.found.Match.{Match}
 use Rattle.sp_plan.specs.declared.plan.Plan.{Plan}
@@ -13,7 +13,6 @@ use Rattle.sp_version.specs.declared.version.Version.{Version}
 use Rattle.sp_group.specs.declared.step.Entry as step
 use Rattle.sp_group.specs.Machine as machine
 use Rattle.sp_group.specs.Machine.{Ticket, inner, is_group}
-use Rattle.sp_group.specs.Rising.{with_numbers}
 use Rattle.sp_tree.specs.Grown.{Entry, Grown, with_value, written}
 use Rattle.sp_core.specs.Carrying.{ticket_of}
 use Rattle.sp_core.specs.Holding.{Holding, Holds, IsCore, machine_of, running, unnumbered, version_of}

@@ -4,7 +4,7 @@ use Rattle.std.specs.Prelude.{slice_get}
 use Rattle.std.specs.Option.{option_map}
 use Rattle.std.proofs.lemmas.Bool.Decides.{nat_tests}
 use Rattle.std.proofs.lemmas.List.{length-map}
-use Rattle.sp_plan.specs.Runs.{is_among}
+use Rattle.sp_base.specs.Numbers.{is_among}
 use Rattle.sp_plan.specs.WindowNumbers.{count}
 use Rattle.sp_version.specs.declared.version.Version.{Version}
 use Rattle.sp_group.specs.declared.refusal.Refusal.{Refusal}

@@ -3,8 +3,7 @@ use Rattle.std.proofs.Common.{◌≡◌, ℕ, ◌<◌, Bool, true, false, ◌&&�
 use Rattle.std.specs.Prelude.{IsSome}
 use Rattle.std.specs.Option.{option_map}
 use Rattle.std.proofs.lemmas.Option.{same_Some}
-use Rattle.sp_base.specs.Numbers.{has, is_within}
-use Rattle.sp_plan.specs.Runs.{is_among}
+use Rattle.sp_base.specs.Numbers.{is_within, is_among}
 use Rattle.sp_group.specs.Family.{entry_at}
 use Rattle.sp_group.specs.Machine.{inner, is_suppressed, version_at}
 use Rattle.sp_version.specs.declared.version.Version.{Version}
@@ -109,7 +108,7 @@ live_entry h id live = one (entry_at kin h.tree.entries id) (ap is_some (sym (ve
 -- they are what is suppressed for the version.
 pub record Taken (r : Running) (version below first count : ℕ) (numbers : List ℕ) : Type 0 where
   pub live : IsSome (version_at r.machine.versions below)
-  pub members : (i : ℕ) → (has numbers i || (is_within first count i && is_suppressed r.plan r.machine below i)) ≡ (is_within first count i && is_suppressed r.plan r.machine version i)
+  pub members : (i : ℕ) → (is_among numbers i || (is_within first count i && is_suppressed r.plan r.machine below i)) ≡ (is_within first count i && is_suppressed r.plan r.machine version i)
 
 -- an entry of the tree is a version of the machine
 pub entry_live : (h : Holding) (id : ℕ) → is_some (entry_at kin h.tree.entries id) ≡ true → IsSome (version_at (machine_of h).versions id)
@@ -124,20 +123,20 @@ pub taken_none : (r : Running) (version first count : ℕ) (numbers : List ℕ) 
     → Taken r version version first count numbers
 taken_none r version first count numbers none live = record {
   live = live;
-  members = λ i. ap (λ (ns : List ℕ). has ns i || (is_within first count i && is_suppressed r.plan r.machine version i)) none;
+  members = λ i. ap (λ (ns : List ℕ). is_among ns i || (is_within first count i && is_suppressed r.plan r.machine version i)) none;
 }
 
 -- what a parent keeps is taken in
 pub taken_more : (h : Holding) (version id p first count : ℕ) (label old new : List ℕ) (held : Version) → Below h id p
     → label_of (entry_at kin h.tree.entries id) ≡ Some label → value_of (entry_at kin h.tree.entries p) ≡ Some held
-    → ((i : ℕ) → has new i ≡ (has old i || is_kept_within held label first count i)) → Taken (running h) version id first count old
+    → ((i : ℕ) → is_among new i ≡ (is_among old i || is_kept_within held label first count i)) → Taken (running h) version id first count old
     → Taken (running h) version p first count new
 taken_more h version id p first count label old new held b labelled holds takes before = record {
   live = entry_live h p b.live;
   members = λ i.
       let w = is_within first count i in
-      ap (λ (c : Bool). c || (w && suppressed h p i)) (takes i) ∙ one (has old i) w (is_kept_back held label i) (suppressed h p i)
-      ∙ ap (λ (c : Bool). has old i || (w && c)) (sym (below_more h id p label held b labelled holds i)) ∙ before.members i;
+      ap (λ (c : Bool). c || (w && suppressed h p i)) (takes i) ∙ one (is_among old i) w (is_kept_back held label i) (suppressed h p i)
+      ∙ ap (λ (c : Bool). is_among old i || (w && c)) (sym (below_more h id p label held b labelled holds i)) ∙ before.members i;
 }
   where
     one : (a w k s : Bool) → ((a || (w && k)) || (w && s)) ≡ (a || (w && (s || k)))
@@ -150,8 +149,8 @@ taken_more h version id p first count label old new held b labelled holds takes 
 
 -- and at last what is consumed
 pub taken_all : (h : Holding) (version id first count : ℕ) (old new : List ℕ) → parent_of (entry_at kin h.tree.entries id) ≡ None
-    → ((i : ℕ) → has new i ≡ (has old i || has (filter (is_within first count) h.consumed.list) i)) → Taken (running h) version id first count old
-    → (i : ℕ) → has new i ≡ (is_within first count i && suppressed h version i)
+    → ((i : ℕ) → is_among new i ≡ (is_among old i || is_among (filter (is_within first count) h.consumed.list) i)) → Taken (running h) version id first count old
+    → (i : ℕ) → is_among new i ≡ (is_within first count i && suppressed h version i)
 taken_all h version id first count old new none takes before i =
-    takes i ∙ ap (λ (b : Bool). has old i || b) (has_filtered (is_within first count) h.consumed.list i)
-    ∙ ap (λ (b : Bool). has old i || (is_within first count i && b)) (sym (below_none h id (live_entry h id before.live) none i)) ∙ before.members i
+    takes i ∙ ap (λ (b : Bool). is_among old i || b) (has_filtered (is_within first count) h.consumed.list i)
+    ∙ ap (λ (b : Bool). is_among old i || (is_within first count i && b)) (sym (below_none h id (live_entry h id before.live) none i)) ∙ before.members i

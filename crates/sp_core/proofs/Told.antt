@@ -2,6 +2,7 @@
 use Rattle.std.proofs.Common.{◌≡◌, ℕ, ◌+◌, ◌≤◌, Bool, true, false, cond, nat_le, List, length, Option, Some, None, refl, sym, ap, subst, ◌∙◌, arith}
 use Rattle.std.specs.Option.{option_map}
 use Rattle.std.proofs.lemmas.Bool.Decides.{nat_tests}
+use Rattle.sp_base.specs.Limits.{event_limit}
 use Rattle.sp_plan.specs.declared.event.Event.{Event}
 use Rattle.sp_plan.specs.declared.plan.Plan.{Plan}
 use Rattle.sp_plan.specs.Windows.{closed}
@@ -77,5 +78,5 @@ core_told h k holds closes w there seen tells y is = told h.plan h.events h.ende
 
 -- the window's events were all fed, of which there are not too many
 pub fed_within : (h : Holding) → IsCore h → laws.Holds h.plan → (w : ℕ) → (1 ≤ w) × (w ≤ count h.plan h.events)
-    → (first h.plan h.events w + size h.plan h.events w ≤ length h.events + 1) × (length h.events ≤ 1048576)
+    → (first h.plan h.events w + size h.plan h.events w ≤ length h.events + 1) × (length h.events ≤ event_limit)
 fed_within h k holds w there = (holds.within h.events w (number_of h k w there), k.windows.few)

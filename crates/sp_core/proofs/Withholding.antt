@@ -6,12 +6,12 @@ use Rattle.std.proofs.lemmas.Bool.Decides.{nat_tests}
 use Rattle.std.proofs.lemmas.List.{map-append}
 use Rattle.std.proofs.lemmas.List.Elements.{filter-append}
 use Rattle.std.proofs.lemmas.List.Folds.{list_any-append}
+use Rattle.sp_base.specs.Numbers.{is_among, with_number, with_numbers}
 use Rattle.sp_plan.specs.declared.event.Event.{Event}
 use Rattle.sp_plan.specs.declared.plan.Plan.{Plan}
 use Rattle.sp_plan.specs.Groups.{used_by_all}
 use Rattle.sp_plan.specs.Moves.{is_run, pairs_of}
-use Rattle.sp_plan.specs.Runs.{Pair, Run, Started, State, is_among, is_consumed, used}
-use Rattle.sp_group.specs.Rising.{with_number, with_numbers}
+use Rattle.sp_plan.specs.Runs.{Pair, Run, Started, State, is_consumed, used}
 use Rattle.sp_group.specs.Machine.{Ticket, inner, is_named, is_withheld}
 use Rattle.sp_version.specs.declared.version.Version.{Version}
 use Rattle.sp_tree.specs.Grown.{Entry}

@@ -1,5 +1,6 @@
 -- A bench as its callers see it: a machine whose pieces are held where they are read; and what a step does to it.
 use Rattle.std.specs.Prelude.{◌≡◌, ℕ, ◌≤◌, [], ◌∷◌, ◌++◌, Option, Some, None}
+use Rattle.sp_base.specs.Limits.{batch_limit}
 use Rattle.sp_plan.specs.declared.plan.Plan.{Plan}
 use Rattle.sp_plan.specs.WindowNumbers.{Good}
 use Rattle.sp_group.specs.declared.refusal.Refusal.{Refusal}
@@ -30,7 +31,7 @@ benched c = record { plan = c.plan; bound = c.bound; machine = c.machine }
 -- what whoever takes a step owes: an event that is fed fits the plan, and its time does not go back; a lease asks for 1 to 1,024 events
 abbrev pub CanTake : Benched → Step → Type 0
 CanTake b (s.Feed e) = Good b.plan (b.machine.events ++ e ∷ [])
-CanTake b (s.Lease id n) = (1 ≤ n) × (n ≤ 1024)
+CanTake b (s.Lease id n) = (1 ≤ n) × (n ≤ batch_limit)
 CanTake b s.End = Unit {0}
 CanTake b (s.Spawn parent label) = Unit {0}
 CanTake b (s.Event n) = Unit {0}

@@ -2,7 +2,7 @@
 use Rattle.std.specs.Prelude.{◌≡◌, ℕ, ◌+◌, ◌≤◌, Bool, true, false, ◌||◌, List, [], ◌∷◌, ◌++◌, length, Option, Some, None, if◌then◌else◌}
 use Rattle.std.specs.Global.{Vec}
 use Rattle.std.specs.List.Sorted.{IsStrictlyIncreasing}
-use Rattle.sp_base.specs.Numbers.{NumberList, has}
+use Rattle.sp_base.specs.Numbers.{NumberList, is_among}
 use Rattle.sp_plan.specs.declared.found.Match.{Match}
 use Rattle.sp_plan.specs.declared.plan.Plan.{Plan}
 use Rattle.sp_group.specs.declared.step.Step.TheVariants as s
@@ -47,7 +47,7 @@ pub record IsHandedOut (v : Version) (old new : Vec Match) (before after : Numbe
   pub out : matches ≡ numbered (length old.items + 1) v.matches.items
   pub emitted : new.items ≡ old.items ++ numbered (length old.items + 1) v.copies.items
   pub left : room old ≤ room new + length v.copies.items
-  pub consumed : (i : ℕ) → has after.list i ≡ (has before.list i || has v.used.list i)
+  pub consumed : (i : ℕ) → is_among after.list i ≡ (is_among before.list i || is_among v.used.list i)
   pub rising : IsStrictlyIncreasing after.list
   pub spare : before.spare ≤ after.spare + length v.used.list
 

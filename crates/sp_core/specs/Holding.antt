@@ -2,6 +2,7 @@
 use Rattle.std.specs.Prelude.{◌≡◌, ℕ, ◌+◌, ◌≤◌, Bool, List, map, length}
 use Rattle.std.specs.List.{All, AllZip}
 use Rattle.std.specs.Arc.{arc_value}
+use Rattle.sp_base.specs.Limits.{live_limit}
 use Rattle.sp_base.specs.Numbers.{NumberList}
 use Rattle.sp_plan.specs.declared.event.Event.{Event}
 use Rattle.sp_plan.specs.declared.found.Match.{Match}
@@ -94,7 +95,7 @@ pub record IsCore (h : Holding) : Type 0 where
   pub compiled : IsCompiled h.plan
   pub known_are : AllZip (IsKnown h.plan) h.events h.known
   pub some : 1 ≤ h.tree.bound
-  pub most : h.tree.bound ≤ 4096
+  pub most : h.tree.bound ≤ live_limit
   pub windows_plan : h.windows.plan ≡ h.plan
   pub windows : window.Stands h.windows h.events h.ended
   pub grown : AreGrown h.tree

@@ -2,8 +2,9 @@
 use Rattle.std.specs.Prelude.{◌≡◌, ℕ, ◌+◌, ◌≤◌, Bool, ◌&&◌, ◌||◌, not, nat_lt, ◌==◌, List, [], ◌∷◌, ◌++◌, length, map, filter, Some, None, if◌then◌else◌}
 use Rattle.std.specs.List.{All, list_any, flat_map}
 use Rattle.std.specs.List.Sorted.{IsStrictlyIncreasing}
+use Rattle.sp_base.specs.Numbers.{is_among, with_numbers}
 use Rattle.sp_plan.specs.declared.found.Match.{Match}
-use Rattle.sp_plan.specs.Runs.{is_among, used}
+use Rattle.sp_plan.specs.Runs.{used}
 use Rattle.sp_plan.specs.Moves.{Told, OpenedTold, GrownTold, CompletedTold, AbandonedTold}
 use Rattle.sp_match.specs.declared.moves.Move.{Move}
 use Rattle.sp_match.specs.declared.moves.Moves.{Moves}
@@ -15,7 +16,7 @@ use Rattle.sp_piece.specs.Pieced.{Pieced, LedTo}
 use Rattle.sp_group.specs.declared.outcome.Outcome.{Outcome}
 use Rattle.sp_group.specs.declared.outcome.Outcome.TheVariants.{Completed, Abandoned}
 use Rattle.sp_group.specs.Family.{entry_at}
-use Rattle.sp_group.specs.Rising.{has_number, with_numbers}
+use Rattle.sp_group.specs.Rising.{has_number}
 use Rattle.sp_tree.specs.Decided.{rule_of}
 use Rattle.sp_tree.specs.Grown.{Grown, Entry, AreGrown, kin, pruned}
 use Rattle.sp_version.specs.declared.version.Version.{Version}

@@ -1,6 +1,7 @@
 -- What a bench keeps, and for which state of the machine it stands.
 use Rattle.std.specs.Prelude.{◌≡◌, ◌≤◌, false, List, map, length, None, Some}
 use Rattle.std.specs.List.{All}
+use Rattle.sp_base.specs.Limits.{live_limit}
 use Rattle.sp_plan.specs.Compiled.{IsCompiled}
 use Rattle.sp_group.specs.declared.step.Step.{Step}
 use Rattle.sp_group.specs.Machine.{Ticket, Version, opening, version_at}
@@ -79,7 +80,7 @@ came (g.Differs lent piece) = Nothing
 pub record IsOnBench (c : Running) (pieces : List Pieced) : Type 0 where
   pub compiled : IsCompiled c.plan
   pub some : 1 ≤ c.bound
-  pub most : c.bound ≤ 4096
+  pub most : c.bound ≤ live_limit
   pub tickets : map unread (map ticket_in pieces) ≡ c.machine.tickets
   pub held : All (IsHeld c) pieces
   pub taken : List Step

@@ -2,17 +2,17 @@
 use Rattle.std.specs.Prelude.{◌≡◌, ℕ, false, List, [], map}
 use Rattle.std.specs.List.{All}
 use Rattle.std.specs.List.Sorted.{IsStrictlyIncreasing}
+use Rattle.sp_base.specs.Numbers.{is_among, with_numbers}
 use Rattle.sp_plan.specs.declared.event.Event.{Event}
 use Rattle.sp_plan.specs.declared.found.Match.{Match}
 use Rattle.sp_plan.specs.declared.plan.Plan.{Plan}
 use Rattle.sp_plan.specs.Same.{SamePlan}
-use Rattle.sp_plan.specs.Runs.{State, is_among, matched_runs}
+use Rattle.sp_plan.specs.Runs.{State, matched_runs}
 use Rattle.sp_plan.specs.Groups.{used_by_all}
 use Rattle.sp_plan.specs.Sequential.{match_of}
 use Rattle.sp_plan.specs.WindowNumbers.{first}
 use Rattle.sp_match.specs.public.Matching.{Stands}
 use Rattle.sp_version.specs.declared.version.Version.{Version}
-use Rattle.sp_group.specs.Rising.{with_numbers}
 use Rattle.sp_group.specs.Machine as machine
 use Rattle.sp_group.specs.Machine.{Ticket, inner, is_group, out_for}
 use Rattle.sp_tree.specs.Grown.{Grown, Entry, AreGrown}

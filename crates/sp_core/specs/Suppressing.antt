@@ -1,8 +1,8 @@
 -- What is suppressed for a version, within a range of numbers; conflicts; and which versions are ready.
 use Rattle.std.specs.Prelude.{ℕ, ◌+◌, ◌&&◌, not, nat_le, nat_lt, List, Option, Some, None, filter, map, reverse}
 use Rattle.std.specs.List.{range_with_len}
+use Rattle.sp_base.specs.Numbers.{is_among}
 use Rattle.sp_plan.specs.declared.plan.Plan.{Plan}
-use Rattle.sp_plan.specs.Runs.{is_among}
 use Rattle.sp_group.specs.Machine.{Machine, Version, version_at, is_suppressed, conflict}
 use Rattle.sp_group.specs.Rising.{least}
 use Rattle.sp_group.specs.Steps.{is_ready}

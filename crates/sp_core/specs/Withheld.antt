@@ -1,8 +1,8 @@
 -- What a parent keeps from a child, as the versions of a core hold it.
 use Rattle.std.specs.Prelude.{ℕ, ◌+◌, Bool, ◌&&◌, ◌||◌, not, nat_le, nat_lt, List, Option, Some, None, min}
 use Rattle.std.specs.List.{list_any}
-use Rattle.sp_base.specs.Numbers.{is_within}
-use Rattle.sp_plan.specs.Runs.{is_among, used}
+use Rattle.sp_base.specs.Numbers.{is_within, is_among}
+use Rattle.sp_plan.specs.Runs.{used}
 use Rattle.sp_group.specs.Rising.{least}
 use Rattle.sp_version.specs.declared.version.Version.{Version}
 

@@ -7,13 +7,11 @@ ghost use Rattle.sp_core.specs.Running.{IsDone, after, refused};
 
 use crate::rooms::{enter, make_room};
 use crate::{Core, CoreFault, Memory, law};
+use sp_base::limits::EVENT_LIMIT;
 use sp_group::{Refusal, Step};
 use sp_match::known_of;
 use sp_plan::Event;
 use std::alloc::Global;
-
-// The greatest number of events.
-const EVENT_LIMIT: u32 = 1_048_576;
 
 impl Core {
     /// The next event, which fits the plan and whose time is not before the last one's. Answers its number,

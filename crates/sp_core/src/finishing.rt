@@ -1,7 +1,7 @@
 // The root is finished: its matches are emitted, what they used is consumed, and its child is the root.
 ghost use Rattle.std.specs.Prelude.{◌≡◌, ◌+◌, ◌<◌, ◌≤◌, ◌||◌, ℕ, [], length, Some, IfOk, IfErr, IfSome, OnOk, OnErr};
 ghost use Rattle.std.specs.List.Sorted.{IsStrictlyIncreasing};
-ghost use Rattle.sp_base.specs.Numbers.{has};
+ghost use Rattle.sp_base.specs.Numbers.{is_among};
 ghost use Rattle.sp_group.specs.Family.{entry_at};
 ghost use Rattle.sp_group.specs.Machine as machine;
 ghost use Rattle.sp_group.specs.declared.step.Step.TheVariants as s;
@@ -38,7 +38,8 @@ fn consume(consumed: &mut Numbers, used: &Numbers)
     requires spare { length used.now.list ≤ consumed.old.spare }
     requires rising { IsStrictlyIncreasing consumed.old.list }
     ensures members { (i : ℕ)
-        → has consumed.new.list i ≡ (has consumed.old.list i || has used.now.list i) }
+        → is_among consumed.new.list i
+        ≡ (is_among consumed.old.list i || is_among used.now.list i) }
     ensures rising { IsStrictlyIncreasing consumed.new.list }
     ensures spare { consumed.old.spare ≤ consumed.new.spare + length used.now.list }
 {

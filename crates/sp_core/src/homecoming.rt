@@ -1,7 +1,7 @@
 // What a piece brings home, made before anything is changed.
 ghost use Rattle.std.specs.Prelude.{◌≡◌, ◌+◌, ◌<◌, ◌≤◌, ◌++◌, [], map, length, IfOk, IfErr, IfSome, OnOk, OnErr};
 ghost use Rattle.std.specs.List.{All, flat_map};
-ghost use Rattle.sp_group.specs.Rising.{with_numbers};
+ghost use Rattle.sp_base.specs.Numbers.{with_numbers};
 ghost use Rattle.sp_group.specs.Family.{entry_at};
 ghost use Rattle.sp_tree.specs.Grown.{kin};
 ghost use Rattle.sp_core.specs.Homecoming.{AreLeft, AreNumbered, CanDecide, HasAll, HasOpenRuns, HasRoomFor, HasRuns, IsBrought, IsDecided, IsSameButRooms, IsTakenUp, IsWith, completions, completions_in, has_group, is_grouped, outcome_of, spent_run, unnumbered_told, used_told};

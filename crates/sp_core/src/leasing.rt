@@ -1,5 +1,6 @@
 // A lease: the next unread events of a version go out under a ticket.
 ghost use Rattle.std.specs.Prelude.{◌≡◌, ◌≤◌, ℕ, length, None, Some, IfOk, IfErr, OnOk, OnErr};
+ghost use Rattle.sp_base.specs.Limits.{batch_limit};
 ghost use Rattle.sp_plan.specs.WindowNumbers.{size};
 ghost use Rattle.sp_group.specs.declared.step.Step.TheVariants as s;
 ghost use Rattle.sp_core.specs.Faults.{IsFault};
@@ -172,7 +173,7 @@ impl Core {
     /// there is nothing to read.
     pub fn lease(&mut self, alloc: Global, version: u64, count: u32) -> Result<Job, CoreFault>
         requires some { 1 ≤ count }
-        requires most { count ≤ 1024 }
+        requires most { count ≤ batch_limit }
         ensures done { OnOk result (IsDone (s.Lease version count) self.old self.new) }
         ensures job { IfOk result (IsLeased self.old version count) }
         ensures err { OnErr result (self.new ≡ self.old) }

@@ -1,9 +1,9 @@
 // What a core shows.
 ghost use Rattle.std.specs.Prelude.{◌≡◌, []};
+ghost use Rattle.sp_base.specs.Numbers.{with_numbers};
 ghost use Rattle.sp_plan.specs.Compiled.{IsCompiled};
 ghost use Rattle.sp_plan.specs.Sequential.{seq};
 ghost use Rattle.sp_window.specs.Standing.{Stands};
-ghost use Rattle.sp_group.specs.Rising.{with_numbers};
 ghost use Rattle.sp_group.specs.Steps.{replay};
 ghost use Rattle.sp_rules.specs.Schedules.{Reached};
 ghost use Rattle.sp_core.specs.Showing.{AreUnread, IsTreeOf};

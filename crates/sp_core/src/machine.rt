@@ -1,5 +1,6 @@
 ghost use Rattle.std.specs.Prelude.{◌≡◌, ◌≤◌, IfOk};
 ghost use Rattle.std.specs.Arc.{arc_value};
+ghost use Rattle.sp_base.specs.Limits.{live_limit};
 ghost use Rattle.sp_plan.specs.Compiled.{IsCompiled};
 ghost use Rattle.sp_core.specs.Running.{begun};
 
@@ -59,7 +60,7 @@ impl Core {
     pub fn new(alloc: Global, plan: Arc<Plan>, bound: u32) -> Result<Core, Memory>
         requires compiled { IsCompiled (arc_value plan) }
         requires some { 1 ≤ bound }
-        requires most { bound ≤ 4096 }
+        requires most { bound ≤ live_limit }
         ensures { IfOk result (λ core. core ≡ begun (arc_value plan) bound) }
     {
         let windows = Windows::new(alloc, plan.clone()?)?;

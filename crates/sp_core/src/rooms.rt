@@ -1,6 +1,7 @@
 // The room of the journal. The end of input, rolls and finishes take no memory: the steps that take some
 // make room for them.
 ghost use Rattle.std.specs.Prelude.{◌≡◌, ◌+◌, ◌*◌, ◌<◌, ◌≤◌, ◌++◌, ◌∷◌, [], length, IfOk, OnOk};
+ghost use Rattle.sp_base.specs.Limits.{live_limit};
 ghost use Rattle.sp_core.specs.Rooms.{matches_held, numbers_held, room};
 ghost use Rattle.sp_tree.specs.Grown.{AreGrown};
 
@@ -16,7 +17,7 @@ use std::alloc::{AllocError, Global};
 // Makes room for the entries of one step that takes memory, a reading's among them, and for all that may
 // come without memory then, where so many versions are live before it.
 pub(crate) fn make_room(journal: &mut Vec<Entry>, live: u32) -> Result<(), Memory>
-    requires { live ≤ 4096 }
+    requires { live ≤ live_limit }
     ensures items { journal.new.items ≡ journal.old.items }
     ensures kept { room journal.old ≤ room journal.new }
     ensures ok { OnOk result (2 * live + 5 ≤ room journal.new) }
@@ -71,7 +72,7 @@ pub(crate) fn make_rooms_for(
     emitted: &mut Vec<Match>,
     consumed: &mut Numbers,
 ) -> Result<(), Memory>
-    requires { length tree.now.entries ≤ 4096 }
+    requires { length tree.now.entries ≤ live_limit }
     ensures journal { journal.new.items ≡ journal.old.items }
     ensures journal_kept { room journal.old ≤ room journal.new }
     ensures journal_room { OnOk result (2 * length tree.now.entries + 5 ≤ room journal.new) }

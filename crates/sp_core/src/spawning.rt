@@ -1,6 +1,6 @@
 // Fresh versions: a root, or a child under a guess.
 ghost use Rattle.std.specs.Prelude.{◌≡◌, ◌+◌, None, Some, not, find, IfOk, IfErr, OnOk, OnErr};
-ghost use Rattle.sp_plan.specs.Runs.{is_among};
+ghost use Rattle.sp_base.specs.Numbers.{is_among};
 ghost use Rattle.sp_group.specs.declared.step.Step.TheVariants as s;
 ghost use Rattle.sp_core.specs.Faults.{IsFault};
 ghost use Rattle.sp_core.specs.Running.{IsDone, after, refused};

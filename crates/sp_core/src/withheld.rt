@@ -1,6 +1,6 @@
 // What a parent keeps from a child: what its matches used, and the groups that the child's label names.
 ghost use Rattle.std.specs.Prelude.{◌≡◌, ℕ, ◌||◌, OnOk};
-ghost use Rattle.sp_base.specs.Numbers.{has};
+ghost use Rattle.sp_base.specs.Numbers.{is_among};
 ghost use Rattle.sp_core.specs.Withheld.{is_kept_back, is_kept_within, least_kept_back};
 
 use crate::Memory;
@@ -42,8 +42,8 @@ pub(crate) fn withheld_within(
 ) -> Result<(), Memory>
     ensures { OnOk result
         ((i : ℕ)
-        → has numbers.new.list i
-        ≡ (has numbers.old.list i || is_kept_within parent.now label.now first count i)) }
+        → is_among numbers.new.list i
+        ≡ (is_among numbers.old.list i || is_kept_within parent.now label.now first count i)) }
 {
     numbers.union(alloc, &parent.used.cut_to(alloc, first, count)?)?;
     for run in parent.matcher.open_runs() {

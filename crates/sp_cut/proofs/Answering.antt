@@ -2,7 +2,8 @@
 use Rattle.std.proofs.Common.{◌≡◌, ℕ, ◌+◌, ◌==◌, Bool, true, false, not, List, [], ◌∷◌, ◌++◌, length, take, drop, refl, sym, ◌∙◌, ap, arith}
 use Rattle.std.specs.Prelude.{if◌then◌else◌, Some}
 use Rattle.std.proofs.lemmas.List.{take-append-drop, take-append-le, drop-append-le, drop_all}
-use Rattle.sp_cut.specs.CutRows.{CutRow, row, long_row, is_even, is_long, without_cr, rest_rows, ended_part, plain_rows, without_mark}
+use Rattle.sp_base.specs.Marks.{without_mark}
+use Rattle.sp_cut.specs.CutRows.{CutRow, row, long_row, is_even, is_long, without_cr, rest_rows, ended_part, plain_rows}
 use Rattle.sp_cut.specs.Left.{Left, rows_left}
 use Rattle.sp_cut.specs.Answer.{GivesRow, Begins, with_more}
 use Rattle.sp_cut.specs.Part.{part_of, left_behind}

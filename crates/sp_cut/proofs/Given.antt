@@ -4,7 +4,8 @@ use Rattle.std.specs.Prelude.{if◌then◌else◌, Some}
 use Rattle.std.specs.Cmp.Lexicographic.{same_text}
 use Rattle.std.proofs.lemmas.Bool.Decides.{nat_tests}
 use Rattle.std.proofs.lemmas.List.{take-append-drop, take_all}
-use Rattle.sp_cut.specs.CutRows.{CutRow, is_even, is_mark, without_mark, rest_rows, ended_part, plain_rows, rows}
+use Rattle.sp_base.specs.Marks.{is_mark, without_mark}
+use Rattle.sp_cut.specs.CutRows.{CutRow, is_even, rest_rows, ended_part, plain_rows, rows}
 use Rattle.sp_cut.specs.Left.{Left, rows_left}
 use Rattle.sp_cut.specs.Part.{part_of, left_behind}
 use Rattle.sp_cut.specs.Scan.{scan, EndsAt}

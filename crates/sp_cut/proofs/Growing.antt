@@ -5,7 +5,9 @@ use Rattle.std.specs.List.{onto_first}
 use Rattle.std.specs.Cmp.Lexicographic.{same_text}
 use Rattle.std.proofs.lemmas.Bool.Decides.{nat_tests}
 use Rattle.std.proofs.lemmas.List.{append-nil, length-take}
-use Rattle.sp_cut.specs.CutRows.{CutRow, long_row, is_cr, is_long, without_cr, is_mark, without_mark, rows_of_parts, rest_rows, ended_part, plain_rows, rows}
+use Rattle.sp_base.specs.Limits.{row_limit}
+use Rattle.sp_base.specs.Marks.{is_mark, without_mark}
+use Rattle.sp_cut.specs.CutRows.{CutRow, long_row, is_cr, is_long, without_cr, rows_of_parts, rest_rows, ended_part, plain_rows, rows}
 use Rattle.sp_cut.specs.Left.{rows_left}
 use Rattle.sp_cut.specs.Answer.{with_more}
 use Rattle.sp_cut.specs.Growth.{IsFirst, RowsStay}
@@ -24,11 +26,11 @@ cr_size part = by (is_cr (slice_get part (length part - 1)))
 long_stays : (part more : List ℕ) → is_long part ≡ true → is_long (part ++ more) ≡ true
 long_stays part [] long = ap is_long (append-nil part) ∙ long
 long_stays part (b ∷ bs) long =
-    let size : 65536 < length (without_cr part) = grind (arith, nat_tests) in
+    let size : row_limit < length (without_cr part) = grind (arith, nat_tests) in
     let short = (cr_size part).0 in
     let far = (cr_size (part ++ b ∷ bs)).1 in
     let whole = length-append part (b ∷ bs) in
-    let more : 65536 < length (without_cr (part ++ b ∷ bs)) = omega arith in
+    let more : row_limit < length (without_cr (part ++ b ∷ bs)) = omega arith in
     grind (arith, nat_tests)
 
 -- bytes in front of parts that one more byte leads

@@ -3,7 +3,9 @@ use Rattle.std.proofs.Common.{◌≡◌, ℕ, ◌-◌, ◌≤◌, Bool, true, fa
 use Rattle.std.specs.Prelude.{if◌then◌else◌, ◌==◌, slice_get}
 use Rattle.std.proofs.lemmas.Bool.Decides.{nat_tests}
 use Rattle.std.proofs.lemmas.List.{length-take}
-use Rattle.sp_cut.specs.CutRows.{is_cr, is_mark, is_long, without_cr, without_mark}
+use Rattle.sp_base.specs.Limits.{row_limit}
+use Rattle.sp_base.specs.Marks.{is_mark, without_mark}
+use Rattle.sp_cut.specs.CutRows.{is_cr, is_long, without_cr}
 use Rattle.sp_cut.specs.Left.{Left}
 use Rattle.sp_cut.specs.Part.{part_of}
 
@@ -28,7 +30,7 @@ part_shorter left size =
     shorter_choice (left.given == 0) (without_mark (take size left.bytes)) (take size left.bytes) size (omega (arith, first, mark_shorter (take size left.bytes))) first
 
 -- bytes that are not more than a row may have are not too long
-pub not_long : (left : Left) (size : ℕ) → size ≤ 65536 → false ≡ is_long (part_of left size)
+pub not_long : (left : Left) (size : ℕ) → size ≤ row_limit → false ≡ is_long (part_of left size)
 not_long left size few =
-    let short : length (without_cr (part_of left size)) ≤ 65536 = omega (arith, few, cr_shorter (part_of left size), part_shorter left size) in
+    let short : length (without_cr (part_of left size)) ≤ row_limit = omega (arith, few, cr_shorter (part_of left size), part_shorter left size) in
     grind (arith, nat_tests, short)

@@ -1,7 +1,8 @@
 -- The rows of bytes, after RFC 4180 section 2: a line feed inside quotes ends no row.
-use Rattle.std.specs.Prelude.{ℕ, ◌-◌, ◌%◌, Bool, false, ◌&&◌, ◌||◌, not, List, [], ◌∷◌, ◌++◌, length, take, drop, Option, Some, None, slice_get, ◌==◌, nat_lt, filter, if◌then◌else◌}
+use Rattle.std.specs.Prelude.{ℕ, ◌-◌, ◌%◌, Bool, false, ◌&&◌, ◌||◌, not, List, [], ◌∷◌, ◌++◌, length, take, Option, Some, None, slice_get, ◌==◌, nat_lt, filter, if◌then◌else◌}
 use Rattle.std.specs.List.{onto_first}
-use Rattle.std.specs.Str.{bytes_eq}
+use Rattle.sp_base.specs.Limits.{row_limit}
+use Rattle.sp_base.specs.Marks.{without_mark}
 
 -- how many quotes there are
 abbrev pub quotes : List ℕ → ℕ
@@ -27,7 +28,7 @@ without_cr part = if is_cr (slice_get part (length part - 1)) then take (length 
 
 -- a part is too long for a row
 abbrev pub is_long : List ℕ → Bool
-is_long part = nat_lt 65536 (length (without_cr part))
+is_long part = nat_lt row_limit (length (without_cr part))
 
 -- a row, or why there is none in its place
 pub data CutRow : Type 0 where
@@ -55,14 +56,6 @@ rows_of_parts ended (part ∷ next ∷ parts) = ended_part part ∷ rows_of_part
 -- the rows of bytes that no byte order mark begins
 abbrev pub plain_rows : List ℕ → Bool → List CutRow
 plain_rows bytes ended = rows_of_parts ended (parts_after [] bytes)
-
--- the three bytes of a byte order mark
-abbrev pub is_mark : List ℕ → Bool
-is_mark front = bytes_eq front (239 ∷ 187 ∷ 191 ∷ [])
-
--- the bytes without the byte order mark at their start
-abbrev pub without_mark : List ℕ → List ℕ
-without_mark bytes = if is_mark (take 3 bytes) then drop 3 bytes else bytes
 
 -- the rows of the whole input so far
 abbrev pub rows : List ℕ → Bool → List CutRow

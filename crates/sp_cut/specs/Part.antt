@@ -1,8 +1,9 @@
 -- A part of the bytes, and the row that it is.
 use Rattle.std.specs.Prelude.{ℕ, ◌==◌, ◌+◌, List, [], ◌∷◌, take, drop, if◌then◌else◌}
+use Rattle.sp_base.specs.Marks.{without_mark}
 use Rattle.sp_cut.specs.declared.part.Rest.{Rest}
 use Rattle.sp_cut.specs.declared.part.Rest.TheVariants.{Long, Nothing, Row, OpenQuote as InQuotes}
-use Rattle.sp_cut.specs.CutRows.{CutRow, row, long_row, open_quote, without_cr, without_mark}
+use Rattle.sp_cut.specs.CutRows.{CutRow, row, long_row, open_quote, without_cr}
 use Rattle.sp_cut.specs.Left.{Left}
 
 -- the first bytes of those that are left, without the byte order mark at the start of the input

@@ -7,8 +7,9 @@ ghost use Rattle.sp_cut.specs.Span.{Finds, LiesNext, bytes_at};
 
 use crate::ends::{Found, first_end};
 use crate::fault::{CutFault, Memory};
-use crate::part::{ROW, Rest, is_long, put_bytes, rest_of, without_cr, without_mark};
+use crate::part::{Rest, is_long, put_bytes, rest_of, without_cr, without_mark};
 use crate::span::Span;
+use sp_base::limits::ROW_LIMIT;
 use std::alloc::Global;
 use std::marker::Model;
 
@@ -233,7 +234,7 @@ impl Cutter {
         requires { size ≤ length self.now.bytes }
         ensures { result ≡ cut.is_long (part_of self.now size) }
     {
-        size > ROW && is_long(self.part(size))
+        size > ROW_LIMIT && is_long(self.part(size))
     }
 
     // The bytes of rows given are dropped where they are at least as many as those left,

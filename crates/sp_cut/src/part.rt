@@ -1,12 +1,11 @@
 ghost use Rattle.std.specs.Prelude.{◌≡◌, ℕ, ◌+◌, not, OnOk};
+ghost use Rattle.sp_base.specs.Marks.{without_mark};
 ghost use Rattle.sp_cut.specs.CutRows.{is_even, rest_rows};
 ghost use Rattle.sp_cut.specs.CutRows as cut;
 ghost use Rattle.sp_cut.specs.Part.{rows_of_rest};
 
 use crate::fault::Memory;
-
-/// The most bytes that a row may have.
-pub(crate) const ROW: usize = 65_536;
+use sp_base::limits::ROW_LIMIT;
 
 // A byte order mark.
 const MARK: &[u8] = &[0xEF, 0xBB, 0xBF];
@@ -49,7 +48,7 @@ pub(crate) fn put_bytes(row: &mut Vec<u8>, part: &[u8]) -> Result<(), Memory>
 pub(crate) fn is_long(part: &[u8]) -> bool
     ensures { result ≡ cut.is_long part.now }
 {
-    without_cr(part).len() > ROW
+    without_cr(part).len() > ROW_LIMIT
 }
 
 /// The part without the carriage return at its end.
@@ -64,7 +63,7 @@ pub(crate) fn without_cr(part: &[u8]) -> &[u8]
 
 /// The bytes without the byte order mark at their start.
 pub(crate) fn without_mark(bytes: &[u8]) -> &[u8]
-    ensures { result.now ≡ cut.without_mark bytes.now }
+    ensures { result.now ≡ without_mark bytes.now }
 {
     if bytes.len() < 3 {
         return bytes;

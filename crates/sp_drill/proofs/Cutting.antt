@@ -4,6 +4,7 @@ use Rattle.std.specs.Prelude.{slice_get, nat_lt, codes, filter}
 use Rattle.std.specs.List.{All, flat_map, onto_first}
 use Rattle.std.proofs.lemmas.Bool.Decides.{nat_tests}
 use Rattle.std.proofs.lemmas.List.Elements.{All-head, All-tail, filter-append}
+use Rattle.sp_base.specs.Limits.{row_limit}
 use Rattle.sp_cut.specs.CutRows.{CutRow, row, is_even, parts_after, is_cr, without_cr, ended_part, rows_of_parts}
 use Rattle.sp_gen.specs.Plain.{IsPlainLine}
 
@@ -62,7 +63,7 @@ line_row : (line : List ℕ) → IsPlainLine line → ended_part line ≡ row li
 line_row line plain =
     let whole : without_cr line ≡ line = rw (no_return line (length line - 1) plain.bytes) refl in
     let short : length line ≤ 26 = plain.short in
-    let fits : nat_lt 65536 (length line) ≡ false = grind (arith, nat_tests, short) in
+    let fits : nat_lt row_limit (length line) ≡ false = grind (arith, nat_tests, short) in
     rw (whole, fits) refl
 
 -- lines, and nothing behind, are rows

@@ -11,6 +11,7 @@ use Rattle.std.proofs.lemmas.List.Elements.{All-nil, All-cons, All-head, All-tai
 use Rattle.std.proofs.lemmas.List.Splits.{slice_split_none, slice_split_at}
 use Rattle.std.proofs.lemmas.List.Sums.{AllPass-from_list_all, fold-append}
 use Rattle.std.proofs.lemmas.Str.Parse.{IsNumeralModel, numerals_by_fold}
+use Rattle.sp_base.specs.Limits.{number_limit}
 use Rattle.sp_gen.specs.Generated.{price_text}
 use Rattle.sp_rows.specs.Numbers.{is_blank, without_front, trimmed, is_digit, digits_value, are_digits, units_of, unsigned, signed, number_of}
 
@@ -92,11 +93,11 @@ unsigned_cell scale (b ∷ bytes) n all some is =
     ∙ rw (plus, minus, is) refl
 
 -- the number of an event is read as a whole number
-pub whole_number : (n : ℕ) → n ≤ 1000000000000000 → number_of 0 (decimal n) ≡ Some (pos n)
+pub whole_number : (n : ℕ) → n ≤ number_limit → number_of 0 (decimal n) ≡ Some (pos n)
 whole_number n small =
     let fits : n < 2 ^ 64 = omega arith in
     let digits = digits_of n fits in
-    let bound : nat_le n 1000000000000000 ≡ true = grind (arith, nat_tests, small) in
+    let bound : nat_le n number_limit ≡ true = grind (arith, nat_tests, small) in
     let units : unsigned 0 (decimal n) ≡ Some n =
     ap (units_of 0) (slice_split_none (λ b. b == 46) (decimal n) (pointless (decimal n) digits))
     ∙ rw (are_digits_of n fits, append-nil (decimal n), value_of n fits, bound) refl in
@@ -143,7 +144,7 @@ price_units h small =
     let second : is_digit (48 + h % 10) ≡ true = digit_at (h % 10) (omega arith) in
     let value : digits_value (decimal (h / 100) ++ (48 + h / 10 % 10) ∷ (48 + h % 10) ∷ []) ≡ h =
     fold-append (λ n b. n * 10 + (b - 48)) 0 (decimal (h / 100)) ((48 + h / 10 % 10) ∷ (48 + h % 10) ∷ []) ∙ two_decimals h (digits_value (decimal (h / 100))) (value_of (h / 100) fits) in
-    let bound : nat_le h 1000000000000000 ≡ true = grind (arith, nat_tests, small) in
+    let bound : nat_le h number_limit ≡ true = grind (arith, nat_tests, small) in
     ap (units_of 2) parts ∙ rw (are_digits_of (h / 100) fits, first, second, value, bound) refl
 
 -- a price is of digits and a point

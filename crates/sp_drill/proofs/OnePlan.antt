@@ -1,7 +1,7 @@
 -- Every plan of the drill's query has the columns of the generated rows.
 use Rattle.std.proofs.Common.{◌≤◌, length, sym, ◌∙◌, lit≤}
+use Rattle.sp_base.specs.Limits.{query_limit}
 use Rattle.sp_plan.specs.declared.plan.Plan.{Plan}
-use Rattle.sp_load.specs.Places.{longest_query}
 use Rattle.sp_load.specs.Queries.{IsPlanFor}
 use Rattle.sp_load.specs.Laws.{OneReading}
 use Rattle.sp_drill.specs.Drill.{IsDrillSchema}
@@ -17,7 +17,7 @@ has_schema law q of_query =
       time = one.2.stands.time ∙ sym one.1.stands.time;
     }
 
-short : length drill_query ≤ longest_query
+short : length drill_query ≤ query_limit
 unfolding drill_query
 short = lit≤ tt
 

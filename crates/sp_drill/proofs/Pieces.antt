@@ -5,6 +5,7 @@ use Rattle.std.specs.Str.{bytes_eq}
 use Rattle.std.proofs.lemmas.Bool.{leb-true}
 use Rattle.std.proofs.lemmas.List.Sums.{AllPass-from_list_all}
 use Rattle.std.proofs.lemmas.Slice.Eq.{bytes_eq-Decides}
+use Rattle.sp_base.specs.Limits.{number_limit}
 use Rattle.sp_lex.specs.declared.token.Word.{Word}
 use Rattle.sp_lex.specs.declared.token.Token.{Token}
 use Rattle.sp_lex.specs.declared.token.Kernel.{Kernel}
@@ -49,7 +50,7 @@ is_no_word text = list_all (λ w. not (bytes_eq text (spelling w))) words
 abbrev pub fits : Piece → List ℕ → Bool
 fits (word of) rest = not (heads is_name_byte rest)
 fits (name text) rest = heads is_letter text && (list_all is_name_byte text && (is_no_word text && not (heads is_name_byte rest)))
-fits (whole digits) rest = heads is_digit digits && (list_all is_digit digits && (nat_le (number_of digits) 1000000000000000 && (not (heads is_digit rest) && not (heads is_point rest))))
+fits (whole digits) rest = heads is_digit digits && (list_all is_digit digits && (nat_le (number_of digits) number_limit && (not (heads is_digit rest) && not (heads is_point rest))))
 fits (literal value) rest = not (heads is_quote rest)
 fits (sign kernel byte is) rest = not (heads is_second rest)
 
@@ -79,10 +80,10 @@ no_word text all w same =
     let differs : not (bytes_eq text (spelling w)) ≡ true = all_words (λ v. not (bytes_eq text (spelling v)) ≡ true) 24 (omega arith) each w in
     is_so (bytes_eq text (spelling w)) differs ((bytes_eq-Decides text (spelling w)).1 same)
 
-small_capped : (n : ℕ) → n ≤ 1000000000000000 → n ≡ capped n
+small_capped : (n : ℕ) → n ≤ number_limit → n ≡ capped n
 small_capped n small = omega arith
 
-whole_fit : (digits rest : List ℕ) → heads is_digit digits ≡ true → list_all is_digit digits ≡ true → number_of digits ≤ 1000000000000000 → heads is_digit rest ≡ false → heads is_point rest ≡ false → IsFit (whole digits) rest
+whole_fit : (digits rest : List ℕ) → heads is_digit digits ≡ true → list_all is_digit digits ≡ true → number_of digits ≤ number_limit → heads is_digit rest ≡ false → heads is_point rest ≡ false → IsFit (whole digits) rest
 whole_fit digits rest begins all small stops no_part =
     let number : IsNumber digits = record { some = λ none. clash (heads is_digit digits) begins (ap (heads is_digit) none); all = all } in
     let here : heads is_digit (digits ++ rest) ≡ true = heads_append is_digit digits rest begins in
@@ -127,10 +128,10 @@ fit (name text) rest h =
     let last : (is_no_word text && not (heads is_name_byte rest)) ≡ true = and_right _ _ more in
     letters_fit (name text) rest (as_name refl (record { begins = begins; all = all }) (no_word text (and_left _ _ last))) begins (record { all = all; stops = is_not (heads is_name_byte rest) (and_right _ _ last) })
 fit (whole digits) rest h =
-    let more : (list_all is_digit digits && (nat_le (number_of digits) 1000000000000000 && (not (heads is_digit rest) && not (heads is_point rest)))) ≡ true = and_right _ _ h in
-    let last : (nat_le (number_of digits) 1000000000000000 && (not (heads is_digit rest) && not (heads is_point rest))) ≡ true = and_right _ _ more in
+    let more : (list_all is_digit digits && (nat_le (number_of digits) number_limit && (not (heads is_digit rest) && not (heads is_point rest)))) ≡ true = and_right _ _ h in
+    let last : (nat_le (number_of digits) number_limit && (not (heads is_digit rest) && not (heads is_point rest))) ≡ true = and_right _ _ more in
     let stops : (not (heads is_digit rest) && not (heads is_point rest)) ≡ true = and_right _ _ last in
-    whole_fit digits rest (and_left _ _ h) (and_left _ _ more) (leb-true (number_of digits) 1000000000000000 (and_left _ _ last)) (is_not (heads is_digit rest) (and_left _ _ stops)) (is_not (heads is_point rest) (and_right _ _ stops))
+    whole_fit digits rest (and_left _ _ h) (and_left _ _ more) (leb-true (number_of digits) number_limit (and_left _ _ last)) (is_not (heads is_digit rest) (and_left _ _ stops)) (is_not (heads is_point rest) (and_right _ _ stops))
 fit (literal value) rest h = literal_fit value rest (is_not (heads is_quote rest) h)
 fit (sign kernel byte is) rest h = sign_fit kernel byte is rest (is_not (heads is_second rest) h)
 

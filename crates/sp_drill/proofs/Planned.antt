@@ -6,6 +6,7 @@ use Rattle.std.proofs.Math.IntN.{*ℤ-one, one}
 use Rattle.std.proofs.lemmas.List.Elements.{All-nil, All-cons}
 use Rattle.std.proofs.lemmas.List.Kept.{AllPairs-cons}
 use Rattle.std.proofs.lemmas.Slice.Eq.{bytes_eq-Decides}
+use Rattle.sp_base.specs.Limits.{number_limit}
 use Rattle.sp_plan.specs.declared.event.Event.{Event}
 use Rattle.sp_plan.specs.declared.plan.Plan.{Plan}
 use Rattle.sp_plan.specs.declared.plan.Name.{Name}
@@ -145,7 +146,7 @@ symbol_tests x y z =
 price_tests : (here : ℕ) (by : Compare) (x y z : Span) → nat_lt 0 here ≡ true → Tests (scope here) (whole by (n.Own (codes "price")) earlier x y z) None
 price_tests here by x y z behind =
     let left = n.Own (codes "price") in
-    let sort = s.Number 2 1000000000000000 in
+    let sort = s.Number 2 number_limit in
     let sees : Ok sort ≡ earlier_sort (scope here) (span_of (leaf earlier y)) (codes "A") (codes "price") = rw behind refl in
     tests_well by left earlier x y z (scope here) sort sort
     (ch.own (leaf left x) (codes "price") (Ok sort) (node_is left [] x) refl) (ch.earlier (leaf earlier y) (codes "A") (codes "price") (Ok sort) (node_is earlier [] y) sees) refl

@@ -5,6 +5,7 @@ use Rattle.std.specs.List.{range_with_len}
 use Rattle.std.proofs.lemmas.Bool.Decides.{nat_tests}
 use Rattle.std.proofs.lemmas.List.{map_push, length_push}
 use Rattle.std.proofs.lemmas.List.FromFn.{map-range_with_len_more}
+use Rattle.sp_base.specs.Limits.{event_limit}
 use Rattle.sp_plan.specs.declared.event.Event.{Event}
 use Rattle.sp_plan.specs.declared.plan.Plan.{Plan}
 use Rattle.sp_cut.specs.CutRows.{row, rows, rows_of_parts}
@@ -42,13 +43,13 @@ header_stands q has = subst (Stands 0) (sym (ap (with_result (start q)) (header_
 abbrev with_one : Reading → Event → RowsRead → Reading
 with_one r e new = record r { so_far = new; events = r.events ++ e ∷ [] }
 
-one_event : (r : Reading) (e : Event) (new : RowsRead) (n : ℕ) → Stands n r → n < 1048576 → with_event r e new ≡ with_one r e new
+one_event : (r : Reading) (e : Event) (new : RowsRead) (n : ℕ) → Stands n r → n < event_limit → with_event r e new ≡ with_one r e new
 one_event r e new n stands few =
-    let more : (length r.events == 1048576) ≡ false = let count = stands.count in grind (arith, nat_tests, count, few) in
-    ap (λ (full : Bool). if full then record r { so_far = new; stopped = Some (Limit 1048576) } else with_one r e new) more
+    let more : (length r.events == event_limit) ≡ false = let count = stands.count in grind (arith, nat_tests, count, few) in
+    ap (λ (full : Bool). if full then record r { so_far = new; stopped = Some (Limit event_limit) } else with_one r e new) more
 
 -- a row of a table gives one event more
-row_read : (q : Plan) (r : Reading) (n x : ℕ) → IsDrillSchema q → Stands n r → n < 1048576 → Stands (n + 1) (take_row q r (row (row_text (n + 1) x)))
+row_read : (q : Plan) (r : Reading) (n x : ℕ) → IsDrillSchema q → Stands n r → n < event_limit → Stands (n + 1) (take_row q r (row (row_text (n + 1) x)))
 row_read q r n x has stands few =
     let gives = row_gives q r.so_far (n + 1) n x has stands.places stands.last (omega arith) (omega arith) in
     let within : (r.so_far.read == 2097152) ≡ false = let read = stands.read in grind (arith, nat_tests, read, few) in
@@ -74,7 +75,7 @@ abbrev row_of : ℕ → ℕ → List ℕ
 row_of seed event = row_text event (drawn seed event)
 
 -- rows are read one after another
-rows_read : (q : Plan) (seed n count : ℕ) (r : Reading) → IsDrillSchema q → Stands n r → n + count ≤ 1048576
+rows_read : (q : Plan) (seed n count : ℕ) (r : Reading) → IsDrillSchema q → Stands n r → n + count ≤ event_limit
     → Stands (n + count) (fold (take_row q) r (map row (map (row_of seed) (range_with_len (n + 1) count))))
 rows_read q seed n zero r has stands few = subst (λ (m : ℕ). Stands m r) (omega arith) stands
 rows_read q seed n (suc count) r has stands few =
@@ -83,7 +84,7 @@ rows_read q seed n (suc count) r has stands few =
     subst (λ (m : ℕ). Stands m (fold (take_row q) next (map row (map (row_of seed) (range_with_len (n + 1 + 1) count))))) (omega arith) all
 
 -- the rows of a table are its lines
-table_rows : LinesArePlain → (events seed : ℕ) → events ≤ 1048576 → rows (generated events seed) true ≡ map row (lines events seed)
+table_rows : LinesArePlain → (events seed : ℕ) → events ≤ event_limit → rows (generated events seed) true ≡ map row (lines events seed)
 table_rows plain events seed few =
     let each = plain events seed (omega arith) in
     ap (rows_of_parts true) (lines_parts (lines events seed) each [] refl) ∙ lines_rows (lines events seed) each

@@ -10,6 +10,7 @@ use Rattle.std.proofs.lemmas.Int.{ints}
 use Rattle.std.proofs.lemmas.List.Elements.{All-nil, All-cons, All-weaker}
 use Rattle.csv.specs.Machine.{next_record}
 use Rattle.csv.specs.Reading.{strip_bom}
+use Rattle.sp_base.specs.Limits.{number_limit}
 use Rattle.sp_plan.specs.declared.event.Event.{Event}
 use Rattle.sp_plan.specs.declared.plan.Column.{Column}
 use Rattle.sp_plan.specs.declared.plan.Kind.TheVariants.{Int, Dec, Text}
@@ -101,7 +102,7 @@ record AreGood (n h : ℕ) (at sym price : List ℕ) : Type 0 where
   named : cell_of false Text sym ≡ text sym
   priced : cell_of false (Dec 2) price ≡ number (pos h)
 
-cells_good : (n x : ℕ) → n ≤ 1000000000000000 → AreGood n (10000 + upper x % 4096) (decimal n) (symbol (upper x / 16384)) (price_text (10000 + upper x % 4096))
+cells_good : (n x : ℕ) → n ≤ number_limit → AreGood n (10000 + upper x % 4096) (decimal n) (symbol (upper x / 16384)) (price_text (10000 + upper x % 4096))
 cells_good n x small =
     let from_zero : int_lt (pos n) (pos 0) ≡ false = grind (arith, nat_tests, ints) in
     let named = symbol_is (upper x / 16384) in
@@ -133,7 +134,7 @@ pub record GivesEvent (n : ℕ) (r : RowsRead) (result : RowResult) : Type 0 whe
   pub read : new.read ≡ r.read + 1
   pub places : new.places ≡ r.places
 
-pub row_gives : (q : Plan) (r : RowsRead) (n m x : ℕ) → IsDrillSchema q → r.places ≡ Some (0 ∷ 1 ∷ 2 ∷ []) → r.last ≡ pos m → m ≤ n → n ≤ 1000000000000000 → GivesEvent n r (row_result q r (row_text n x))
+pub row_gives : (q : Plan) (r : RowsRead) (n m x : ℕ) → IsDrillSchema q → r.places ≡ Some (0 ∷ 1 ∷ 2 ∷ []) → r.last ≡ pos m → m ≤ n → n ≤ number_limit → GivesEvent n r (row_result q r (row_text n x))
 row_gives q r n m x has places last rises small =
     let good = cells_good n x small in
     let time : time_of (cells_of n x) drill_at ≡ pos n = ap number_in good.time in

@@ -1,6 +1,7 @@
 -- Generated rows under a plan that reads them.
 use Rattle.std.specs.Prelude.{◌≡◌, ℕ, pos, ◌≤◌, List, [], ◌∷◌, length, map, true, Some, codes}
 use Rattle.std.specs.List.{range_with_len}
+use Rattle.sp_base.specs.Limits.{event_limit}
 use Rattle.sp_plan.specs.declared.plan.Column.{Column}
 use Rattle.sp_plan.specs.declared.plan.Kind.TheVariants.{Int, Dec, Text}
 use Rattle.sp_plan.specs.declared.plan.Plan.{Plan}
@@ -26,4 +27,4 @@ pub record IsReadThrough (events : ℕ) (r : Reading) : Type 0 where
 
 -- a table of as many events as an input may have, or fewer, is read through by such a plan, whatever its seed
 abbrev pub GeneratedRowsAreRead : Type 0
-GeneratedRowsAreRead = (q : Plan) (events seed : ℕ) → IsDrillSchema q → events ≤ 1048576 → IsReadThrough events (read q (generated events seed) true)
+GeneratedRowsAreRead = (q : Plan) (events seed : ℕ) → IsDrillSchema q → events ≤ event_limit → IsReadThrough events (read q (generated events seed) true)

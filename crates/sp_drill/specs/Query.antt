@@ -1,7 +1,7 @@
 -- The drill's query: its text, and that it has a plan.
 use Rattle.std.specs.Prelude.{ℕ, ◌≤◌, List, length, codes}
+use Rattle.sp_base.specs.Limits.{query_limit}
 use Rattle.sp_plan.specs.declared.plan.Plan.{Plan}
-use Rattle.sp_load.specs.Places.{longest_query}
 use Rattle.sp_load.specs.Queries.{IsPlanFor}
 use Rattle.sp_drill.specs.Drill.{IsDrillSchema}
 
@@ -13,5 +13,5 @@ drill_query = codes "EVENT (at INT, sym TEXT, price DEC 2) TIME at PATTERN (A B+
 pub record DrillQueryHasPlan : Type 0 where
   pub plan : Plan
   pub is : IsPlanFor drill_query plan
-  pub short : length drill_query ≤ longest_query
+  pub short : length drill_query ≤ query_limit
   pub reads : (q : Plan) → IsPlanFor drill_query q → IsDrillSchema q

@@ -7,7 +7,7 @@ use Rattle.std.proofs.lemmas.Bool.Decides.{nat_tests}
 use Rattle.std.proofs.lemmas.Grind.{flat_map-append}
 use Rattle.std.proofs.lemmas.List.Elements.{All-nil, All-cons, All-head, All-tail, All-push}
 use Rattle.std.specs.List.Sorted.{IsStrictlyIncreasing}
-use Rattle.sp_plan.specs.Lines.{commas}
+use Rattle.sp_base.specs.Commas.{commas}
 use Rattle.sp_emit.specs.Reading.{heads, is_digit, goes_on, NumberAt, NumbersAt, PlacesAt}
 use Rattle.sp_emit.proofs.Runs.{ends_number}
 use Rattle.sp_emit.proofs.Numbers.{decimal_one}

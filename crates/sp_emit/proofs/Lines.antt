@@ -3,9 +3,10 @@ use Rattle.std.proofs.Common.{◌≡◌, ◌≢◌, ℕ, ◌<◌, ◌≤◌, ◌
 use Rattle.std.specs.Prelude.{codes}
 use Rattle.std.specs.Fmt.{decimal}
 use Rattle.std.proofs.lemmas.List.Elements.{All-nil}
+use Rattle.sp_base.specs.Commas.{list_text}
 use Rattle.sp_plan.specs.declared.plan.Plan.{Plan}
 use Rattle.sp_plan.specs.declared.found.Match.{Match}
-use Rattle.sp_plan.specs.Lines.{line, used_text}
+use Rattle.sp_plan.specs.Lines.{line}
 use Rattle.sp_emit.specs.Matches.{IsLine, OneMatch}
 use Rattle.sp_emit.specs.Reading.{heads, is_digit, LabelledAt, PlacesAt, BindingsAt, UsedIs}
 use Rattle.sp_emit.proofs.Runs.{ends_number}
@@ -60,7 +61,7 @@ none_after text dash ms r a more (n ∷ ns) u = let p = places_one text ms (n �
 
 -- what stands behind the names
 abbrev end_of : Match → List ℕ
-end_of m = used_text m.used ++ codes "\n"
+end_of m = list_text m.used ++ codes "\n"
 
 -- what stands behind a match's number
 abbrev behind_number : Plan → Match → List ℕ

@@ -7,9 +7,10 @@ use Rattle.std.proofs.lemmas.List.{append_cancel_left, map-append, map-id}
 use Rattle.std.proofs.lemmas.List.Elements.{All-nil, All-head, All-tail, All-push}
 use Rattle.std.proofs.lemmas.Option.{slice_get_read}
 use Rattle.std.proofs.lemmas.List.FromFn.{map-range_with_len_more}
+use Rattle.sp_base.specs.Commas.{commas}
 use Rattle.sp_plan.specs.declared.plan.Plan.{Plan}
 use Rattle.sp_plan.specs.declared.plan.Name.{Name}
-use Rattle.sp_plan.specs.Lines.{commas, binding_text, name_text}
+use Rattle.sp_plan.specs.Lines.{binding_text, name_text}
 use Rattle.sp_emit.specs.Matches.{ArePlaces}
 use Rattle.sp_emit.specs.Reading.{heads, goes_on, PlacesAt, BindingAt, BindingsAt}
 use Rattle.sp_emit.proofs.Commas.{places_one}

@@ -2,8 +2,9 @@
 use Rattle.std.proofs.Common.{◌≡◌, ℕ, List, [], ◌++◌, length, ◌∙◌, ap, append_assoc}
 use Rattle.std.specs.Prelude.{codes}
 use Rattle.std.specs.Fmt.{decimal}
+use Rattle.sp_base.specs.Commas.{list_text}
 use Rattle.sp_group.specs.Seen.{StateSeen, VersionSeen}
-use Rattle.sp_emit.specs.StateLines.{list_text, id_text, truth_text, groups_text, head_line, version_line}
+use Rattle.sp_emit.specs.StateLines.{id_text, truth_text, groups_text, head_line, version_line}
 
 -- a text that begins with nothing
 pub begun : (o a p : List ℕ) → o ≡ [] → a ≡ o ++ p → a ≡ p

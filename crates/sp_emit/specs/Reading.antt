@@ -2,8 +2,9 @@
 use Rattle.std.specs.Prelude.{◌≡◌, ◌≢◌, ℕ, ◌+◌, ◌-◌, ◌*◌, ◌<◌, ◌≤◌, ◌^◌, Bool, false, true, ◌&&◌, ◌||◌, not, List, [], ◌∷◌, ◌++◌, Option, Some, None, ◌==◌, nat_le, codes}
 use Rattle.std.specs.List.{All, fold, list_all, flat_map}
 use Rattle.std.specs.Fmt.{decimal}
+use Rattle.sp_base.specs.Commas.{commas, list_text}
 use Rattle.sp_plan.specs.declared.plan.Plan.{Plan}
-use Rattle.sp_plan.specs.Lines.{commas, binding_text, used_text}
+use Rattle.sp_plan.specs.Lines.{binding_text}
 use Rattle.sp_emit.specs.Matches.{ArePlaces, BindsNames}
 
 -- whether the first byte of a text is one of these
@@ -81,7 +82,7 @@ pub record BindingsAt (q : Plan) (text : List ℕ) (bound : List (ℕ × List �
 -- The text is the consumed numbers and a line feed.
 pub record UsedIs (text ns : List ℕ) : Type 0 where
   pub are : ArePlaces ns
-  pub is : text ≡ used_text ns ++ codes "\n"
+  pub is : text ≡ list_text ns ++ codes "\n"
 
 -- what a function answers that reads something from the front of a text: it and the rest, None exactly where nothing such is there
 abbrev pub Answers : {Y A : Type 0} → (A → List ℕ → Type 0) → (Y → A × List ℕ) → Option Y → Type 0

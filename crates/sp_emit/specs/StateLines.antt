@@ -2,12 +2,8 @@
 use Rattle.std.specs.Prelude.{ℕ, Bool, true, false, List, [], ◌∷◌, ◌++◌, length, Option, Some, None, map, codes}
 use Rattle.std.specs.List.{join_by}
 use Rattle.std.specs.Fmt.{decimal}
-use Rattle.sp_plan.specs.Lines.{used_text}
+use Rattle.sp_base.specs.Commas.{list_text}
 use Rattle.sp_group.specs.Seen.{StateSeen, VersionSeen, TicketSeen}
-
--- numbers joined by commas, or a dash where there are none
-abbrev pub list_text : List ℕ → List ℕ
-list_text ns = used_text ns
 
 -- a number, or a dash where there is none
 abbrev pub id_text : Option ℕ → List ℕ

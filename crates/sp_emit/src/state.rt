@@ -2,7 +2,8 @@
 ghost use Rattle.std.specs.Prelude.{◌≡◌, ◌++◌, length, map, codes, string_bytes, IfOk, OnOk};
 ghost use Rattle.std.specs.Fmt.{decimal};
 ghost use Rattle.std.specs.List.{flat_map};
-ghost use Rattle.sp_emit.specs.StateLines.{group_text, groups_text, head_line, id_text, lines_of_state, list_text, ticket_line, truth_text, version_line};
+ghost use Rattle.sp_base.specs.Commas.{list_text};
+ghost use Rattle.sp_emit.specs.StateLines.{group_text, groups_text, head_line, id_text, lines_of_state, ticket_line, truth_text, version_line};
 ghost use Rattle.sp_group.specs.Seen.{seen, seen_group, seen_ticket, seen_version};
 
 use crate::write::push_list;

@@ -2,8 +2,9 @@
 ghost use Rattle.std.specs.Prelude.{◌≡◌, ◌<◌, ◌^◌, ◌++◌, IfOk, OnOk, slice_get, codes, string_bytes};
 ghost use Rattle.std.specs.Fmt.{decimal};
 ghost use Rattle.std.specs.List.{All, flat_map};
+ghost use Rattle.sp_base.specs.Commas.{commas, list_text};
 ghost use Rattle.sp_emit.specs.Matches.{ArePlaces, Binds, IsLine};
-ghost use Rattle.sp_plan.specs.Lines.{line, commas, binding_text, name_text, used_text};
+ghost use Rattle.sp_plan.specs.Lines.{line, binding_text, name_text};
 
 use itoa::Buffer;
 use sp_plan::{Match, Memory, Places, Plan};
@@ -94,7 +95,7 @@ fn push_bindings(out: &mut String, plan: &Plan, bound: &[(u8, Places)]) -> Resul
 // Adds numbers joined by commas, or a dash where there are none.
 pub(crate) fn push_list(out: &mut String, numbers: &[u32]) -> Result<(), Memory>
     ensures text { OnOk result
-        (string_bytes out.new ≡ string_bytes out.old ++ used_text numbers.now) }
+        (string_bytes out.new ≡ string_bytes out.old ++ list_text numbers.now) }
     ensures small { All (λ n. n < 2 ^ 32) numbers.now }
 {
     if numbers.is_empty() {
@@ -106,7 +107,7 @@ pub(crate) fn push_list(out: &mut String, numbers: &[u32]) -> Result<(), Memory>
 
 // Adds the consumed numbers, or a dash where there are none.
 fn push_used(out: &mut String, used: &Places) -> Result<(), Memory>
-    ensures text { OnOk result (string_bytes out.new ≡ string_bytes out.old ++ used_text used.now) }
+    ensures text { OnOk result (string_bytes out.new ≡ string_bytes out.old ++ list_text used.now) }
     ensures are { ArePlaces used.now }
 {
     push_list(out, used.list())

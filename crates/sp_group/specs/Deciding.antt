@@ -1,7 +1,7 @@
 -- What the decision of a group does to labels, and that of several groups at once.
 use Rattle.std.specs.Prelude.{ℕ, Bool, not, List, ◌==◌, filter}
 use Rattle.std.specs.List.{list_all}
-use Rattle.sp_plan.specs.Runs.{is_among}
+use Rattle.sp_base.specs.Numbers.{is_among}
 use Rattle.sp_group.specs.declared.outcome.Outcome.{Outcome}
 use Rattle.sp_group.specs.declared.outcome.Outcome.TheVariants.{Completed, Abandoned}
 

@@ -1,16 +1,16 @@
 -- What each step of the machine does, where it is not refused.
 use Rattle.std.specs.Prelude.{ℕ, ◌+◌, ◌-◌, Bool, true, false, not, ◌&&◌, ◌||◌, List, [], ◌∷◌, ◌++◌, length, Option, Some, None, is_some, ◌==◌, nat_lt, nat_le, filter, map, if◌then◌else◌}
 use Rattle.std.specs.List.{list_all, enumerate_from, range_with_len}
+use Rattle.sp_base.specs.Numbers.{is_among, with_numbers}
 use Rattle.sp_plan.specs.declared.found.Match.{Match}
 use Rattle.sp_plan.specs.declared.plan.Plan.{Plan}
-use Rattle.sp_plan.specs.Runs.{State, is_among, matched_runs}
+use Rattle.sp_plan.specs.Runs.{State, matched_runs}
 use Rattle.sp_plan.specs.Sequential.{match_of}
 use Rattle.sp_plan.specs.Windows.{closed}
 use Rattle.sp_plan.specs.WindowNumbers.{first, size}
 use Rattle.sp_group.specs.declared.step.Step.{Step}
 use Rattle.sp_group.specs.declared.step.Step.TheVariants as s
 use Rattle.sp_plan.specs.Groups.{used_by_all}
-use Rattle.sp_group.specs.Rising.{with_numbers}
 use Rattle.sp_group.specs.Family.{prune, is_parent}
 use Rattle.sp_group.specs.Machine.{Version, Ticket, Machine, kin, version_at, ticket_at, root_in, inner, is_group, is_spent, is_suppressed, conflict}
 

@@ -1,5 +1,6 @@
 -- Which steps the machine refuses, and why: the first cause in the order written here.
 use Rattle.std.specs.Prelude.{ℕ, ◌+◌, Bool, true, false, not, ◌&&◌, ◌||◌, List, [], ◌∷◌, length, Option, Some, None, is_some, ◌==◌, nat_lt, nat_le, find, if◌then◌else◌}
+use Rattle.sp_base.specs.Limits.{event_limit}
 use Rattle.sp_plan.specs.declared.plan.Plan.{Plan}
 use Rattle.sp_plan.specs.Windows.{closed}
 use Rattle.sp_plan.specs.WindowNumbers.{count, size}
@@ -19,10 +20,6 @@ refuse_if false refusal rest = rest
 abbrev pub refuse_for : Option ℕ → (ℕ → Refusal) → Option Refusal → Option Refusal
 refuse_for (Some n) refusal rest = Some (refusal n)
 refuse_for None refusal rest = rest
-
--- the greatest number of events
-abbrev pub event_limit : ℕ
-event_limit = 1048576
 
 -- whether two lists are the same numbers
 abbrev pub same_list : List ℕ → List ℕ → Bool

@@ -1,21 +1,12 @@
 -- Numbers in rising order, and the least number that passes a test.
-use Rattle.std.specs.Prelude.{◌≢◌, ℕ, zero, suc, ◌+◌, Bool, true, false, List, [], ◌∷◌, Option, Some, None, ◌==◌, nat_lt, if◌then◌else◌}
-use Rattle.std.specs.List.{All, fold}
+use Rattle.std.specs.Prelude.{◌≢◌, ℕ, zero, suc, ◌+◌, Bool, true, false, List, [], ◌∷◌, Option, Some, None, if◌then◌else◌}
+use Rattle.std.specs.List.{All}
 use Rattle.std.specs.List.Sorted.{IsStrictlyIncreasing}
 
 -- whether there is a number at all
 abbrev pub has_number : List ℕ → Bool
 has_number [] = false
 has_number (n ∷ ns) = true
-
--- a rising list with one number more
-abbrev pub with_number : List ℕ → ℕ → List ℕ
-with_number [] n = n ∷ []
-with_number (m ∷ ms) n = if nat_lt n m then n ∷ m ∷ ms else if m == n then m ∷ ms else m ∷ with_number ms n
-
--- a rising list with these numbers more
-abbrev pub with_numbers : List ℕ → List ℕ → List ℕ
-with_numbers ms ns = fold with_number ms ns
 
 -- the least of n numbers from first on that passes
 abbrev pub least : (ℕ → Bool) → ℕ → ℕ → Option ℕ

@@ -1,9 +1,9 @@
 -- The steps of the machine: what each answers, what a list of them leads to, and what a journal of them says.
 use Rattle.std.specs.Prelude.{◌≡◌, ◌⊎◌, ℕ, ◌+◌, ◌≤◌, Bool, true, false, List, [], ◌∷◌, ◌++◌, length, Option, Some, None, is_some, is_none, nat_lt, filter, replicate, if◌then◌else◌}
 use Rattle.std.specs.List.{All, fold, list_any}
+use Rattle.sp_base.specs.Numbers.{is_among}
 use Rattle.sp_plan.specs.declared.found.Match.{Match}
 use Rattle.sp_plan.specs.declared.plan.Plan.{Plan}
-use Rattle.sp_plan.specs.Runs.{is_among}
 use Rattle.sp_plan.specs.WindowNumbers.{count}
 use Rattle.sp_group.specs.declared.refusal.Refusal.{Refusal}
 use Rattle.sp_group.specs.declared.step.Entry.{Entry}

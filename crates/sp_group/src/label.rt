@@ -1,6 +1,6 @@
 ghost use Rattle.std.specs.Prelude.{◌≡◌, ◌≢◌, ◌↔◌, ℕ, ◌==◌, false, not, List, [], filter, IsTrue, IfOk, IfSome, IsSome, IsNone, OnOk, OnErr};
-ghost use Rattle.sp_plan.specs.Runs.{is_among};
-ghost use Rattle.sp_group.specs.Rising.{IsLabel, with_number};
+ghost use Rattle.sp_base.specs.Numbers.{is_among, with_number};
+ghost use Rattle.sp_group.specs.Rising.{IsLabel};
 
 use crate::Memory;
 use std::alloc::Global;

@@ -14,7 +14,7 @@ use crate::poster::Poster;
 use crate::seat::Seat;
 use crate::shared::Shared;
 use crate::taken::Taken;
-use sp_text::Listed;
+use sp_base::Listed;
 use std::alloc::Global;
 use std::marker::Model;
 use std::sync::{Condvar, Mutex, Wait};

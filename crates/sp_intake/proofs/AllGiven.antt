@@ -2,6 +2,7 @@
 use Rattle.std.proofs.Common.{◌≡◌, ◌⊎◌, inl, inr, ◌≤◌, List, [], length, Ok, Err, sym, ◌∙◌, ap, subst}
 use Rattle.std.specs.Prelude.{Option, Some, Result, IsErr, IfOk}
 use Rattle.std.specs.declared.alloc.AllocError.{AllocError}
+use Rattle.sp_base.specs.Limits.{event_limit}
 use Rattle.sp_io.specs.Outside.{SourceState}
 use Rattle.sp_plan.specs.Events.{AllFit, NeverGoesBack}
 use Rattle.sp_plan.specs.declared.event.Event.{Event}
@@ -41,7 +42,7 @@ reads_input q before after old new result from all is =
           no_further = has.no_further;
           events = events ∙ has.all;
           stop = has.stop;
-          few = subst (λ (l : List Event). length l ≤ 1048576) (sym events) far.good.few;
+          few = subst (λ (l : List Event). length l ≤ event_limit) (sym events) far.good.few;
           fit = subst (AllFit q) (sym events) far.good.good.0;
           ordered = subst NeverGoesBack (sym events) far.good.good.1;
           fault = λ open_. has.fault (ap (λ (s : Stop). Some s) open_);

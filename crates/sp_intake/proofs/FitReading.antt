@@ -4,6 +4,7 @@ use Rattle.std.specs.Prelude.{is_some, slice_get, if◌then◌else◌}
 use Rattle.std.specs.List.{All, fold}
 use Rattle.std.proofs.lemmas.Int.{ints}
 use Rattle.std.proofs.lemmas.List.Elements.{All-push, All-nil, All-weaker}
+use Rattle.sp_base.specs.Limits.{event_limit}
 use Rattle.sp_plan.specs.Compiled.{IsTimeOf}
 use Rattle.sp_plan.specs.Events.{fits, AllFit, NeverGoesBack}
 use Rattle.sp_plan.specs.declared.event.Event.{Event}
@@ -68,7 +69,7 @@ module _ (q : Plan) where
   fit_event : (r : Reading) (e : Event) (so_far : RowsRead) → HasFit q r → GivesFit q r.so_far (event e so_far) → HasFit q (with_event r e so_far)
   fit_event r e so_far has gives =
       let before : All (λ x. x.time ≤ℤ e.time) r.events = all_before r.events r.so_far.last e.time gives.1 has.last in
-      fit_choice (length r.events == 1048576) (record r { so_far = so_far; stopped = Some (Limit 1048576) }) (record r { so_far = so_far; events = r.events ++ e ∷ [] })
+      fit_choice (length r.events == event_limit) (record r { so_far = so_far; stopped = Some (Limit event_limit) }) (record r { so_far = so_far; events = r.events ++ e ∷ [] })
       (record { fit = has.fit; ordered = has.ordered; last = subst (λ t. All (λ x. x.time ≤ℤ t) r.events) (sym gives.2) before; placed = gives.3 })
       (record {
         fit = All-push (λ x. fits q x ≡ true) r.events e has.fit gives.0;

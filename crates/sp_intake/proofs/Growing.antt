@@ -3,6 +3,7 @@ use Rattle.std.proofs.Common.{◌==◌, Bool, true, false, List, [], ◌∷◌, 
 use Rattle.std.specs.Prelude.{is_some, if◌then◌else◌}
 use Rattle.std.specs.List.{fold}
 use Rattle.std.proofs.lemmas.List.{append-nil}
+use Rattle.sp_base.specs.Limits.{event_limit}
 use Rattle.sp_plan.specs.declared.event.Event.{Event}
 use Rattle.sp_plan.specs.declared.plan.Plan.{Plan}
 use Rattle.sp_cut.specs.CutRows.{CutRow, row, long_row, open_quote}
@@ -24,7 +25,7 @@ choice events false r s first second = second
 grows_result : (r : Reading) (given : RowResult) → IsFront r.events (with_result r given).events
 grows_result r (nothing so_far) = front_itself r.events
 grows_result r (event e so_far) =
-    choice r.events (length r.events == 1048576) (record r { so_far = so_far; stopped = Some (Limit 1048576) }) (record r { so_far = so_far; events = r.events ++ e ∷ [] }) (front_itself r.events) (e ∷ [], refl)
+    choice r.events (length r.events == event_limit) (record r { so_far = so_far; stopped = Some (Limit event_limit) }) (record r { so_far = so_far; events = r.events ++ e ∷ [] }) (front_itself r.events) (e ∷ [], refl)
 grows_result r (refused f) = front_itself r.events
 
 grows_given : (q : Plan) (r : Reading) (next : CutRow) → IsFront r.events (with_row q r next).events

@@ -3,6 +3,7 @@ use Rattle.std.proofs.Common.{◌≡◌, ◌≢◌, ◌⊎◌, inl, inr, ℕ, �
 use Rattle.std.proofs.lemmas.List.{append-nil, length-take}
 use Rattle.std.specs.Prelude.{Option, Some, None, is_some, Result, Ok, Err, IsErr}
 use Rattle.std.specs.declared.alloc.AllocError.{AllocError}
+use Rattle.sp_base.specs.Limits.{event_limit, piece_limit}
 use Rattle.sp_io.specs.Outside.{SourceState, Gave, Rose}
 use Rattle.sp_plan.specs.declared.event.Event.{Event}
 use Rattle.sp_plan.specs.declared.plan.Plan.{Plan}
@@ -30,7 +31,7 @@ use Rattle.sp_intake.proofs.Leading.{open_settled, settled_is}
 use Rattle.sp_intake.proofs.Orderly.{same_next, next_more}
 
 -- one step behind another
-pub gives_more : (a b c : Standing) (xs ys : List Event) → c.reader.kept.given ≤ 1048576 → Gives a xs b → Gives b ys c → Gives a (xs ++ ys) c
+pub gives_more : (a b c : Standing) (xs ys : List Event) → c.reader.kept.given ≤ event_limit → Gives a xs b → Gives b ys c → Gives a (xs ++ ys) c
 gives_more a b c xs ys small one two = record {
   plan = two.plan ∙ one.plan;
   count = omega (arith, length-append xs ys, one.count, two.count);
@@ -53,7 +54,7 @@ gives_still a b c xs one two = record {
 }
 
 -- one piece was read behind bytes that had not stopped the reading
-pub no_further_piece : (q : Plan) (front piece : List ℕ) → (read q front false).stopped ≡ None → length piece ≤ 4096 → TakesNoFurther q (front ++ piece)
+pub no_further_piece : (q : Plan) (front piece : List ℕ) → (read q front false).stopped ≡ None → length piece ≤ piece_limit → TakesNoFurther q (front ++ piece)
 no_further_piece q front piece going short = record {
   front = front;
   piece = piece;
@@ -63,7 +64,7 @@ no_further_piece q front piece going short = record {
 }
 
 -- a front of a buffer is a piece
-pub few_taken : (n : ℕ) (buffer : List ℕ) → length buffer ≤ 4096 → length (take n buffer) ≤ 4096
+pub few_taken : (n : ℕ) (buffer : List ℕ) → length buffer ≤ piece_limit → length (take n buffer) ≤ piece_limit
 few_taken n buffer small = omega (arith, small, length-take n buffer)
 
 -- nothing was taken
@@ -90,7 +91,7 @@ quiet before now next told same rose = told (omega (arith, rose, same))
 
 -- an input that goes on and its rows: events were given, and the source was not asked
 module _ (source : SourceState) (old new : Reader) (events : List Event) where
-  pub gives_events : LeadsAs events old new → ComeNext (plan_in old.kept) (last_in old.kept) events (last_in new.kept) → length events ≤ 1048576
+  pub gives_events : LeadsAs events old new → ComeNext (plan_in old.kept) (last_in old.kept) events (last_in new.kept) → length events ≤ event_limit
       → Gives (record { source = source; state = Going; reader = old }) events (record { source = source; state = Going; reader = new })
   gives_events leads next few = record {
     plan = leads.plan;
@@ -256,7 +257,7 @@ module _ (source next : SourceState) (reader : Reader) (settled : IsSettled read
   read_goes q taken events leads =
       sym (ap (λ (bytes : List ℕ). (read q bytes false).stopped) (append-nil taken)) ∙ sym (ap (λ (r : Reading). r.stopped) (open_settled reader events open_ settled ∙ leads.coming open_ [] false)) ∙ going
 
-  module _ (piece : List ℕ) (short : length piece ≤ 4096) (gave : Gave source.left piece next.left) (ended : next.ended ≡ source.ended) (faults : next.faults ≡ source.faults) where
+  module _ (piece : List ℕ) (short : length piece ≤ piece_limit) (gave : Gave source.left piece next.left) (ended : next.ended ≡ source.ended) (faults : next.faults ≡ source.faults) where
     -- a piece more
     pub gives_piece : (after : Reader) → after.kept ≡ reader.kept → after.cutter.ended ≡ false → ((events : List Event) (more : List ℕ) (ended : Bool) → comes_to events after more ended ≡ comes_to events reader (piece ++ more) ended)
         → Gives (record { source = source; state = Going; reader = reader }) [] (record { source = next; state = Going; reader = after })

@@ -1,6 +1,7 @@
 -- What a reading of the input takes from it, and what it answers.
 use Rattle.std.specs.Prelude.{◌≡◌, ◌<◌, ◌≤◌, ℕ, false, List, ◌++◌, length, None, Result, IfOk}
 use Rattle.std.specs.declared.alloc.AllocError.{AllocError}
+use Rattle.sp_base.specs.Limits.{piece_limit, event_limit}
 use Rattle.sp_io.specs.Outside.{SourceState, Gave, Rose}
 use Rattle.sp_plan.specs.Events.{AllFit, NeverGoesBack}
 use Rattle.sp_plan.specs.declared.plan.Plan.{Plan}
@@ -13,7 +14,7 @@ pub record TakesNoFurther (q : Plan) (taken : List ℕ) : Type 0 where
   pub front : List ℕ
   pub piece : List ℕ
   pub are : taken ≡ front ++ piece
-  pub short : length piece ≤ 4096
+  pub short : length piece ≤ piece_limit
   pub goes_on : (read q front false).stopped ≡ None
 
 -- A reading of the input: the bytes that it took and, where memory did not run out, the events that they give and why it stopped.
@@ -24,7 +25,7 @@ pub record ReadsInput (q : Plan) (old new : SourceState) (result : Result Given 
   pub events : IfOk result (λ given. given.events.items ≡ (read q taken new.ended).events)
   pub stop : IfOk result (λ given. given.stop ≡ stop_of (read q taken new.ended) new.ended)
   -- few events that fit the plan and never go back in time
-  pub few : IfOk result (λ given. length given.events.items ≤ 1048576)
+  pub few : IfOk result (λ given. length given.events.items ≤ event_limit)
   pub fit : IfOk result (λ given. AllFit q given.events.items)
   pub ordered : IfOk result (λ given. NeverGoesBack given.events.items)
   -- the source failed exactly where the reading stops open

@@ -2,6 +2,7 @@
 use Rattle.std.specs.Prelude.{◌≡◌, ◌≤◌, ℕ, ℤ, ◌∷◌, [], ◌++◌, List, length, Option, Some, None, Result, Ok, Err, slice_get}
 use Rattle.std.specs.Option.{option_map}
 use Rattle.std.specs.declared.alloc.AllocError.{AllocError}
+use Rattle.sp_base.specs.Limits.{event_limit}
 use Rattle.sp_cut.specs.CutRows.{CutRow}
 use Rattle.sp_plan.specs.declared.event.Event.{Event}
 use Rattle.sp_plan.specs.declared.plan.Kind.TheVariants.{Int}
@@ -26,7 +27,7 @@ reading_of events kept = record { so_far = read_of kept.rows; events = events; s
 pub record IsCounted (kept : Kept) : Type 0 where
   pub count : kept.stopped ≡ None → kept.count ≡ (read_of kept.rows).read
   pub small : kept.count ≤ 2097152
-  pub few : kept.given ≤ 1048576
+  pub few : kept.given ≤ event_limit
 
 -- The time's column holds whole numbers, and the header's places are as many as the plan's columns.
 pub record SuitsPlan (kept : Kept) : Type 0 where

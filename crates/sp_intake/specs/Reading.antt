@@ -1,6 +1,7 @@
 -- The events that the bytes of the input give, and why they stop.
 use Rattle.std.specs.Prelude.{ℕ, ◌+◌, Bool, true, false, List, [], ◌∷◌, ◌++◌, length, Option, Some, None, not, is_some, ◌==◌, if◌then◌else◌}
 use Rattle.std.specs.List.{fold}
+use Rattle.sp_base.specs.Limits.{event_limit}
 use Rattle.sp_plan.specs.declared.event.Event.{Event}
 use Rattle.sp_plan.specs.declared.plan.Plan.{Plan}
 use Rattle.sp_cut.specs.CutRows.{CutRow, row, long_row, open_quote, rows}
@@ -33,7 +34,7 @@ without_row r code = stopped_by r (Row code (r.so_far.read + 1) 0)
 -- an event is held against the limit of events
 abbrev pub with_event : Reading → Event → RowsRead → Reading
 with_event r e so_far =
-    if length r.events == 1048576 then record r { so_far = so_far; stopped = Some (Limit 1048576) }
+    if length r.events == event_limit then record r { so_far = so_far; stopped = Some (Limit event_limit) }
     else record r { so_far = so_far; events = r.events ++ e ∷ [] }
 
 abbrev pub with_result : Reading → RowResult → Reading

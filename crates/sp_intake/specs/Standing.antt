@@ -1,6 +1,7 @@
 -- How an input stands, and what it has read since its source stood at its start.
 use Rattle.std.specs.Prelude.{not, ◌≡◌, ◌≤◌, ◌<◌, ℕ, ◌+◌, Bool, true, false, List, [], ◌++◌, length, Option, Some, None, IfSome, take, Result, Ok, Err, IfOk, OnOk, OnErr}
 use Rattle.std.specs.declared.alloc.AllocError.{AllocError}
+use Rattle.sp_base.specs.Limits.{event_limit, piece_limit}
 use Rattle.sp_io.specs.Outside.{SourceState, Gave, Rose}
 use Rattle.sp_io.specs.declared.outside.Failed.{Failed}
 use Rattle.sp_plan.specs.declared.event.Event.{Event}
@@ -84,7 +85,7 @@ pub record Since (q : Plan) (origin : SourceState) (events : List Event) (now : 
 pub record Gives (old : Standing) (events : List Event) (new : Standing) : Type 0 where
   pub plan : plan_in new.reader.kept ≡ plan_in old.reader.kept
   pub count : new.reader.kept.given ≡ old.reader.kept.given + length events
-  pub few : length events ≤ 1048576
+  pub few : length events ≤ event_limit
   pub next : ComeNext (plan_in old.reader.kept) (last_in old.reader.kept) events (last_in new.reader.kept)
   pub since : (q : Plan) (origin : SourceState) (first : List Event) → Since q origin first old → Since q origin (first ++ events) new
 
@@ -122,7 +123,7 @@ pub record IsHungry (reader : Reader) : Type 0 where
 
 -- what a call of a source that had not ended did: the first bytes of a buffer are those that it gave
 pub record WasRead (before : SourceState) (buffer : List ℕ) (read : Result ℕ Failed) (next : SourceState) : Type 0 where
-  pub size : length buffer ≤ 4096
+  pub size : length buffer ≤ piece_limit
   pub bytes : IfOk read (λ n. Gave before.left (take n buffer) next.left)
   pub untaken : OnErr read (Gave before.left [] next.left)
   pub ended : IfOk read (λ n. n ≡ 0 → next.ended ≡ true)

@@ -1,5 +1,6 @@
 ghost use Rattle.std.specs.Prelude.{◌≡◌, ◌≢◌, ◌≤◌, ◌<◌, ◌+◌, ◌++◌, ℕ, List, [], true, false, Ok, Some, None, IsSome, length, IfOk, OnOk};
 ghost use Rattle.std.specs.Arc.{arc_value};
+ghost use Rattle.sp_base.specs.Limits.{event_limit};
 ghost use Rattle.sp_io.specs.Outside.{SourceState, Rose};
 ghost use Rattle.sp_plan.specs.Compiled.{IsCompiled};
 ghost use Rattle.sp_intake.specs.declared.events.State.TheVariants.{Going};
@@ -31,7 +32,7 @@ pub struct EventReader {
     state: State,
     stops: u64,
     ghost sound: { state ≡ Going → IsReady reader },
-    ghost few: { reader.kept.given ≤ 1048576 },
+    ghost few: { reader.kept.given ≤ event_limit },
     ghost halted: { 0 < stops → is_halted state ≡ true },
 }
 

@@ -8,14 +8,12 @@ ghost use Rattle.sp_intake.specs.ReadAll.{ReadsAll};
 use crate::events::EventReader;
 use crate::input::{Given, Stop};
 use crate::step::Polled;
+use sp_base::limits::PIECE_LIMIT;
 use sp_io::Source;
 use sp_plan::{Memory, Plan};
 use sp_ports::{Intake, Next};
 use std::alloc::{AllocError, Global};
 use std::sync::Arc;
-
-// How many bytes are asked for at a time.
-const PIECE: usize = 4096;
 
 /// The input of a source as an intake: the events that its rows give, one a call. The source is asked for
 /// a piece of 4,096 bytes only where no whole row is left of those before. After a faulty row, a limit or
@@ -25,7 +23,7 @@ pub struct Input<'a, S: Source> {
     source: &'a mut S,
     events: EventReader,
     // Room for what the source gives.
-    piece: [u8; PIECE],
+    piece: [u8; PIECE_LIMIT],
 }
 
 impl<'a, S: Source> Input<'a, S> {
@@ -51,7 +49,7 @@ impl<'a, S: Source> Input<'a, S> {
         Input {
             source,
             events,
-            piece: [0; PIECE],
+            piece: [0; PIECE_LIMIT],
         }
     }
 

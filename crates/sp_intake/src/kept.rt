@@ -1,5 +1,6 @@
 ghost use Rattle.std.specs.Prelude.{◌≡◌, ◌≤◌, ◌<◌, ◌+◌, ◌++◌, List, [], true, Some, None, IfOk, IfSome, OnOk, length, is_some};
 ghost use Rattle.std.specs.Arc.{arc_value};
+ghost use Rattle.sp_base.specs.Limits.{event_limit};
 ghost use Rattle.sp_cut.specs.CutRows;
 ghost use Rattle.sp_cut.specs.CutRows.{long_row, open_quote};
 ghost use Rattle.sp_plan.specs.declared.event.Event as events;
@@ -10,15 +11,14 @@ ghost use Rattle.sp_rows.specs.Codes.{code_of};
 ghost use Rattle.sp_intake.specs.Kept.{plan_in, last_in, reading_of, event_in, answered, IsCounted, SuitsPlan, TakesRow};
 
 use crate::input::{Failure, Stop};
+use sp_base::limits::EVENT_LIMIT;
 use sp_plan::{Event, Memory, Plan};
 use sp_rows::{RowError, RowFault, Rows};
 use std::alloc::{AllocError, Global};
 use std::sync::Arc;
 
-// The most rows and the most events that an input may have.
+// The most rows that an input may have.
 const ROWS: u32 = 2_097_152;
-
-const EVENTS: u32 = 1_048_576;
 
 /// How far the rows were read.
 #[derive(Drop)]
@@ -101,7 +101,7 @@ impl Kept {
     // Counts the event of the row that was just read; one past the limit is taken out.
     fn give(&mut self, event: &mut Option<Event>)
         requires going { self.old.stopped ≡ None }
-        requires few { self.old.given ≤ 1048576 }
+        requires few { self.old.given ≤ event_limit }
         ensures reading { (before : List events.Event) (e : events.Event) → event.old ≡ Some e
             → length before ≡ self.old.given
             → reading_of (before ++ event_in event.new) self.new
@@ -109,11 +109,11 @@ impl Kept {
         ensures rows { self.new.rows ≡ self.old.rows }
         ensures count { self.new.count ≡ self.old.count }
         ensures given { self.new.given ≡ self.old.given + length (event_in event.new) }
-        ensures few { self.new.given ≤ 1048576 }
+        ensures few { self.new.given ≤ event_limit }
         ensures same { IfSome event.new (λ e. event.old ≡ Some e) }
     {
-        if self.given == EVENTS {
-            self.stopped = Some(Failure::Limit { limit: EVENTS });
+        if self.given == EVENT_LIMIT {
+            self.stopped = Some(Failure::Limit { limit: EVENT_LIMIT });
             *event = None;
             return;
         }

@@ -1,5 +1,6 @@
 ghost use Rattle.std.specs.Prelude.{◌≡◌, ◌≤◌, ◌<◌, ◌+◌, ◌^◌, ◌++◌, ℕ, List, [], Bool, true, false, None, IfOk, OnOk, OnErr, length, is_some};
 ghost use Rattle.std.specs.Arc.{arc_value};
+ghost use Rattle.sp_base.specs.Limits.{event_limit};
 ghost use Rattle.sp_plan.specs.declared.event.Event as events;
 ghost use Rattle.sp_plan.specs.Compiled.{IsTimeOf};
 ghost use Rattle.sp_intake.specs.Reading.{read, stop_of};
@@ -90,7 +91,7 @@ impl Reader {
             (answered result event.new) (last_in self.new.kept) }
         ensures given { self.new.kept.given
             ≡ self.old.kept.given + length (answered result event.new) }
-        ensures few { self.new.kept.given ≤ 1048576 }
+        ensures few { self.new.kept.given ≤ event_limit }
     {
         for _ in 0..u64::MAX {
             let taken = self.take_next(alloc, event)?;
@@ -115,7 +116,7 @@ impl Reader {
         ensures none { OnErr result
             (ComeNext (plan_in self.old.kept) (last_in self.old.kept) [] (last_in self.new.kept)) }
         ensures given { OnErr result (self.new.kept.given ≡ self.old.kept.given) }
-        ensures few { self.new.kept.given ≤ 1048576 }
+        ensures few { self.new.kept.given ≤ event_limit }
     {
         if self.kept.has_stopped() {
             *event = None;

@@ -1,4 +1,5 @@
 ghost use Rattle.std.specs.Prelude.{◌≡◌, ◌≢◌, ◌≤◌, [], true, Ok, Option, IsSome, OnOk};
+ghost use Rattle.sp_base.specs.Limits.{event_limit};
 ghost use Rattle.sp_io.specs.Outside.{SourceState, Rose};
 ghost use Rattle.sp_plan.specs.declared.event.Event as events;
 ghost use Rattle.sp_intake.specs.declared.events.State.TheVariants.{Going};
@@ -35,7 +36,7 @@ pub(crate) fn take_step(
         (record { source = source; state = state_after result; reader = reader.new }) }
     ensures some { result ≡ Ok Step.Event → IsSome event.new }
     ensures ready { OnOk result (IsReady reader.new) }
-    ensures few { reader.new.kept.given ≤ 1048576 }
+    ensures few { reader.new.kept.given ≤ event_limit }
     ensures asks { result ≡ Ok Step.Ask → IsHungry reader.new }
 {
     reader.next_event(alloc, event)?;

@@ -6,6 +6,7 @@ use Rattle.std.proofs.lemmas.Str.{IsCharBoundary-after_ascii}
 use Rattle.std.proofs.lemmas.Bool.Decides.{nat_tests}
 use Rattle.std.proofs.lemmas.List.{append_cancel_left, take_all}
 use Rattle.std.proofs.lemmas.List.Sums.{fold-append}
+use Rattle.sp_base.specs.Limits.{number_limit}
 use Rattle.sp_lex.specs.declared.token.Word.{Word}
 use Rattle.sp_lex.specs.declared.token.Kernel.{Kernel}
 use Rattle.sp_lex.specs.declared.token.Kernel.TheVariants as k
@@ -82,13 +83,13 @@ no_part rest behind (b ∷ p) after e d run h part r i n = cc
 part_is : (part after : List ℕ) → IsRun is_digit part after → length part ≢ 0 → IsNumber part
 part_is part after run h = record { some = λ e. h (ap length e); all = run.all }
 
-small_capped : (n : ℕ) → capped n ≤ 1000000000000000 → capped n ≡ n
+small_capped : (n : ℕ) → capped n ≤ number_limit → capped n ≡ n
 small_capped n h = omega arith
 
-great_capped : (n : ℕ) → 1000000000000000 < capped n → 1000000000000000 < n
+great_capped : (n : ℕ) → number_limit < capped n → number_limit < n
 great_capped n h = omega arith
 
-small_is : (n : ℕ) → capped n ≤ 1000000000000000 → n ≤ 1000000000000000
+small_is : (n : ℕ) → capped n ≤ number_limit → n ≤ number_limit
 small_is n h = omega arith
 
 -- it makes no difference whether a number past the bound stops growing before more digits come
@@ -110,7 +111,7 @@ pub number_grows : (f g : List ℕ) → number_of f ≤ number_of (f ++ g)
 number_grows f g = let i : number_of f ≤ fold with_digit (number_of f) g = grows (number_of f) g in let j : number_of (f ++ g) ≡ fold with_digit (number_of f) g = fold-append with_digit 0 f g in omega arith
 
 -- a number that is past the bound without its decimals
-pub whole_long : (text f rest : List ℕ) (n : ℕ) → heads is_digit text ≡ true → text ≡ f ++ rest → IsRun is_digit f rest → n ≡ with_more 0 f → 1000000000000000 < n → IsLong text
+pub whole_long : (text f rest : List ℕ) (n : ℕ) → heads is_digit text ≡ true → text ≡ f ++ rest → IsRun is_digit f rest → n ≡ with_more 0 f → number_limit < n → IsLong text
 whole_long text f rest n h e run d big = record {
   whole = f;
   part = [];
@@ -118,15 +119,15 @@ whole_long text f rest n h e run d big = record {
   cut = e;
   is_whole = number_is text f rest h e run;
   is_part = refl;
-  long = inr (let i : 1000000000000000 < number_of f = great_capped (number_of f) (subst (λ m. 1000000000000000 < m) d big) in subst (λ l. 1000000000000000 < number_of l) (sym (append-nil f)) i);
+  long = inr (let i : number_limit < number_of f = great_capped (number_of f) (subst (λ m. number_limit < m) d big) in subst (λ l. number_limit < number_of l) (sym (append-nil f)) i);
 }
 
-pub whole_reads : (text f rest : List ℕ) (n : ℕ) → heads is_digit text ≡ true → text ≡ f ++ rest → IsRun is_digit f rest → IsPart rest → n ≡ with_more 0 f → n ≤ 1000000000000000 → Reads text (k.Whole n) rest
+pub whole_reads : (text f rest : List ℕ) (n : ℕ) → heads is_digit text ≡ true → text ≡ f ++ rest → IsRun is_digit f rest → IsPart rest → n ≡ with_more 0 f → n ≤ number_limit → Reads text (k.Whole n) rest
 whole_reads text f rest n h e run none d small = record {
   front = f;
   cut = e;
   token = record {
-    spells = as_whole (ap k.Whole (d ∙ small_capped (number_of f) (subst (λ m. m ≤ 1000000000000000) d small))) (number_is text f rest h e run);
+    spells = as_whole (ap k.Whole (d ∙ small_capped (number_of f) (subst (λ m. m ≤ number_limit) d small))) (number_is text f rest h e run);
     longest = whole_longest f rest (sym (ap (heads is_digit) e) ∙ h) run none;
   };
 }
@@ -136,12 +137,12 @@ pointed_cut text f behind [] after n e = absurd (n refl)
 pointed_cut text f behind (b ∷ part) after n e = e
 
 -- what a number's own digits say
-small_number : (text f rest : List ℕ) (n : ℕ) → text ≡ f ++ rest → IsRun is_digit f rest → n ≡ with_more 0 f → n ≤ 1000000000000000 → (whole more : List ℕ) → text ≡ whole ++ more → IsNumber whole → 1000000000000000 < number_of whole → ⊥
+small_number : (text f rest : List ℕ) (n : ℕ) → text ≡ f ++ rest → IsRun is_digit f rest → n ≡ with_more 0 f → n ≤ number_limit → (whole more : List ℕ) → text ≡ whole ++ more → IsNumber whole → number_limit < number_of whole → ⊥
 small_number text f rest n e run d small whole more c w big =
     let p = run_prefix is_digit f rest whole more run.stops (sym e ∙ c) w.all in
     let i : number_of whole ≤ number_of (whole ++ p.0) = number_grows whole p.0 in
     let j : number_of f ≡ number_of (whole ++ p.0) = ap number_of p.1 in
-    let l : number_of f ≤ 1000000000000000 = small_is (number_of f) (subst (λ m. m ≤ 1000000000000000) d small) in
+    let l : number_of f ≤ number_limit = small_is (number_of f) (subst (λ m. m ≤ number_limit) d small) in
     absurd (omega arith)
 
 pub long_rest : (text f rest whole part more : List ℕ) → text ≡ f ++ rest → IsRun is_digit f rest → text ≡ whole ++ (46 ∷ (part ++ more)) → IsNumber whole → (f ≡ whole) × (rest ≡ 46 ∷ (part ++ more))
@@ -151,21 +152,21 @@ long_rest text f rest whole part more e run c w =
 
 -- a number with these decimals is not long
 IsBrief : List ℕ → List ℕ → List ℕ → Type 0
-IsBrief text f rest = (part more : List ℕ) → rest ≡ 46 ∷ (part ++ more) → IsNumber part → ((6 < length part) ⊎ (1000000000000000 < number_of (f ++ part))) → ⊥
+IsBrief text f rest = (part more : List ℕ) → rest ≡ 46 ∷ (part ++ more) → IsNumber part → ((6 < length part) ⊎ (number_limit < number_of (f ++ part))) → ⊥
 
-either_long : (whole part : List ℕ) → ((6 < 0) ⊎ (1000000000000000 < number_of (whole ++ []))) → 1000000000000000 < number_of whole
+either_long : (whole part : List ℕ) → ((6 < 0) ⊎ (number_limit < number_of (whole ++ []))) → number_limit < number_of whole
 either_long whole part (inl h) = absurd (omega arith)
-either_long whole part (inr h) = subst (λ l. 1000000000000000 < number_of l) (append-nil whole) h
+either_long whole part (inr h) = subst (λ l. number_limit < number_of l) (append-nil whole) h
 
-brief_case : (text f rest : List ℕ) (n : ℕ) → text ≡ f ++ rest → IsRun is_digit f rest → n ≡ with_more 0 f → n ≤ 1000000000000000 → IsBrief text f rest
-    → (whole part more : List ℕ) → text ≡ whole ++ (pointed part ++ more) → IsNumber whole → list_all is_digit part ≡ true → ((6 < length part) ⊎ (1000000000000000 < number_of (whole ++ part))) → ⊥
+brief_case : (text f rest : List ℕ) (n : ℕ) → text ≡ f ++ rest → IsRun is_digit f rest → n ≡ with_more 0 f → n ≤ number_limit → IsBrief text f rest
+    → (whole part more : List ℕ) → text ≡ whole ++ (pointed part ++ more) → IsNumber whole → list_all is_digit part ≡ true → ((6 < length part) ⊎ (number_limit < number_of (whole ++ part))) → ⊥
 unfolding IsBrief
 brief_case text f rest n e run d small none whole [] more c w a long = small_number text f rest n e run d small whole more c w (either_long whole [] long)
 brief_case text f rest n e run d small none whole (b ∷ part) more c w a long =
     let p = long_rest text f rest whole (b ∷ part) more e run c w in
-    none (b ∷ part) more p.1 (record { some = λ x. cc; all = a }) (subst (λ l. (6 < length (b ∷ part)) ⊎ (1000000000000000 < number_of (l ++ (b ∷ part)))) (sym p.0) long)
+    none (b ∷ part) more p.1 (record { some = λ x. cc; all = a }) (subst (λ l. (6 < length (b ∷ part)) ⊎ (number_limit < number_of (l ++ (b ∷ part)))) (sym p.0) long)
 
-pub whole_short : (text f rest : List ℕ) (n : ℕ) → text ≡ f ++ rest → IsRun is_digit f rest → n ≡ with_more 0 f → n ≤ 1000000000000000 → IsPart rest → IsLong text → ⊥
+pub whole_short : (text f rest : List ℕ) (n : ℕ) → text ≡ f ++ rest → IsRun is_digit f rest → n ≡ with_more 0 f → n ≤ number_limit → IsPart rest → IsLong text → ⊥
 unfolding IsBrief
 whole_short text f rest n e run d small none l = brief_case text f rest n e run d small (λ part more c m long. none part more c m) l.whole l.part l.rest l.cut l.is_whole l.is_part l.long
 
@@ -176,26 +177,26 @@ module _ (text f rest behind part after : List ℕ) (n u : ℕ) (h : heads is_di
   units_is : u ≡ capped (number_of (f ++ part))
   units_is = b ∙ ap (λ (m : ℕ). with_more m part) a ∙ in_two f part
 
-  pub decimal_reads : (scale : ℕ) → scale ≡ length part → length part ≤ 6 → u ≤ 1000000000000000 → Reads text (k.Decimal u scale) after
+  pub decimal_reads : (scale : ℕ) → scale ≡ length part → length part ≤ 6 → u ≤ number_limit → Reads text (k.Decimal u scale) after
   decimal_reads scale s short small = record {
     front = f ++ 46 ∷ part;
     cut = whole_cut ∙ sym (append_assoc f (46 ∷ part) after);
     token = record {
-      spells = as_decimal f part (λ i. k.Decimal ((units_is ∙ small_capped (number_of (f ++ part)) (subst (λ m. m ≤ 1000000000000000) units_is small)) i) (s i)) refl (number_is text f rest h e run) (part_is part after below some) short;
+      spells = as_decimal f part (λ i. k.Decimal ((units_is ∙ small_capped (number_of (f ++ part)) (subst (λ m. m ≤ number_limit) units_is small)) i) (s i)) refl (number_is text f rest h e run) (part_is part after below some) short;
       longest = decimal_longest f part after (sym (ap (heads is_digit) whole_cut) ∙ h) (record { all = run.all; stops = refl }) below;
     };
   }
 
-  long_of : ((6 < length part) ⊎ (1000000000000000 < number_of (f ++ part))) → IsLong text
+  long_of : ((6 < length part) ⊎ (number_limit < number_of (f ++ part))) → IsLong text
   long_of long = record { whole = f; part = part; rest = after; cut = pointed_cut text f behind part after (λ x. some (ap length x)) whole_cut; is_whole = number_is text f rest h e run; is_part = below.all; long = long }
 
   pub long_decimals : 6 < length part → IsLong text
   long_decimals long = long_of (inl long)
 
-  pub long_units : 1000000000000000 < u → IsLong text
-  long_units big = long_of (inr (great_capped (number_of (f ++ part)) (subst (λ m. 1000000000000000 < m) units_is big)))
+  pub long_units : number_limit < u → IsLong text
+  long_units big = long_of (inr (great_capped (number_of (f ++ part)) (subst (λ m. number_limit < m) units_is big)))
 
-  decimal_brief : length part ≤ 6 → u ≤ 1000000000000000 → (q more : List ℕ) → part ++ after ≡ q ++ more → IsNumber q → ((6 < length q) ⊎ (1000000000000000 < number_of (f ++ q))) → ⊥
+  decimal_brief : length part ≤ 6 → u ≤ number_limit → (q more : List ℕ) → part ++ after ≡ q ++ more → IsNumber q → ((6 < length q) ⊎ (number_limit < number_of (f ++ q))) → ⊥
   decimal_brief short small q more c m (inl long) =
       let i : length q ≤ length part = run_longest is_digit part after q more below.stops c m.all in
       absurd (omega arith)
@@ -203,10 +204,10 @@ module _ (text f rest behind part after : List ℕ) (n u : ℕ) (h : heads is_di
       let x = run_prefix is_digit part after q more below.stops c m.all in
       let i : number_of (f ++ q) ≤ number_of ((f ++ q) ++ x.0) = number_grows (f ++ q) x.0 in
       let j : number_of (f ++ part) ≡ number_of ((f ++ q) ++ x.0) = ap (λ l. number_of (f ++ l)) x.1 ∙ ap number_of (sym (append_assoc f q x.0)) in
-      let l : number_of (f ++ part) ≤ 1000000000000000 = small_is (number_of (f ++ part)) (subst (λ m. m ≤ 1000000000000000) units_is small) in
+      let l : number_of (f ++ part) ≤ number_limit = small_is (number_of (f ++ part)) (subst (λ m. m ≤ number_limit) units_is small) in
       absurd (omega arith)
 
-  pub decimal_short : n ≤ 1000000000000000 → length part ≤ 6 → u ≤ 1000000000000000 → IsLong text → ⊥
+  pub decimal_short : n ≤ number_limit → length part ≤ 6 → u ≤ number_limit → IsLong text → ⊥
   unfolding IsBrief
   decimal_short first short small l = brief_case text f rest n e run a first (λ q more c m long. decimal_brief short small q more (cc (c, p, d)) m long) l.whole l.part l.rest l.cut l.is_whole l.is_part l.long
 

@@ -1,6 +1,7 @@
 -- What the functions that read one token promise.
 use Rattle.std.specs.Prelude.{◌≡◌, ℕ, ◌+◌, ◌-◌, ◌*◌, min, Bool, true, false, ◌||◌, ◌==◌, List, ◌∷◌, ◌++◌}
 use Rattle.std.specs.List.{list_all, fold}
+use Rattle.sp_base.specs.Limits.{past_number_limit}
 use Rattle.sp_lex.specs.declared.token.Kernel.{Kernel}
 use Rattle.sp_lex.specs.declared.fault.Fault.{Fault}
 use Rattle.sp_lex.specs.declared.fault.Fault.TheVariants as f
@@ -43,7 +44,7 @@ with_digit n b = n * 10 + (b - 48)
 
 -- a number, or the first past 10^15 where it is past it
 abbrev pub capped : ℕ → ℕ
-capped n = min n 1000000000000001
+capped n = min n past_number_limit
 
 -- the number with more digits, or the first past 10^15
 abbrev pub with_more : ℕ → List ℕ → ℕ

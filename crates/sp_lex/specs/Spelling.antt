@@ -1,6 +1,7 @@
 -- How tokens are spelled, and which tokens a text has.
 use Rattle.std.specs.Prelude.{◌≡◌, ◌≢◌, ℕ, ◌+◌, ◌-◌, ◌*◌, ◌≤◌, ◌<◌, ◌⊎◌, Bool, true, false, ◌&&◌, ◌||◌, ◌==◌, nat_le, Option, Some, None, List, [], ◌∷◌, ◌++◌, length, codes, if◌then◌else◌}
 use Rattle.std.specs.List.{list_all, fold}
+use Rattle.sp_base.specs.Limits.{number_limit}
 use Rattle.sp_lex.specs.declared.token.Word.{Word}
 use Rattle.sp_lex.specs.declared.token.Word.TheVariants as w
 use Rattle.sp_lex.specs.declared.token.Kernel.{Kernel}
@@ -138,7 +139,7 @@ pub record IsLong (text : List ℕ) : Type 0 where
   pub cut : text ≡ whole ++ (pointed part ++ rest)
   pub is_whole : IsNumber whole
   pub is_part : list_all is_digit part ≡ true
-  pub long : (6 < length part) ⊎ (1000000000000000 < number_of (whole ++ part))
+  pub long : (6 < length part) ⊎ (number_limit < number_of (whole ++ part))
 
 -- ---- texts
 

@@ -3,7 +3,7 @@ ghost use Rattle.std.specs.Prelude.{◌≡◌, ◌∷◌, ◌++◌, List, ℕ, I
 ghost use Rattle.sp_lex.specs.Spelling as s;
 ghost use Rattle.sp_lex.specs.Reading.{Inside};
 
-use sp_text::Text;
+use sp_base::Text;
 use std::alloc::{AllocError, Global};
 
 /// The value of a literal and what is behind it, from behind its first quote; None where it has no

@@ -1,25 +1,24 @@
 // Whole numbers and decimals.
 ghost use Rattle.std.specs.Prelude.{◌≡◌, ◌≤◌, ◌∷◌, length, true, false, MatchOption, MatchResult};
+ghost use Rattle.sp_base.specs.Limits.{past_number_limit};
 ghost use Rattle.sp_lex.specs.Spelling as s;
 ghost use Rattle.sp_lex.specs.Reading.{Reads, is_point, capped, with_digit, with_more};
 
 use crate::Kernel;
 use crate::bytes::digits;
-
-// The greatest number that is read, 10^15.
-const BOUND: u64 = 1_000_000_000_000_000;
+use sp_base::limits::NUMBER_LIMIT;
 
 // The number with one more digit, or the first past the bound.
 fn with_digit(value: u64, digit: u8) -> u64
-    requires { value ≤ 1000000000000001 }
+    requires { value ≤ past_number_limit }
     ensures { result ≡ capped (with_digit value digit) }
 {
-    (value * 10 + u64::from(digit.saturating_sub(b'0'))).min(BOUND + 1)
+    (value * 10 + u64::from(digit.saturating_sub(b'0'))).min(NUMBER_LIMIT + 1)
 }
 
 // The number with more digits, or the first past the bound.
 fn with_more(number: u64, digits: &[u8]) -> u64
-    requires { number ≤ 1000000000000001 }
+    requires { number ≤ past_number_limit }
     ensures { result ≡ with_more number digits.now }
 {
     let mut value = number;
@@ -49,7 +48,7 @@ pub(crate) fn number_at(text: &[u8]) -> Option<(Kernel, &[u8])>
 {
     let (whole, rest) = digits(text);
     let number = with_more(0, whole);
-    if number > BOUND {
+    if number > NUMBER_LIMIT {
         return None;
     }
     let Some(behind) = behind_point(rest) else {
@@ -60,7 +59,7 @@ pub(crate) fn number_at(text: &[u8]) -> Option<(Kernel, &[u8])>
         return Some((Kernel::Whole(number), rest));
     }
     let units = with_more(number, part);
-    if part.len() > 6 || units > BOUND {
+    if part.len() > 6 || units > NUMBER_LIMIT {
         return None;
     }
     let kernel = Kernel::Decimal {

@@ -2,7 +2,7 @@
 ghost use Rattle.std.specs.Prelude.{◌≡◌};
 ghost use Rattle.sp_lex.specs.Spelling.{spelling};
 
-use sp_text::Text;
+use sp_base::Text;
 use std::alloc::{AllocError, AllocFailed};
 
 /// A part of a text, from this byte on and up to that one.

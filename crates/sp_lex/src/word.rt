@@ -7,7 +7,7 @@ ghost use Rattle.sp_lex.specs.Reading.{Reads};
 
 use crate::bytes::name_bytes;
 use crate::{Kernel, Word};
-use sp_text::Text;
+use sp_base::Text;
 use std::alloc::{AllocError, Global};
 
 const WORDS: [Word; 24] = [

@@ -1,6 +1,8 @@
 -- A text has one plan's query or one fault, and what stands at a place is one text.
 use Rattle.std.proofs.Common.{◌≡◌, ◌≢◌, ℕ, ◌<◌, ◌≤◌, List, length, Option, Some, None, refl, sym, ◌∙◌, ap, subst, arith}
 use Rattle.std.specs.Prelude.{IsSomeAnd}
+use Rattle.sp_base.specs.Marks.{without_mark}
+use Rattle.sp_base.specs.Limits.{query_limit}
 use Rattle.sp_io.specs.Outside.{first_file}
 use Rattle.sp_plan.specs.declared.plan.Plan.{Plan}
 use Rattle.sp_query.specs.declared.query.Query.{Query as QueryTree}
@@ -15,7 +17,7 @@ use Rattle.sp_compile.specs.Checks.{Checks}
 use Rattle.sp_compile.specs.Told as told
 use Rattle.sp_compile.specs.Told.{IsPlanOf}
 use Rattle.sp_compile.specs.Codes as compile_codes
-use Rattle.sp_load.specs.Places.{Place, without_mark, longest_query, HasText, in_word, in_file, IsLonger, long_word, long_file}
+use Rattle.sp_load.specs.Places.{Place, HasText, in_word, in_file, IsLonger, long_word, long_file}
 use Rattle.sp_load.specs.Queries.{IsPlanFor, IsFaulty, no_text, no_query, no_plan}
 use Rattle.sp_load.specs.Laws.{OneReading, OneText}
 
@@ -87,9 +89,9 @@ texts_at files _ _ _ (in_file name content holds short) (in_file _ other holds' 
     let same : content ≡ other = cc both in
     ap without_mark same
 
-apart_at : (files : List (List ℕ × List ℕ)) (place : Place) (text : List ℕ) → HasText (Some files) place text → IsLonger (Some files) longest_query place → ⊥
+apart_at : (files : List (List ℕ × List ℕ)) (place : Place) (text : List ℕ) → HasText (Some files) place text → IsLonger (Some files) query_limit place → ⊥
 apart_at files _ _ (in_word text short) (long_word _ long) = omega (arith, short, long)
-apart_at files _ _ (in_file name content holds short) (long_file _ long) = not_longer files name content longest_query holds short long
+apart_at files _ _ (in_file name content holds short) (long_file _ long) = not_longer files name content query_limit holds short long
 
 pub one_text : OneText
 one_text = record { texts = texts_at; apart = apart_at }

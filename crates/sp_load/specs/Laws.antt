@@ -1,9 +1,10 @@
 -- A text has one plan's query or one fault, and what stands at a place where files are told is one text.
 use Rattle.std.specs.Prelude.{◌≡◌, ℕ, List, Some}
+use Rattle.sp_base.specs.Limits.{query_limit}
 use Rattle.sp_plan.specs.declared.plan.Plan.{Plan}
 use Rattle.sp_query.specs.declared.query.Query.{Query as QueryTree}
 use Rattle.sp_compile.specs.Told.{IsPlanOf}
-use Rattle.sp_load.specs.Places.{Place, longest_query, HasText, IsLonger}
+use Rattle.sp_load.specs.Places.{Place, HasText, IsLonger}
 use Rattle.sp_load.specs.Queries.{IsPlanFor, IsFaulty}
 
 -- The plans of a text stand for one query, its faults are one, and it has never both.
@@ -19,4 +20,4 @@ pub record OneText : Type 0 where
   pub texts : (files : List (List ℕ × List ℕ)) (place : Place) (one other : List ℕ)
       → HasText (Some files) place one → HasText (Some files) place other → one ≡ other
   pub apart : (files : List (List ℕ × List ℕ)) (place : Place) (text : List ℕ)
-      → HasText (Some files) place text → IsLonger (Some files) longest_query place → ⊥
+      → HasText (Some files) place text → IsLonger (Some files) query_limit place → ⊥

@@ -1,6 +1,7 @@
 -- Where a query stands, and the text that it is there.
-use Rattle.std.specs.Prelude.{ℕ, ◌<◌, ◌≤◌, List, [], ◌∷◌, length, take, drop, if◌then◌else◌}
-use Rattle.std.specs.Str.{bytes_eq}
+use Rattle.std.specs.Prelude.{ℕ, ◌<◌, ◌≤◌, List, length}
+use Rattle.sp_base.specs.Marks.{without_mark}
+use Rattle.sp_base.specs.Limits.{query_limit}
 use Rattle.sp_io.specs.Outside.{ToldFiles, HoldsFile, HoldsLonger}
 use Rattle.sp_load.specs.declared.place.Place.{Place as FoundPlace}
 use Rattle.sp_load.specs.declared.place.Place.TheVariants.{Word, File}
@@ -17,18 +18,10 @@ abbrev pub place_of : FoundPlace → Place
 place_of (Word text) = word text.now
 place_of (File name) = file name.now
 
--- the greatest length of a query's text or file
-abbrev pub longest_query : ℕ
-longest_query = 16384
-
--- the bytes without the byte order mark at their start
-abbrev pub without_mark : List ℕ → List ℕ
-without_mark bytes = if bytes_eq (take 3 bytes) (239 ∷ 187 ∷ 191 ∷ []) then drop 3 bytes else bytes
-
 -- The query that stands there has this text, within its limit.
 pub data HasText (held : ToldFiles) : Place → List ℕ → Type 0 where
-  in_word : (text : List ℕ) → length text ≤ longest_query → HasText held (word text) text
-  in_file : (name content : List ℕ) → HoldsFile held name content → length content ≤ longest_query
+  in_word : (text : List ℕ) → length text ≤ query_limit → HasText held (word text) text
+  in_file : (name content : List ℕ) → HoldsFile held name content → length content ≤ query_limit
       → HasText held (file name) (without_mark content)
 
 -- What stands there has more bytes than the limit.

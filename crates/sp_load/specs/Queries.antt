@@ -2,6 +2,7 @@
 use Rattle.std.specs.Prelude.{◌≢◌, ℕ, List}
 use Rattle.std.specs.Str.{IsUtf8}
 use Rattle.std.specs.Str.Lossy.{utf8_valid_len}
+use Rattle.sp_base.specs.Limits.{query_limit}
 use Rattle.sp_io.specs.Outside.{ToldFiles}
 use Rattle.sp_plan.specs.declared.plan.Plan.{Plan}
 use Rattle.sp_query.specs.declared.query.Query.{Query as QueryTree}
@@ -17,7 +18,7 @@ use Rattle.sp_compile.specs.Told.{IsPlanOf}
 use Rattle.sp_compile.specs.Codes as compile_codes
 use Rattle.sp_load.specs.declared.refusal.Refusal.{Refusal}
 use Rattle.sp_load.specs.declared.refusal.Refusal.TheVariants.{Memory, Read, Limited, Query}
-use Rattle.sp_load.specs.Places.{Place, longest_query, HasText}
+use Rattle.sp_load.specs.Places.{Place, HasText}
 use Rattle.sp_load.specs.Loads.{RefusesLoad}
 
 -- The plan stands for the query that the text is.
@@ -59,4 +60,4 @@ IsFaultyAt held place code at = (text : List ℕ) × HasText held place text × 
 -- the query that stands there is refused, by its length or by a fault of its text
 abbrev pub RefusesPlace : ToldFiles → Place → Refusal → Type 0
 RefusesPlace held place (Query code at) = IsFaultyAt held place code at
-RefusesPlace held place refusal = RefusesLoad held longest_query place refusal
+RefusesPlace held place refusal = RefusesLoad held query_limit place refusal

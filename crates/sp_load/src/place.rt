@@ -1,13 +1,15 @@
 // A query from the place where it stands: from a word of the command, or from a file.
 ghost use Rattle.std.specs.Prelude.{◌≡◌, ◌≢◌, ◌≤◌, ℕ, List, length, IfOk, IfErr, Err};
+ghost use Rattle.sp_base.specs.Marks.{without_mark};
+ghost use Rattle.sp_base.specs.Limits.{query_limit};
 ghost use Rattle.sp_load.specs.Loads.{RefusesLoad, IsUnread};
-ghost use Rattle.sp_load.specs.Places as places;
-ghost use Rattle.sp_load.specs.Places.{place_of, text_of, longest_query, HasText};
+ghost use Rattle.sp_load.specs.Places.{place_of, text_of, HasText};
 ghost use Rattle.sp_load.specs.Queries.{IsPlanFor, RefusesText, IsPlanAt, RefusesPlace};
 
 use crate::load::load_file;
 use crate::query::read_query;
 use crate::refusal::Refusal;
+use sp_base::limits::QUERY_LIMIT;
 use sp_io::Files;
 use sp_plan::Plan;
 use std::alloc::Global;
@@ -27,15 +29,12 @@ pub enum QueryText<'a> {
     File(Vec<u8>),
 }
 
-// The greatest length of a query's text or file.
-const LONGEST: u32 = 16_384;
-
 // The bytes of a byte order mark.
 const MARK: &[u8] = b"\xef\xbb\xbf";
 
 // The bytes without the byte order mark at their start.
 fn without_mark(bytes: &[u8]) -> &[u8]
-    ensures rest { result.now ≡ places.without_mark bytes.now }
+    ensures rest { result.now ≡ without_mark bytes.now }
     ensures shorter { length result.now ≤ length bytes.now }
 {
     bytes.strip_prefix(MARK).unwrap_or(bytes)
@@ -43,7 +42,7 @@ fn without_mark(bytes: &[u8]) -> &[u8]
 
 // The plan of the text that these bytes are, or why there is none.
 fn plan_of_bytes(alloc: Global, bytes: &[u8]) -> Result<Plan, Refusal>
-    requires { length bytes.now ≤ longest_query }
+    requires { length bytes.now ≤ query_limit }
     ensures plan { IfOk result (IsPlanFor bytes.now) }
     ensures refused { IfErr result (RefusesText bytes.now) }
 {
@@ -65,9 +64,9 @@ pub fn text_at<'a, F: Files>(
 ) -> Result<QueryText<'a>, Refusal>
     ensures text { IfOk result
         (λ found. HasText (F.held files.old) (place_of place.entry) (text_of found)) }
-    ensures short { IfOk result (λ found. length (text_of found) ≤ longest_query) }
+    ensures short { IfOk result (λ found. length (text_of found) ≤ query_limit) }
     ensures refused { IfErr result
-        (RefusesLoad (F.held files.old) longest_query (place_of place.entry)) }
+        (RefusesLoad (F.held files.old) query_limit (place_of place.entry)) }
     ensures held { F.held files.new ≡ F.held files.old }
     ensures fault { result ≡ Err Refusal.Read
         → IsUnread (place_of place.entry) (F.faults files.old) (F.faults files.new) }
@@ -76,12 +75,12 @@ pub fn text_at<'a, F: Files>(
 {
     match place {
         Place::Word(text) => {
-            if text.len() > LONGEST as usize {
-                return Err(Refusal::Limited { limit: LONGEST });
+            if text.len() > QUERY_LIMIT as usize {
+                return Err(Refusal::Limited { limit: QUERY_LIMIT });
             }
             Ok(QueryText::Word(text))
         }
-        Place::File(name) => match load_file(alloc, name, LONGEST, files) {
+        Place::File(name) => match load_file(alloc, name, QUERY_LIMIT, files) {
             Ok(content) => Ok(QueryText::File(content)),
             Err(refusal) => Err(refusal),
         },
@@ -90,7 +89,7 @@ pub fn text_at<'a, F: Files>(
 
 /// The plan of a query's text, or why there is none: `Query` for a fault of the text, or `Memory`.
 pub fn plan_of_text(alloc: Global, text: &QueryText) -> Result<Plan, Refusal>
-    requires { length (text_of text.now) ≤ longest_query }
+    requires { length (text_of text.now) ≤ query_limit }
     ensures plan { IfOk result (IsPlanFor (text_of text.now)) }
     ensures refused { IfErr result (RefusesText (text_of text.now)) }
 {

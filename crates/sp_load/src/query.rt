@@ -1,12 +1,12 @@
 // From the text of a query to its plan.
 ghost use Rattle.std.specs.Prelude.{◌≡◌, ◌≢◌, ◌≤◌, length, IfOk, IfErr};
+ghost use Rattle.sp_base.specs.Limits.{query_limit};
 ghost use Rattle.sp_query.specs.Queries.{IsQuery};
 ghost use Rattle.sp_parse.specs.declared.fault.ParseFault.{ParseFault};
 ghost use Rattle.sp_parse.specs.Codes as parse_codes;
 ghost use Rattle.sp_compile.specs.declared.fault.CompileFault.{CompileFault};
 ghost use Rattle.sp_compile.specs.Told.{IsPlanOf};
 ghost use Rattle.sp_compile.specs.Codes as compile_codes;
-ghost use Rattle.sp_load.specs.Places.{longest_query};
 ghost use Rattle.sp_load.specs.Queries.{IsPlanFor, RefusesText, RefusesQuery};
 
 use crate::refusal::Refusal;
@@ -49,7 +49,7 @@ fn no_plan(fault: &CompileFault) -> Refusal
 
 // The query that the text is, or why it is none.
 fn query_of(alloc: Global, text: &str) -> Result<Query, Refusal>
-    requires { length text.now ≤ longest_query }
+    requires { length text.now ≤ query_limit }
     ensures query { IfOk result (IsQuery text.now) }
     ensures refused { IfErr result (RefusesText text.now) }
 {
@@ -73,7 +73,7 @@ fn plan_of(alloc: Global, query: &Query) -> Result<Plan, Refusal>
 /// The plan of a query text, or why there is none: a fault of the text with its place, or want
 /// of memory.
 pub(crate) fn read_query(alloc: Global, text: &str) -> Result<Plan, Refusal>
-    requires { length text.now ≤ longest_query }
+    requires { length text.now ≤ query_limit }
     ensures plan { IfOk result (IsPlanFor text.now) }
     ensures refused { IfErr result (RefusesText text.now) }
 {

@@ -5,9 +5,10 @@ use Rattle.std.specs.List.{All, filter}
 use Rattle.std.proofs.lemmas.List.{append-nil, drop_more, get_or-map, get_or_at, length-map, take_more}
 use Rattle.std.proofs.lemmas.List.Elements.{All-head, All-tail}
 use Rattle.std.proofs.lemmas.List.Sums.{fold_push}
+use Rattle.sp_base.specs.Numbers.{is_among}
 use Rattle.sp_plan.specs.declared.plan.Plan.{Plan}
 use Rattle.sp_plan.specs.Windows.{Numbered}
-use Rattle.sp_plan.specs.Runs.{Started, State, is_among, leaves, takes}
+use Rattle.sp_plan.specs.Runs.{Started, State, leaves, takes}
 use Rattle.sp_plan.specs.Moves.{Acting, Told, act_run}
 use Rattle.sp_match.specs.declared.turns.Reception.{Reception}
 use Rattle.sp_match.specs.declared.turns.Reception.TheVariants.{Passed}

@@ -4,9 +4,10 @@ use Rattle.std.specs.List.{filter, flat_map, fold}
 use Rattle.std.proofs.lemmas.List.{append-nil, map-append}
 use Rattle.std.proofs.lemmas.List.Elements.{filter-append}
 use Rattle.std.proofs.lemmas.List.Sums.{fold-append}
+use Rattle.sp_base.specs.Numbers.{is_among}
 use Rattle.sp_plan.specs.declared.plan.Plan.{Plan}
 use Rattle.sp_plan.specs.Windows.{Numbered}
-use Rattle.sp_plan.specs.Runs.{Pair, Run, Started, State, Handling, used, is_among, holds_one, is_complete, leaves, takes, handle_run, may_start, handle}
+use Rattle.sp_plan.specs.Runs.{Pair, Run, Started, State, Handling, used, holds_one, is_complete, leaves, takes, handle_run, may_start, handle}
 use Rattle.sp_plan.specs.Moves.{Move, Opened, Grown, Completed, Acting, apply, apply_all, abandoned, completing, growing, used_if_complete, acting_on, acted, act_run, act_start, handling_of, is_run, pairs_of, without_run, moves, tell, told}
 use Rattle.sp_match.specs.public.Laws.{completion, is_completion}
 use Rattle.sp_match.proofs.RunNumbersRise.{Rising, Absent, rising_filter, absent_below, absent_above}

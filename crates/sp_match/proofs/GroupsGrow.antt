@@ -7,8 +7,9 @@ use Rattle.std.proofs.lemmas.List.{map-append}
 use Rattle.std.proofs.lemmas.List.Concat.{flat_map-append}
 use Rattle.std.proofs.lemmas.List.Elements.{filter-append}
 use Rattle.std.proofs.lemmas.List.Folds.{list_any-append}
+use Rattle.sp_base.specs.Numbers.{is_among}
 use Rattle.sp_plan.specs.declared.plan.Plan.{Plan}
-use Rattle.sp_plan.specs.Runs.{Pair, Run, Started, State, used, is_among, is_consumed}
+use Rattle.sp_plan.specs.Runs.{Pair, Run, Started, State, used, is_consumed}
 use Rattle.sp_plan.specs.Moves.{is_run, without_run, with_pair, pairs_of}
 use Rattle.sp_match.specs.public.Laws.{Sound, is_open, is_matched}
 use Rattle.sp_match.proofs.RunsAreSound.{count, count_append, with_pair_number}

@@ -4,9 +4,10 @@ use Rattle.std.specs.List.{filter, fold}
 use Rattle.std.proofs.lemmas.List.{append-nil}
 use Rattle.std.proofs.lemmas.List.Folds.{list_any-append}
 use Rattle.std.proofs.lemmas.List.Sums.{fold-append}
+use Rattle.sp_base.specs.Numbers.{is_among}
 use Rattle.sp_plan.specs.declared.plan.Plan.{Plan}
 use Rattle.sp_plan.specs.Windows.{Numbered}
-use Rattle.sp_plan.specs.Runs.{Pair, Run, Started, State, Handling, used, is_among, holds_one, is_complete, leaves, takes, completed, kept_with, offered, handle_run, started_with, may_start, handle}
+use Rattle.sp_plan.specs.Runs.{Pair, Run, Started, State, Handling, used, holds_one, is_complete, leaves, takes, completed, kept_with, offered, handle_run, started_with, may_start, handle}
 use Rattle.sp_plan.specs.Moves.{Move, Opened, Acting, apply, apply_all, abandoned, growing, used_if_complete, acting_on, acted, act_run, act_start, handling_of, act, moves}
 use Rattle.sp_match.proofs.RunNumbersRise.{Rising, rising_join, rising_raise, rising_filter, absent_below, absent_above}
 use Rattle.sp_match.proofs.RunInTheMiddle.{without_middle}

@@ -5,8 +5,9 @@ use Rattle.std.proofs.lemmas.Bool.Decides.{nat_tests}
 use Rattle.std.proofs.lemmas.List.{append-nil}
 use Rattle.std.proofs.lemmas.List.Elements.{All-head, All-tail}
 use Rattle.std.proofs.lemmas.List.Folds.{list_any-append}
+use Rattle.sp_base.specs.Numbers.{is_among}
 use Rattle.sp_plan.specs.declared.plan.Plan.{Plan}
-use Rattle.sp_plan.specs.Runs.{Pair, Started, State, is_among}
+use Rattle.sp_plan.specs.Runs.{Pair, Started, State}
 use Rattle.sp_plan.specs.Moves.{Move, Opened, Grown, Completed, Abandoned, is_run, apply, apply_all, moves, closing}
 use Rattle.sp_match.specs.public.Laws.{Sound, Leads, is_open, is_matched, group, used_by, MovesLeadOn, HandlingIsLawful}
 use Rattle.sp_match.proofs.MovesAreHandling.{IsGiven, moves_are_handling}

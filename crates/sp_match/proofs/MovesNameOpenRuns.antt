@@ -2,9 +2,10 @@
 use Rattle.std.proofs.Common.{◌≡◌, ℕ, ◌+◌, ◌<◌, Bool, true, false, cond, not, List, [], ◌∷◌, ◌++◌, Option, Some, None, map, refl, sym, ap, ◌∙◌, subst, append_assoc, arith}
 use Rattle.std.specs.List.{filter, fold, list_any}
 use Rattle.std.proofs.lemmas.List.{append-nil}
+use Rattle.sp_base.specs.Numbers.{is_among}
 use Rattle.sp_plan.specs.declared.plan.Plan.{Plan}
 use Rattle.sp_plan.specs.Windows.{Numbered}
-use Rattle.sp_plan.specs.Runs.{Pair, Run, Started, State, Handling, used, is_among, holds_one, is_complete, leaves, takes, handle_run, may_start}
+use Rattle.sp_plan.specs.Runs.{Pair, Run, Started, State, Handling, used, holds_one, is_complete, leaves, takes, handle_run, may_start}
 use Rattle.sp_plan.specs.Moves.{Move, Opened, Grown, Completed, Abandoned, Acting, apply, apply_all, abandoned, completing, growing, used_if_complete, acting_on, acted, act_run, act_start, handling_of, is_run, without_run, moves}
 use Rattle.sp_match.specs.public.Laws.{is_open}
 use Rattle.sp_match.proofs.RunNumbersRise.{Rising, Absent, rising_join, rising_raise, rising_lower, rising_filter, absent_below, absent_above, itself}

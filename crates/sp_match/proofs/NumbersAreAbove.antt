@@ -6,15 +6,15 @@ use Rattle.std.proofs.lemmas.Bool.{cases_eq}
 use Rattle.std.proofs.lemmas.Bool.Decides.{nat_tests}
 use Rattle.std.proofs.lemmas.List.{drop_more, get_or-map, get_or_default, length-map}
 use Rattle.std.proofs.lemmas.List.Folds.{list_any-append}
-use Rattle.sp_base.specs.Numbers.{has}
+use Rattle.sp_base.specs.Numbers.{is_among}
 
 -- a number below the first isn't among them
-pub not_below_first : (ns : List ℕ) (n : ℕ) → IsStrictlyIncreasing ns → ((d : ℕ) → 0 < length ns → n < get_or ns 0 d) → has ns n ≡ false
+pub not_below_first : (ns : List ℕ) (n : ℕ) → IsStrictlyIncreasing ns → ((d : ℕ) → 0 < length ns → n < get_or ns 0 d) → is_among ns n ≡ false
 not_below_first [] n up first = refl
 not_below_first (m ∷ ns) n up first =
     let above : n < m = first 0 (omega arith) in
     let here : (m == n) ≡ false = grind (arith, nat_tests) in
-    (λ i. here i || has ns n) ∙ not_below_first ns n (λ k below. simp add-one (simp add-one at (up (suc k) (omega arith)))) (λ d some. next ns d some up)
+    (λ i. here i || is_among ns n) ∙ not_below_first ns n (λ k below. simp add-one (simp add-one at (up (suc k) (omega arith)))) (λ d some. next ns d some up)
   where
     next : (ns : List ℕ) (d : ℕ) → 0 < length ns → IsStrictlyIncreasing (m ∷ ns) → n < get_or ns 0 d
     next [] d some up = absurd (omega (arith, some))
@@ -29,15 +29,15 @@ none_of_first p (x ∷ xs) (suc k) none = (λ i. none 0 x (omega arith) (omega a
 
 -- the pairs from a place on
 abbrev pub Holds : List ℕ → ℕ × ℕ → Bool
-Holds ns pair = has ns pair.1
+Holds ns pair = is_among ns pair.1
 
 module _ (ns : List ℕ) (bs : List (ℕ × ℕ)) where
   -- one place more from the end
-  pub none_more : (left : ℕ) (d : ℕ × ℕ) → left < length bs → list_any (Holds ns) (drop (left + 1) bs) ≡ false → has ns (get_or bs left d).1 ≡ false → list_any (Holds ns) (drop left bs) ≡ false
+  pub none_more : (left : ℕ) (d : ℕ × ℕ) → left < length bs → list_any (Holds ns) (drop (left + 1) bs) ≡ false → is_among ns (get_or bs left d).1 ≡ false → list_any (Holds ns) (drop left bs) ≡ false
   none_more left d within none fails = ap (list_any (Holds ns)) (drop_more bs left d within) ∙ (λ i. fails i || list_any (Holds ns) (drop (left + 1) bs)) ∙ none
 
   -- the number at the place is one of them
-  pub held_here : (left : ℕ) (d : ℕ × ℕ) → left < length bs → has ns (get_or bs left d).1 ≡ true → list_any (Holds ns) bs ≡ true
+  pub held_here : (left : ℕ) (d : ℕ × ℕ) → left < length bs → is_among ns (get_or bs left d).1 ≡ true → list_any (Holds ns) bs ≡ true
   held_here left d within holds =
       ap (list_any (Holds ns)) (sym (take-append-drop left bs) ∙ ap (λ (l : List (ℕ × ℕ)). take left bs ++ l) (drop_more bs left d within))
       ∙ list_any-append (Holds ns) (take left bs) (get_or bs left d ∷ drop (left + 1) bs)

@@ -2,9 +2,10 @@
 use Rattle.std.proofs.Common.{ℕ, ◌+◌, ◌<◌, Bool, true, false, cond, not, List, [], ◌∷◌, ◌++◌, Option, Some, None, arith}
 use Rattle.std.specs.List.{All, fold}
 use Rattle.std.proofs.lemmas.List.Elements.{All-nil, All-cons, All-head, All-tail, All-push, All-filter, All-weaker}
+use Rattle.sp_base.specs.Numbers.{is_among}
 use Rattle.sp_plan.specs.declared.plan.Plan.{Plan}
 use Rattle.sp_plan.specs.Windows.{Numbered}
-use Rattle.sp_plan.specs.Runs.{Pair, Started, Handling, used, is_among, holds_one, is_complete, leaves, takes, completed, kept_with, grown, offered, handle_run, started_with, may_start}
+use Rattle.sp_plan.specs.Runs.{Pair, Started, Handling, used, holds_one, is_complete, leaves, takes, completed, kept_with, grown, offered, handle_run, started_with, may_start}
 use Rattle.sp_match.specs.public.Laws.{Below, NumbersStayBelow}
 
 -- the number of a pair is below n

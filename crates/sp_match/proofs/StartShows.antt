@@ -3,9 +3,10 @@ use Rattle.std.proofs.Common.{◌≡◌, ℕ, ◌+◌, Bool, true, false, cond, 
 use Rattle.std.specs.Prelude.{if◌then◌else◌}
 use Rattle.std.specs.List.{filter, flat_map, fold}
 use Rattle.std.proofs.lemmas.List.{map-append}
+use Rattle.sp_base.specs.Numbers.{is_among}
 use Rattle.sp_plan.specs.declared.plan.Plan.{Plan}
 use Rattle.sp_plan.specs.Windows.{Numbered}
-use Rattle.sp_plan.specs.Runs.{Pair, Started, State, holds_one, is_among, is_complete, leaves, takes, used}
+use Rattle.sp_plan.specs.Runs.{Pair, Started, State, holds_one, is_complete, leaves, takes, used}
 use Rattle.sp_plan.specs.Moves.{Acting, Told, Opened, OpenedTold, Grown, Completed, without_run, abandoned, act_run, act_start, acted, acting_on, apply, apply_all, completing, growing, used_if_complete}
 use Rattle.sp_match.specs.inside.Kept.{Kept, empty, started}
 use Rattle.sp_match.specs.inside.Effects.{runs_after_binding, runs_binding_told, run_after_use, use_told, run_after_binding, binding_told, used_by_binding}

@@ -4,9 +4,10 @@ use Rattle.std.specs.Prelude.{is_none, if◌then◌else◌}
 use Rattle.std.specs.List.{All}
 use Rattle.std.proofs.lemmas.List.{append_assoc, append-nil, get_or_at, length_push, length-map, map-append, set_at}
 use Rattle.std.proofs.lemmas.List.Folds.{list_all-append, list_any-append}
+use Rattle.sp_base.specs.Numbers.{is_among}
 use Rattle.sp_plan.specs.declared.plan.Plan.{Plan}
 use Rattle.sp_plan.specs.Windows.{Numbered}
-use Rattle.sp_plan.specs.Runs.{Pair, Started, State, holds_one, is_among, is_complete, leaves, takes, used}
+use Rattle.sp_plan.specs.Runs.{Pair, Started, State, holds_one, is_complete, leaves, takes, used}
 use Rattle.sp_plan.specs.Moves.{Acting, Told, abandoned, act_run, acted, acting_on, used_if_complete}
 use Rattle.sp_match.specs.declared.turns.Reception.{Reception}
 use Rattle.sp_match.specs.declared.turns.Reception.TheVariants.{Taken, Used}

@@ -2,6 +2,7 @@
 // can be made as it was.
 ghost use Rattle.std.specs.Prelude.{◌≡◌, ◌<◌, [], ◌∷◌, ◌++◌, length, map, slice_get, IfOk, OnOk};
 ghost use Rattle.std.specs.List.{All, flat_map};
+ghost use Rattle.sp_base.specs.Numbers.{is_among};
 ghost use Rattle.sp_plan.specs.Runs as definitions;
 ghost use Rattle.sp_match.specs.inside.Kept.{kept, all_kept};
 ghost use Rattle.sp_match.specs.inside.Good.{Good, NumbersBelow, RunUndoes, Undoes};
@@ -78,7 +79,7 @@ pub(crate) fn bind(
     requires below { NumbersBelow offer.now.number (run_at (all_kept runs.old) at) }
     requires within { at < length runs.old }
     requires idle { (run_at (all_kept runs.old) at).turn ≡ Idle }
-    ensures used { IfOk result (λ used. used ≡ definitions.is_among
+    ensures used { IfOk result (λ used. used ≡ is_among
         (used_by_binding offer.now.plan.now name (numbered offer.now)
         (run_at (all_kept runs.old) at)) offer.now.number) }
     ensures runs { OnOk result (all_kept runs.new

@@ -1,7 +1,7 @@
 // One partial match.
 ghost use Rattle.std.specs.Prelude.{◌≡◌, ℕ, ◌<◌, ◌-◌, not, [], IfOk, OnOk, OnErr, slice_index_or, false, map};
 ghost use Rattle.std.specs.List.{All, AllPairs, list_any};
-ghost use Rattle.sp_base.specs.Numbers.{has};
+ghost use Rattle.sp_base.specs.Numbers.{is_among};
 ghost use Rattle.sp_match.specs.inside.Tally.{is_leaving};
 ghost use Rattle.sp_match.specs.inside.Kept.{kept, stays, empty, grown, before, CanGrow, CanUndo};
 
@@ -113,7 +113,8 @@ impl Run {
     // of these aren't looked at.
     pub(crate) fn holds_one(&self, numbers: &Numbers) -> bool
         requires { AllPairs (λ m n. m < n) (map (λ pair. pair.1) self.now.bound.items) }
-        ensures { result ≡ list_any (λ pair. has numbers.now.list pair.1) self.now.bound.items }
+        ensures { result
+            ≡ list_any (λ pair. is_among numbers.now.list pair.1) self.now.bound.items }
     {
         let numbers_listed = numbers.list();
         if numbers_listed.is_empty() {

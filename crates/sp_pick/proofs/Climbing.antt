@@ -1,5 +1,6 @@
 -- The way up to the root.
 use Rattle.std.proofs.Common.{◌≡◌, ℕ, zero, suc, ◌+◌, ◌-◌, ◌<◌, ◌≤◌, true, List, Option, Some, None, is_some, refl, sym, ap, subst, ◌∙◌, zero-add, unwrap_or, arith}
+use Rattle.sp_base.specs.Limits.{whole_share}
 use Rattle.sp_group.specs.Family.{entry_at}
 use Rattle.sp_tree.specs.Grown.{AreRooted, Entry, FallFrom, kin, groups_of, label_of, parent_of}
 use Rattle.sp_pick.specs.Picking.{under, survival_in, depth_in}
@@ -57,11 +58,11 @@ module _ {V : Type 0} where
         record { live = r.live; depth = omega arith }
 
     -- a live version at no depth is the root
-    pub whole : (shares : ℕ → ℕ → ℕ) (id : ℕ) → is_some (entry_at kin es id) ≡ true → depth_in es id ≡ 0 → survival_in shares es id ≡ 65536
+    pub whole : (shares : ℕ → ℕ → ℕ) (id : ℕ) → is_some (entry_at kin es id) ≡ true → depth_in es id ≡ 0 → survival_in shares es id ≡ whole_share
     whole shares id live flat =
         let e = some_entry (entry_at kin es id) live in one e.0 e.1 e.0.version.parent refl
       where
-        one : (e : Entry V) → entry_at kin es id ≡ Some e → (parent : Option ℕ) → e.version.parent ≡ parent → survival_in shares es id ≡ 65536
+        one : (e : Entry V) → entry_at kin es id ≡ Some e → (parent : Option ℕ) → e.version.parent ≡ parent → survival_in shares es id ≡ whole_share
         one e at None up = (at_root shares es id e at up).survival
         one e at (Some p) up = let d = (under_parent shares top es id e p fall rooted at up).depth in absurd (omega arith)
 

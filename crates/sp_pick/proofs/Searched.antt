@@ -5,8 +5,8 @@ use Rattle.std.specs.Ordering.{nat_cmp}
 use Rattle.std.specs.List.Sorted.{IsStrictlyIncreasing, IsBinarySearchResult}
 use Rattle.std.proofs.lemmas.Bool.{cases_eq, cases_lt, eq-eqb, ne_eqb, or_left, or_right}
 use Rattle.std.proofs.lemmas.List.Sorted.{searched}
+use Rattle.sp_base.specs.Numbers.{is_among}
 use Rattle.sp_base.proofs.Placed.{earlier}
-use Rattle.sp_plan.specs.Runs.{is_among}
 
 -- what stands at an index is among the numbers
 pub among_at : (xs : List ℕ) (i d : ℕ) → i < length xs → is_among xs (get_or xs i d) ≡ true

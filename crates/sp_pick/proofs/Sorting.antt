@@ -10,6 +10,7 @@ use Rattle.std.proofs.lemmas.List.{take-map}
 use Rattle.std.proofs.lemmas.List.Elements.{All-map, All-head, All-tail}
 use Rattle.std.proofs.lemmas.List.Sorted.{IsPermutation-map, All-permutation, Contains-permutation, sorted_far, ranks_by}
 use Rattle.std.proofs.Math.ListN.{get_or-map}
+use Rattle.sp_base.specs.Limits.{whole_share}
 use Rattle.sp_group.specs.Family.{entry_at}
 use Rattle.sp_tree.specs.Grown.{Entry, FallFrom, AreRooted, kin, parent_of}
 use Rattle.sp_pick.specs.declared.key.Key.{Key}
@@ -25,7 +26,7 @@ long_map [] = refl
 long_map (key ∷ keys) = let rest = long_map keys in ap suc rest
 
 -- the key of a root comes before that of a version under a parent
-comes_before : (a b : Key) → a.survival ≡ 65536 → a.depth ≡ 0 → b.survival ≤ 65536 → 0 < b.depth → is_lt (key_cmp a b) ≡ true
+comes_before : (a b : Key) → a.survival ≡ whole_share → a.depth ≡ 0 → b.survival ≤ whole_share → 0 < b.depth → is_lt (key_cmp a b) ≡ true
 comes_before a b whole flat most deep = elim (cases_lt b.survival a.survival) [ inl less ↦ unlikelier less | inr same ↦ deeper same ]
   where
     unlikelier : b.survival < a.survival → is_lt (key_cmp a b) ≡ true
@@ -95,7 +96,7 @@ module _ {V : Type 0} (shares : ℕ → ℕ → ℕ) (es : List (Entry V)) where
 
   module _ (top : ℕ) (fall : FallFrom top es) (rooted : AreRooted es) where
     -- what comes before a version that has a parent, or is one
-    above_it : (root first : ℕ) → is_some (entry_at kin es root) ≡ true → IsTop es root → is_some (entry_at kin es first) ≡ true → survival_in shares es first ≤ 65536
+    above_it : (root first : ℕ) → is_some (entry_at kin es root) ≡ true → IsTop es root → is_some (entry_at kin es first) ≡ true → survival_in shares es first ≤ whole_share
         → is_lt (key_cmp (key_in shares es root) (key_in shares es first)) ≡ false → IsTop es first
     above_it root first live is_top live' most behind =
         let r = some_entry (entry_at kin es root) live in
@@ -103,7 +104,7 @@ module _ {V : Type 0} (shares : ℕ → ℕ → ℕ) (es : List (Entry V)) where
         let top_key = at_root shares es root r.0 r.1 (sym (ap parent_of r.1) ∙ is_top) in
         one top_key.survival top_key.depth e.0 e.1 e.0.version.parent refl
       where
-        one : survival_in shares es root ≡ 65536 → depth_in es root ≡ 0 → (e : Entry V) → entry_at kin es first ≡ Some e → (parent : Option ℕ) → e.version.parent ≡ parent → IsTop es first
+        one : survival_in shares es root ≡ whole_share → depth_in es root ≡ 0 → (e : Entry V) → entry_at kin es first ≡ Some e → (parent : Option ℕ) → e.version.parent ≡ parent → IsTop es first
         one whole flat e at None up = ap parent_of at ∙ up
         one whole flat e at (Some p) up =
             let u = under_parent shares top es first e p fall rooted at up in
@@ -111,14 +112,14 @@ module _ {V : Type 0} (shares : ℕ → ℕ → ℕ) (es : List (Entry V)) where
             absurd (false≢true (sym behind ∙ comes_before (key_in shares es root) (key_in shares es first) whole flat most (omega arith)))
 
     pub root_first : (ready : List ℕ) (k : ℕ) (keys sorted : List Key) (ids : List ℕ) → keys ≡ map (key_in shares es) ready → IsPermutation keys sorted → IsSorted key_cmp sorted
-        → ids ≡ map id_of (take k sorted) → All (λ key. key.survival ≤ 65536) keys → All (λ id. is_some (entry_at kin es id) ≡ true) ready → RootIsFirst es ready k ids
+        → ids ≡ map id_of (take k sorted) → All (λ key. key.survival ≤ whole_share) keys → All (λ id. is_some (entry_at kin es id) ≡ true) ready → RootIsFirst es ready k ids
     root_first ready k keys sorted ids are permuted in_order is most live root ready_root is_top some =
         let order = map id_of sorted in
         let moved = order_of ready keys sorted are permuted in
         let there = Contains-permutation ready order root moved ready_root in
         let all = sorted_keys ready keys sorted are permuted in
         let live' = All-permutation (λ id. is_some (entry_at kin es id) ≡ true) ready order moved live in
-        let most' = All-permutation (λ key. key.survival ≤ 65536) keys sorted permuted most in
+        let most' = All-permutation (λ key. key.survival ≤ whole_share) keys sorted permuted most in
         let long = long_map sorted in
         let within = there.1 in
         let d = key_in shares es root in
@@ -127,7 +128,7 @@ module _ {V : Type 0} (shares : ℕ → ℕ → ℕ) (es : List (Entry V)) where
         let far = sorted_far (λ x y. is_lt (key_cmp x y)) (ranks_by key_total (λ k. k)) sorted in_order 0 there.0 d (omega arith) (omega arith) in
         let behind : is_lt (key_cmp d (key_in shares es (get_or order 0 root))) ≡ false =
         ap (λ (x : Key). is_lt (key_cmp x (key_in shares es (get_or order 0 root)))) (sym of_root) ∙ ap (λ (x : Key). is_lt (key_cmp (get_or sorted there.0 d) x)) (sym of_first) ∙ far in
-        let low : survival_in shares es (get_or order 0 root) ≤ 65536 = subst (λ (x : Key). x.survival ≤ 65536) of_first (most' 0 d (omega arith)) in (
+        let low : survival_in shares es (get_or order 0 root) ≤ whole_share = subst (λ (x : Key). x.survival ≤ whole_share) of_first (most' 0 d (omega arith)) in (
           get_or order 0 root,
           ap (λ (l : List ℕ). slice_get l 0) (is ∙ sym (take-map id_of k sorted)) ∙ first_taken order k root some (omega arith),
           above_it root (get_or order 0 root) (subst (λ q. is_some (entry_at kin es q) ≡ true) there.2 (live' there.0 root within)) is_top (live' 0 root (omega arith)) low behind,

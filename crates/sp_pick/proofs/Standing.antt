@@ -1,6 +1,7 @@
 -- Where a version stands: its survival and its depth follow from those of its parent, which has a lesser id.
 use Rattle.std.proofs.Common.{◌≡◌, ℕ, ◌+◌, ◌<◌, ◌≤◌, Bool, true, false, cond, ◌==◌, List, [], ◌∷◌, length, Option, Some, None, is_some, refl, sym, ap, ◌∙◌, arith}
 use Rattle.std.proofs.lemmas.Bool.Decides.{nat_tests}
+use Rattle.sp_base.specs.Limits.{whole_share}
 use Rattle.sp_group.specs.Family.{entry_at, parent_there}
 use Rattle.sp_tree.specs.Grown.{AreRooted, Entry, FallFrom, kin, groups_of}
 use Rattle.sp_pick.specs.Picking.{under, survival_under, survival_in, survival_of_child, depth_in, depth_under}
@@ -40,7 +41,7 @@ module _ {V : Type 0} where
 
     -- the root
     pub record IsRoot (es : List (Entry V)) (id : ℕ) : Type 0 where
-      pub survival : survival_in shares es id ≡ 65536
+      pub survival : survival_in shares es id ≡ whole_share
       pub depth : depth_in es id ≡ 0
 
     -- the first entry, and those behind it

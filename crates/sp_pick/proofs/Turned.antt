@@ -5,8 +5,8 @@ use Rattle.std.specs.List.Sorted.{IsStrictlyIncreasing}
 use Rattle.std.proofs.lemmas.Bool.{false≢true, and_parts, and_from, or_parts, ltb-true, lt-ltb, eq-eqb, eqb-true, cases_lt}
 use Rattle.std.proofs.lemmas.Bool.Decides.{nat_tests}
 use Rattle.std.proofs.lemmas.List.Elements.{All-nil, All-cons}
-use Rattle.sp_plan.specs.Runs.{is_among}
-use Rattle.sp_group.specs.Rising.{IsLabel, with_number}
+use Rattle.sp_base.specs.Numbers.{is_among, with_number}
+use Rattle.sp_group.specs.Rising.{IsLabel}
 use Rattle.sp_pick.specs.Turning.{turned_round}
 use Rattle.sp_pick.proofs.Searched.{among_at}
 

@@ -5,18 +5,19 @@ use Rattle.std.specs.Prelude.{List, [], ◌∷◌, ◌++◌, All, Contains, filt
 use Rattle.std.specs.Ordering.{nat_cmp, ordering_then}
 use Rattle.std.specs.declared.cmp.Ordering.{Ordering}
 use Rattle.std.specs.List.Sorted.{IsPermutation, IsSortedByKey}
-use Rattle.sp_plan.specs.Runs.{is_among}
+use Rattle.sp_base.specs.Limits.{whole_share}
+use Rattle.sp_base.specs.Numbers.{is_among}
 use Rattle.sp_group.specs.Family.{entry_at}
 use Rattle.sp_tree.specs.Grown.{Entry, kin, groups_of, parent_of, IsChild, LacksChild}
 use Rattle.sp_pick.specs.declared.key.Key.{Key}
 
 -- the part of a share that goes with one group: its share where the label has it, and else the rest
 abbrev pub part : (ℕ → ℕ) → List ℕ → ℕ → ℕ
-part shares label run = if is_among label run then shares run else 65536 - shares run
+part shares label run = if is_among label run then shares run else whole_share - shares run
 
 -- a share of the parent's, group by group, rounded down at each
 abbrev pub under : (ℕ → ℕ) → List ℕ → List ℕ → ℕ → ℕ
-under shares groups label share = fold (λ s run. s * part shares label run / 65536) share groups
+under shares groups label share = fold (λ s run. s * part shares label run / whole_share) share groups
 
 -- the best label: the groups whose share is above a half
 abbrev pub is_likely : (ℕ → ℕ) → ℕ → Bool
@@ -42,7 +43,7 @@ key_cmp a b = ordering_then (ordering_then (nat_cmp b.survival a.survival) (nat_
 
 -- the survival under a parent, from the groups and the survival of each id
 abbrev pub survival_under : (ℕ → ℕ → ℕ) → (ℕ → List ℕ) → (ℕ → ℕ) → Option ℕ → List ℕ → ℕ
-survival_under shares groups above None label = 65536
+survival_under shares groups above None label = whole_share
 survival_under shares groups above (Some p) label = under (shares p) (groups p) label (above p)
 
 abbrev pub depth_under : (ℕ → ℕ) → Option ℕ → ℕ

@@ -1,4 +1,5 @@
 ghost use Rattle.std.specs.Prelude.{◌≡◌, ◌≤◌, ℕ, IsSome, IfOk, All, map, take, IsPermutation, IsSorted};
+ghost use Rattle.sp_base.specs.Limits.{whole_share};
 ghost use Rattle.sp_group.specs.Family.{entry_at};
 ghost use Rattle.sp_chance.specs.Shares.{share_of};
 ghost use Rattle.sp_tree.specs.Grown.{kin};
@@ -29,7 +30,7 @@ pub(crate) fn keys_of<V>(
     requires { All (λ id. IsSome (entry_at kin tree.now.entries id)) ids.now }
     ensures keys { IfOk result
         (λ keys. keys.items ≡ map (key_in (share_of chances.now) tree.now.entries) ids.now) }
-    ensures most { IfOk result (λ keys. All (λ key. key.survival ≤ 65536) keys.items) }
+    ensures most { IfOk result (λ keys. All (λ key. key.survival ≤ whole_share) keys.items) }
 {
     let mut keys = Vec::with_capacity(alloc, ids.len())?;
     for id in ids {
@@ -41,7 +42,7 @@ pub(crate) fn keys_of<V>(
 fn key_of<V>(tree: &Tree<V>, chances: &Chances, id: u64) -> Key
     requires { IsSome (entry_at kin tree.now.entries id) }
     ensures key { result ≡ key_in (share_of chances.now) tree.now.entries id }
-    ensures most { result.survival ≤ 65536 }
+    ensures most { result.survival ≤ whole_share }
 {
     let depth = depth(tree, id);
     let survival = survival_at(tree, id, depth, chances).get();

@@ -1,5 +1,5 @@
 ghost use Rattle.std.specs.Prelude.{◌≡◌, ℕ, ◌+◌, ◌<◌, ◌≤◌, slice_index, IsSome};
-ghost use Rattle.sp_plan.specs.Runs.{is_among};
+ghost use Rattle.sp_base.specs.Numbers.{is_among};
 ghost use Rattle.sp_group.specs.Family.{entry_at};
 ghost use Rattle.sp_chance.specs.Shares.{share_of};
 ghost use Rattle.sp_tree.specs.Grown.{kin, parent_of};
@@ -7,6 +7,7 @@ ghost use Rattle.sp_pick.specs.Picking.{under, survival_in, survival_of_child, d
 ghost use Rattle.sp_pick.specs.Paths.{above, climbed};
 
 use sp_base::Share;
+use sp_base::limits::WHOLE_SHARE;
 use sp_chance::Chances;
 use sp_group::Label;
 use sp_tree::Tree;
@@ -31,7 +32,7 @@ pub(crate) fn survival_at<V>(tree: &Tree<V>, id: u64, depth: u32, chances: &Chan
 {
     tree.live();
     let mut left = depth as usize;
-    let mut share = Share::new(65_536);
+    let mut share = Share::new(WHOLE_SHARE);
     while left > 0 {
         let count = left.min(STRETCH);
         left -= count;

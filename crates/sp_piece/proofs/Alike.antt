@@ -3,6 +3,7 @@ use Rattle.std.proofs.Common.{◌≡◌, ℕ, zero, suc, ◌+◌, Bool, true, fa
 use Rattle.std.specs.Prelude.{slice_get}
 use Rattle.std.specs.List.{AllZip, fold, list_all, list_any, last_or, flat_map, range_with_len}
 use Rattle.std.proofs.lemmas.List.Elements.{filter_agree}
+use Rattle.sp_base.specs.Numbers.{is_among}
 use Rattle.sp_plan.specs.declared.event.Event.{Event}
 use Rattle.sp_plan.specs.declared.plan.Plan.{Plan}
 use Rattle.sp_plan.specs.declared.plan.Name.{Name}
@@ -12,7 +13,7 @@ use Rattle.sp_plan.specs.declared.plan.Select.TheVariants.{First, Last, Each}
 use Rattle.sp_plan.specs.Laws.{SamePredicatesHoldAlike}
 use Rattle.sp_plan.specs.Same.{SameName, SamePlan}
 use Rattle.sp_plan.specs.Windows.{Numbered}
-use Rattle.sp_plan.specs.Runs.{Pair, Run, Started, State, Handling, again, bindings, bound_events, completed, fits_name, grown, handle, handle_run, holds_one, is_among, is_complete, is_consumed, is_filled, kept_with, leaves, may_start, name_holds, numbers_under, offered, started_with, takes, unbound, used, wanted, after_closing}
+use Rattle.sp_plan.specs.Runs.{Pair, Run, Started, State, Handling, again, bindings, bound_events, completed, fits_name, grown, handle, handle_run, holds_one, is_complete, is_consumed, is_filled, kept_with, leaves, may_start, name_holds, numbers_under, offered, started_with, takes, unbound, used, wanted, after_closing}
 use Rattle.sp_plan.specs.Reading.{after_event}
 use Rattle.sp_plan.specs.Moves.{Move, Opened, Grown, Completed, Abandoned, Acting, Told, CompletedTold, abandoned, abandons, act, act_run, act_start, acted, acting_on, apply, closing, completing, growing, handling_of, moves, pair_given, pairs_of, still_wanted, tell, told, used_if_complete, without_run}
 use Rattle.sp_piece.specs.Reading.{Loan, Account, account, accounts_at, accounts_on, accounts_to, closing_account, event_accounts, read_at, read_on, read_to, skips}

@@ -1,6 +1,6 @@
 // All that is left of a reading: what changes nothing is read stretch by stretch, and all else event by event.
 ghost use Rattle.std.specs.Prelude.{◌≡◌, ℕ, ◌+◌, ◌<◌, ◌≤◌, true, false, Some, OnOk, OnErr, length, slice_get};
-ghost use Rattle.sp_plan.specs.Runs.{is_among};
+ghost use Rattle.sp_base.specs.Numbers.{is_among};
 ghost use Rattle.sp_match.specs.declared.known.Known as known_as;
 ghost use Rattle.sp_piece.specs.Reading.{skips};
 ghost use Rattle.sp_piece.specs.Pieced.{loan};

@@ -4,6 +4,7 @@ use Rattle.std.specs.Prelude.{pos, int_le}
 use Rattle.std.specs.List.{All, list_all, zip}
 use Rattle.std.proofs.lemmas.Bool.Decides.{nat_tests}
 use Rattle.std.proofs.lemmas.List.Elements.{All-nil, All-cons}
+use Rattle.sp_base.specs.Limits.{number_limit}
 use Rattle.sp_plan.specs.declared.event.Value.{Value}
 use Rattle.sp_plan.specs.declared.event.Value.TheVariants.{Number, Symbol}
 use Rattle.sp_plan.specs.declared.plan.Column.{Column}
@@ -38,6 +39,6 @@ small_columns (c ∷ cs) (v ∷ vs) e h =
 
 pub fitting_small : FittingEventsAreSmall
 fitting_small q e h =
-    let parts = first_two (length q.schema.columns == length e.values) (list_all fits_column (zip q.schema.columns e.values)) (int_le (pos 0) e.time) (int_le e.time (pos 1000000000000000)) h in
+    let parts = first_two (length q.schema.columns == length e.values) (list_all fits_column (zip q.schema.columns e.values)) (int_le (pos 0) e.time) (int_le e.time (pos number_limit)) h in
     let size : length q.schema.columns ≡ length e.values = grind (arith, nat_tests, parts.0) in
     small_columns q.schema.columns e.values size parts.1

@@ -5,10 +5,11 @@ use Rattle.std.specs.List.{enumerate_from, fold}
 use Rattle.std.specs.Option.{option_map}
 use Rattle.std.proofs.lemmas.List.Elements.{filter-append}
 use Rattle.std.proofs.lemmas.List.Sums.{fold-append}
+use Rattle.sp_base.specs.Numbers.{is_among}
 use Rattle.sp_plan.specs.declared.event.Event.{Event}
 use Rattle.sp_plan.specs.declared.plan.Plan.{Plan}
 use Rattle.sp_plan.specs.Windows.{Numbered, numbered}
-use Rattle.sp_plan.specs.Runs.{State, is_among, fresh, handle, state}
+use Rattle.sp_plan.specs.Runs.{State, fresh, handle, state}
 use Rattle.sp_plan.specs.Reading.{event_of, after_event, read_one, reading}
 use Rattle.sp_plan.specs.Laws.{ReadingIsState}
 

@@ -1,6 +1,7 @@
 -- How great the values of an expression may be, by its columns' greatest numbers; and expressions whose values stay in bounds.
 use Rattle.std.specs.Prelude.{ℕ, ◌+◌, ◌*◌, ◌^◌, ◌≤◌, unsigned_abs}
 use Rattle.std.specs.List.{All}
+use Rattle.sp_base.specs.Limits.{number_limit}
 use Rattle.sp_plan.specs.declared.event.Event.{Event}
 use Rattle.sp_plan.specs.declared.event.Value.{Value}
 use Rattle.sp_plan.specs.declared.event.Value.TheVariants as v
@@ -16,8 +17,8 @@ greatest = 1000000000000000000000000000000000000
 abbrev pub bound : Expr → ℕ
 bound (Literal n) = unsigned_abs n
 bound (Word s) = s
-bound (Column c) = 1000000000000000
-bound (Earlier name c) = 1000000000000000
+bound (Column c) = number_limit
+bound (Earlier name c) = number_limit
 bound (Raise' by p inner) = bound inner * 10 ^ by
 bound (Minus' p inner) = bound inner
 bound (Add' p left q right) = bound left + bound right
@@ -46,7 +47,7 @@ PredWithin (Not' p inner) = PredWithin inner
 
 -- a number is at most 10^15 in magnitude; a text is any
 abbrev pub SmallValue : Value → Type 0
-SmallValue (v.Number n) = unsigned_abs n ≤ 1000000000000000
+SmallValue (v.Number n) = unsigned_abs n ≤ number_limit
 SmallValue (v.Symbol s) = Unit {0}
 
 -- The numbers of an event are at most 10^15 in magnitude.

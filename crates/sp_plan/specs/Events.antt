@@ -1,6 +1,7 @@
 -- Which events a plan takes: their values fit its columns, and their times never go back.
 use Rattle.std.specs.Prelude.{◌≡◌, ℕ, pos, ◌≤◌, ◌≤ℤ◌, Bool, true, false, ◌&&◌, List, length, Some, slice_get, ◌==◌, nat_le, int_le, unsigned_abs}
 use Rattle.std.specs.List.{All, list_all, zip}
+use Rattle.sp_base.specs.Limits.{number_limit}
 use Rattle.sp_plan.specs.declared.event.Event.{Event}
 use Rattle.sp_plan.specs.declared.event.Value.{Value}
 use Rattle.sp_plan.specs.declared.event.Value.TheVariants.{Number, Symbol}
@@ -11,8 +12,8 @@ use Rattle.sp_plan.specs.declared.plan.Plan.{Plan}
 
 -- a value is of the kind, and a number is at most 10 to the power of 15 in magnitude
 abbrev pub fits_kind : Kind → Value → Bool
-fits_kind Int (Number n) = nat_le (unsigned_abs n) 1000000000000000
-fits_kind (Dec p) (Number n) = nat_le (unsigned_abs n) 1000000000000000
+fits_kind Int (Number n) = nat_le (unsigned_abs n) number_limit
+fits_kind (Dec p) (Number n) = nat_le (unsigned_abs n) number_limit
 fits_kind Text (Number n) = false
 fits_kind Int (Symbol s) = false
 fits_kind (Dec p) (Symbol s) = false
@@ -26,7 +27,7 @@ fits_column pair = fits_kind pair.0.kind pair.1
 abbrev pub fits : Plan → Event → Bool
 fits q e =
     length q.schema.columns == length e.values && list_all fits_column (zip q.schema.columns e.values)
-    && int_le (pos 0) e.time && int_le e.time (pos 1000000000000000)
+    && int_le (pos 0) e.time && int_le e.time (pos number_limit)
 
 -- every event fits the plan
 abbrev pub AllFit : Plan → List Event → Type 0

@@ -1,5 +1,6 @@
 -- What is true of every plan and event.
 use Rattle.std.specs.Prelude.{◌≡◌, ℕ, ◌+◌, ◌-◌, ◌<◌, ◌≤◌, true, not, List, ◌++◌, length, take, drop, filter}
+use Rattle.sp_base.specs.Numbers.{is_among}
 use Rattle.sp_plan.specs.declared.event.Event.{Event}
 use Rattle.sp_plan.specs.declared.plan.Plan.{Plan}
 use Rattle.sp_plan.specs.declared.plan.Pred.{Pred}
@@ -8,7 +9,7 @@ use Rattle.sp_plan.specs.Bounds.{IsSmall}
 use Rattle.sp_plan.specs.Same.{SamePred, SamePlan}
 use Rattle.sp_plan.specs.Values.{BoundEvents, holds}
 use Rattle.sp_plan.specs.Windows.{numbered}
-use Rattle.sp_plan.specs.Runs.{is_among, state}
+use Rattle.sp_plan.specs.Runs.{state}
 use Rattle.sp_plan.specs.Reading.{reading}
 
 -- The numbers of an event that fits a plan are at most 10^15 in magnitude.

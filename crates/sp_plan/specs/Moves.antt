@@ -1,9 +1,10 @@
 -- What the handling of an event does to the runs, move by move, in the order in which it happens.
 use Rattle.std.specs.Prelude.{ℕ, ◌+◌, Bool, false, not, List, [], ◌∷◌, ◌++◌, length, Option, Some, None, ◌==◌, filter, map, if◌then◌else◌}
 use Rattle.std.specs.List.{list_any, flat_map, fold}
+use Rattle.sp_base.specs.Numbers.{is_among}
 use Rattle.sp_plan.specs.declared.plan.Plan.{Plan}
 use Rattle.sp_plan.specs.Windows.{Numbered}
-use Rattle.sp_plan.specs.Runs.{Pair, Run, Started, State, Handling, bindings, holds_one, is_among, is_complete, leaves, may_start, takes, unbound, used}
+use Rattle.sp_plan.specs.Runs.{Pair, Run, Started, State, Handling, bindings, holds_one, is_complete, leaves, may_start, takes, unbound, used}
 
 -- A run starts, with the next number and no pair; a run binds an event; a run completes; a run is abandoned. Runs are named by their numbers.
 pub data Move : Type 0 where

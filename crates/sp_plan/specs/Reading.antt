@@ -1,8 +1,9 @@
 -- The runs of a window while its events are read one after another, by their numbers.
 use Rattle.std.specs.Prelude.{ℕ, zero, suc, ◌+◌, ◌-◌, List, Option, Some, None, slice_get, if◌then◌else◌}
+use Rattle.sp_base.specs.Numbers.{is_among}
 use Rattle.sp_plan.specs.declared.event.Event.{Event}
 use Rattle.sp_plan.specs.declared.plan.Plan.{Plan}
-use Rattle.sp_plan.specs.Runs.{State, is_among, fresh, handle}
+use Rattle.sp_plan.specs.Runs.{State, fresh, handle}
 
 -- the event of a number, counted from 1, where it is there
 abbrev pub event_of : List Event → ℕ → Option Event

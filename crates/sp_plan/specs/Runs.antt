@@ -1,6 +1,7 @@
 -- What a run takes, and what the runs over a list of visible events come to.
 use Rattle.std.specs.Prelude.{ℕ, ◌+◌, Bool, true, false, ◌&&◌, not, List, [], ◌∷◌, ◌++◌, length, Option, Some, None, is_some, is_none, slice_get, ◌==◌, nat_lt, filter, map, find, if◌then◌else◌}
 use Rattle.std.specs.List.{list_any, list_all, last_or, range_with_len, fold}
+use Rattle.sp_base.specs.Numbers.{is_among}
 use Rattle.sp_plan.specs.declared.event.Event.{Event}
 use Rattle.sp_plan.specs.declared.plan.Plan.{Plan}
 use Rattle.sp_plan.specs.declared.plan.Name.{Name}
@@ -84,9 +85,6 @@ is_consumed (Some name) = name.consumed
 -- the numbers of the events that a run binds to consumed names
 abbrev pub used : Plan → Run → List ℕ
 used q r = map (λ pair. pair.number) (filter (λ pair. is_consumed (slice_get q.names pair.name)) r)
-
-abbrev pub is_among : List ℕ → ℕ → Bool
-is_among ns n = list_any (λ m. m == n) ns
 
 -- whether a run holds one of the numbers, under whatever name
 abbrev pub holds_one : List ℕ → Run → Bool

@@ -1,12 +1,13 @@
 -- The windows processed one after another: what is matched, and what is consumed.
 use Rattle.std.specs.Prelude.{ℕ, zero, suc, ◌+◌, Bool, false, not, List, [], ◌++◌, length, Option, Some, None, slice_get, ◌≡◌, filter, map}
 use Rattle.std.specs.List.{enumerate_from, flat_map}
+use Rattle.sp_base.specs.Numbers.{is_among}
 use Rattle.sp_plan.specs.declared.event.Event.{Event}
 use Rattle.sp_plan.specs.declared.plan.Plan.{Plan}
 use Rattle.sp_plan.specs.declared.found.Match.{Match}
 use Rattle.sp_plan.specs.Windows.{Numbered, Window, IsWindowed, windows, closed, events_of}
 use Rattle.sp_plan.specs.Events.{AllFit, NeverGoesBack}
-use Rattle.sp_plan.specs.Runs.{Run, used, bindings, is_among, state, matched_runs}
+use Rattle.sp_plan.specs.Runs.{Run, used, bindings, state, matched_runs}
 
 -- the matches so far, and the numbers consumed
 pub record Progress : Type 0 where

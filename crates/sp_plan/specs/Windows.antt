@@ -2,6 +2,7 @@
 use Rattle.std.specs.Prelude.{ℕ, ℤ, pos, ◌+ℤ◌, ◌+◌, ◌-◌, ◌*ℤ◌, ◌<ℤ◌, ◌≤ℤ◌, ◌^◌, ◌<◌, ◌≤◌, ◌%◌, ◌/◌, Bool, true, ◌&&◌, ◌||◌, List, [], length, Option, Some, None, ◌==◌, nat_lt, nat_le, int_le, int_lt, unsigned_abs, filter, map, find}
 use Rattle.std.specs.List.{enumerate_from, range_with_len, filter_map, list_any, last_or}
 use Rattle.std.specs.Option.{option_map}
+use Rattle.sp_base.specs.Limits.{length_limit, step_limit}
 use Rattle.sp_plan.specs.declared.event.Event.{Event}
 use Rattle.sp_plan.specs.declared.plan.Plan.{Plan}
 use Rattle.sp_plan.specs.declared.plan.Length.{Length}
@@ -105,13 +106,13 @@ FewPerEvent size step = windows_per_event size step ≤ 64
 
 -- the numbers of a length keep their limits
 abbrev pub IsLength : Length → Type 0
-IsLength (Events n) = (0 < n) × (n ≤ 65536)
+IsLength (Events n) = (0 < n) × (n ≤ length_limit)
 IsLength (Time d) = (pos 0 <ℤ d) × (d ≤ℤ pos (10 ^ 15))
 
 -- a step in events keeps its limits
 abbrev pub IsStepInEvents : Length → ℕ → Type 0
-IsStepInEvents (Events n) s = (0 < s) × (s ≤ 1048576) × FewPerEvent n s
-IsStepInEvents (Time d) s = (0 < s) × (s ≤ 1048576)
+IsStepInEvents (Events n) s = (0 < s) × (s ≤ step_limit) × FewPerEvent n s
+IsStepInEvents (Time d) s = (0 < s) × (s ≤ step_limit)
 
 -- a step in time keeps its limits, and goes with a length in time
 abbrev pub IsStepInTime : Length → ℤ → Type 0

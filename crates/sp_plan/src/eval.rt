@@ -1,5 +1,6 @@
 // What expressions come to, and whether predicates hold.
 ghost use Rattle.std.specs.Prelude.{◌≡◌, ◌≤◌, ◌+◌, ◌*◌, ◌^◌, ◌+ℤ◌, ◌*ℤ◌, neg_ℤ, pos, unsigned_abs, ◌<◌, IfSome};
+ghost use Rattle.sp_base.specs.Limits.{number_limit};
 ghost use Rattle.sp_plan.specs.Values;
 ghost use Rattle.sp_plan.specs.Values.{BoundEvents, column_of, earlier_column, last_bound};
 ghost use Rattle.sp_plan.specs.Bounds as b;
@@ -57,7 +58,7 @@ fn power_of_ten(by: u8) -> i128
 #[inline(always)]
 fn column_value(event: &Event, column: u16) -> i64
     ensures value { result ≡ column_of column event.now }
-    ensures small { b.IsSmall event.now → unsigned_abs result ≤ 1000000000000000 }
+    ensures small { b.IsSmall event.now → unsigned_abs result ≤ number_limit }
 {
     match event.values.get(column as usize) {
         Some(Value::Number(n)) => n,
@@ -70,7 +71,7 @@ fn column_value(event: &Event, column: u16) -> i64
 #[inline(always)]
 fn earlier_value(bound: &Bound, name: u8, column: u16) -> i64
     ensures value { result ≡ earlier_column (last_bound name bound.now) column }
-    ensures small { b.AllSmall bound.now → unsigned_abs result ≤ 1000000000000000 }
+    ensures small { b.AllSmall bound.now → unsigned_abs result ≤ number_limit }
 {
     match bound.get(name) {
         Some(event) => column_value(event, column),

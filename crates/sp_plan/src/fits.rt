@@ -4,9 +4,10 @@ ghost use Rattle.std.specs.List.{list_all, zip};
 ghost use Rattle.sp_plan.specs.Events.{fits, fits_kind, fits_column};
 
 use crate::{Column, Event, Kind, Plan, Value};
+use sp_base::limits::NUMBER_LIMIT;
 
 // The greatest magnitude of a number of the input, and the last time.
-const GREATEST: i64 = 1_000_000_000_000_000;
+const GREATEST: i64 = NUMBER_LIMIT as i64;
 
 fn fits_kind(kind: Kind, value: Value) -> bool
     ensures { result ≡ fits_kind kind value }

@@ -30,4 +30,4 @@ pub use plan::{
     Column, Compare, Element, Expr, Kind, Length, Name, Opening, Plan, Pred, Schema, Select,
 };
 pub use shared::SharedEvent;
-pub use sp_text::{Listed, Memory, Text};
+pub use sp_base::{Listed, Memory, Text};

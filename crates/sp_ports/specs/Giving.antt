@@ -1,5 +1,6 @@
 -- What an intake gives: events that fit a plan and never go back in time, up to an end or a stop.
 use Rattle.std.specs.Prelude.{◌≤◌, List, [], ◌∷◌, length}
+use Rattle.sp_base.specs.Limits.{event_limit}
 use Rattle.sp_plan.specs.declared.event.Event.{Event}
 use Rattle.sp_plan.specs.declared.plan.Plan.{Plan}
 use Rattle.sp_plan.specs.WindowNumbers.{Good}
@@ -16,4 +17,4 @@ given_by next.Memory = []
 -- events that an engine takes: they fit the plan, their times never go back, and there are at most 1,048,576
 pub record AreGood (q : Plan) (events : List Event) : Type 0 where
   pub good : Good q events
-  pub few : length events ≤ 1048576
+  pub few : length events ≤ event_limit

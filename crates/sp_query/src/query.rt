@@ -1,7 +1,7 @@
 // A query as its text has it.
 use crate::Tree;
+use sp_base::Text;
 use sp_lex::{Span, Word};
-use sp_text::Text;
 use sqlite_items::Items;
 
 /// A name and where it stands.

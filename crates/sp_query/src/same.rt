@@ -3,8 +3,8 @@ ghost use Rattle.std.specs.Prelude.{◌≡◌, ◌↔◌, IsTrue};
 ghost use Rattle.sp_query.specs.Same.{Pairwise, SameTrees, SameTree, SameIdent, SameTime, SameColumn, SameElement, SameDefinition, SameOpening, SameConsume, SameLength, Same};
 
 use crate::{Ident, Node, Query, QueryColumn, QueryConsume, QueryElement, QueryOpening, Tree};
+use sp_base::Text;
 use sp_lex::{Span, Word};
-use sp_text::Text;
 
 // Whether two texts are one.
 fn same_text(x: &Text, y: &Text) -> bool

@@ -1,7 +1,7 @@
 // Expressions and predicates as a query's text has them.
+use sp_base::Text;
 use sp_lex::Span;
 use sp_plan::Compare;
-use sp_text::Text;
 use sqlite_items::Items;
 
 /// What a tree is at its root. An operator's operands are the parts of its tree, in their order.

@@ -8,6 +8,7 @@ use Rattle.std.proofs.lemmas.Bool.{and_parts}
 use Rattle.std.proofs.lemmas.Bool.Decides.{nat_tests}
 use Rattle.std.proofs.lemmas.List.{reverse-append, reverse-reverse}
 use Rattle.std.proofs.lemmas.List.Folds.{list_all-append}
+use Rattle.sp_base.specs.Limits.{number_limit}
 use Rattle.sp_rows.specs.Numbers.{is_blank, is_digit, are_digits, digits_value, decimals_to, without_front, trimmed, within_bound, unsigned, signed, number_of}
 use Rattle.sp_rows.specs.Capped.{with_more}
 use Rattle.sp_rows.proofs.Points.{whole_number}
@@ -18,7 +19,7 @@ few_below value count most below few =
     let most_is : 10 ^ count ≤ 10 ^ most = pow-le-pow_right (omega arith) few in
     omega arith
 
-pub few_fits : (value count : ℕ) → value < 10 ^ count → count ≤ 15 → value ≤ 1000000000000000
+pub few_fits : (value count : ℕ) → value < 10 ^ count → count ≤ 15 → value ≤ number_limit
 few_fits value count below few = let at : value < 10 ^ 15 = few_below value count 15 below few in omega arith
 
 pub one_more_fits : (value count : ℕ) → value < 10 ^ count → count < 15 → value < 100000000000000
@@ -61,15 +62,15 @@ unsigned_same (b ∷ bs) all some =
     let both = and_parts (is_digit b) (list_all is_digit bs) all in
     rw (digit_no_plus b both.0, digit_no_minus b both.0) refl
 
-small_value : (n : ℕ) → n ≤ 1000000000000000 → within_bound (with_more (with_more n []) (decimals_to 0 [])) ≡ Some n
+small_value : (n : ℕ) → n ≤ number_limit → within_bound (with_more (with_more n []) (decimals_to 0 [])) ≡ Some n
 small_value n small = grind (arith, nat_tests)
 
 -- the number that they write
-pub few_write : (cell : List ℕ) (value : ℕ) → are_digits cell ≡ true → value ≡ digits_value cell → value ≤ 1000000000000000 → Some (pos value) ≡ number_of 0 cell
+pub few_write : (cell : List ℕ) (value : ℕ) → are_digits cell ≡ true → value ≡ digits_value cell → value ≤ number_limit → Some (pos value) ≡ number_of 0 cell
 few_write cell value are is small =
     let both = and_parts (nat_lt 0 (length cell)) (list_all is_digit cell) are in
     let some : 0 < length cell = grind (arith, nat_tests, both.0) in
-    let low : digits_value cell ≤ 1000000000000000 = omega (arith, is) in
+    let low : digits_value cell ≤ number_limit = omega (arith, is) in
     let units : unsigned 0 cell ≡ Some (digits_value cell) = sym (whole_number 0 cell (with_more 0 cell) are refl) ∙ small_value (digits_value cell) low in
     ap (λ (n : ℕ). Some (pos n)) is
     ∙ ap (option_map pos) (sym units)

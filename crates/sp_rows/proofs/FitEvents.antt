@@ -5,6 +5,7 @@ use Rattle.std.specs.List.{list_all, zip, enumerate_from, filter_map}
 use Rattle.std.specs.Str.{is_utf8}
 use Rattle.std.proofs.lemmas.Bool.Decides.{nat_tests}
 use Rattle.std.proofs.lemmas.Int.{ints}
+use Rattle.sp_base.specs.Limits.{number_limit}
 use Rattle.sp_plan.specs.Compiled.{IsTimeOf}
 use Rattle.sp_plan.specs.Events.{fits, fits_kind, fits_column}
 use Rattle.sp_plan.specs.declared.event.Value.{Value}
@@ -44,7 +45,7 @@ cell_choice : (kind : Kind) (b : Bool) (x y : Cell) → FitsCell kind x → Fits
 cell_choice kind true x y first second = first
 cell_choice kind false x y first second = second
 
-small_fits : (n : ℤ) → unsigned_abs n ≤ 1000000000000000 → nat_le (unsigned_abs n) 1000000000000000 ≡ true
+small_fits : (n : ℤ) → unsigned_abs n ≤ number_limit → nat_le (unsigned_abs n) number_limit ≡ true
 small_fits n small = grind (arith, nat_tests)
 
 whole_fits : (o : Option ℤ) → AreSmall o → FitsCell Int (or_bad o)
@@ -133,7 +134,7 @@ values_fit cells (q ∷ qs) (c ∷ cs) so_far same none = by_cell (cell_in cells
 
 -- a time is from 0 to 10^15
 abbrev InTime : ℤ → Type 0
-InTime t = (pos 0 ≤ℤ t) × (t ≤ℤ pos 1000000000000000)
+InTime t = (pos 0 ≤ℤ t) × (t ≤ℤ pos number_limit)
 
 abbrev AreWhole : List ColumnAt → Type 0
 AreWhole [] = Unit {0}
@@ -215,7 +216,7 @@ module _ (q : Plan) (timed : IsTimeOf q.schema.columns q.schema.time) where
       let f = values_fit cells q.schema.columns (columns_at q places) ([], texts) (at_kinds 0 q.schema.columns places same) none in
       let t = time_fits cells (columns_at q places) (at_whole 0 q.schema.columns places (λ j. ap (slice_get q.schema.columns) (zero_more j))) in
       let low : int_le (pos 0) (time_of cells (columns_at q places)) ≡ true = grind (arith, ints) in
-      let high : int_le (time_of cells (columns_at q places)) (pos 1000000000000000) ≡ true = grind (arith, ints) in
+      let high : int_le (time_of cells (columns_at q places)) (pos number_limit) ≡ true = grind (arith, ints) in
       let size : (length q.schema.columns == length f.own) ≡ true = grind (arith, nat_tests) in
       rw (f.is, low, high, size, f.fit) refl
     where

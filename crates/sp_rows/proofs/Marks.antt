@@ -5,7 +5,8 @@ use Rattle.std.proofs.lemmas.Slice.Eq.{bytes_eq-Decides}
 use Rattle.std.proofs.lemmas.Bool.{cases_Bool}
 use Rattle.csv.specs.Machine.{next_record}
 use Rattle.csv.specs.Reading.{strip_bom}
-use Rattle.sp_rows.specs.Cells.{is_mark, without_some, without_marks, row_cells, blank}
+use Rattle.sp_base.specs.Marks.{is_mark}
+use Rattle.sp_rows.specs.Cells.{without_some, without_marks, row_cells, blank}
 
 -- bytes that begin with a mark are three or more
 pub mark_long : (bytes : List ℕ) → is_mark (take 3 bytes) ≡ true → 3 ≤ length bytes

@@ -12,7 +12,8 @@ use Rattle.csv.specs.declared.parser.State.{State}
 use Rattle.csv.specs.declared.parser.State.TheVariants as st
 use Rattle.csv.specs.declared.parser.Action.{Action}
 use Rattle.csv.specs.declared.parser.Action.TheVariants as act
-use Rattle.sp_rows.specs.Cells.{after_first, one, is_mark, without_marks, row_cells}
+use Rattle.sp_base.specs.Marks.{is_mark}
+use Rattle.sp_rows.specs.Cells.{after_first, one, without_marks, row_cells}
 use Rattle.sp_rows.specs.Plain.{is_break, HasNoBreak, cut}
 
 -- a byte that joins the field at hand

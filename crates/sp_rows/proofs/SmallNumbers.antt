@@ -4,16 +4,17 @@ use Rattle.std.specs.Prelude.{nat_le, unsigned_abs, ◌==◌, if◌then◌else�
 use Rattle.std.specs.List.{list_all, slice_split}
 use Rattle.std.specs.Option.{option_map}
 use Rattle.std.proofs.lemmas.Bool.Decides.{nat_tests}
+use Rattle.sp_base.specs.Limits.{number_limit}
 use Rattle.sp_rows.specs.Numbers.{decimals_to, digits_value, are_digits, within_bound, units_of, unsigned, signed, number_of, trimmed}
 
 -- the units, where there are some, are within the bound
 abbrev AreWithin : Option ℕ → Type 0
-AreWithin (Some n) = n ≤ 1000000000000000
+AreWithin (Some n) = n ≤ number_limit
 AreWithin None = Unit {0}
 
 -- the same of units with a sign
 abbrev pub AreSmall : Option ℤ → Type 0
-AreSmall (Some n) = unsigned_abs n ≤ 1000000000000000
+AreSmall (Some n) = unsigned_abs n ≤ number_limit
 AreSmall None = Unit {0}
 
 within_choice : (b : Bool) (o : Option ℕ) → (b ≡ true → AreWithin o) → AreWithin (if b then o else None)
@@ -21,7 +22,7 @@ within_choice true o inside = inside refl
 within_choice false o inside = tt
 
 bound_kept : (n : ℕ) → AreWithin (within_bound n)
-bound_kept n = within_choice (nat_le n 1000000000000000) (Some n) (λ is. grind (arith, nat_tests))
+bound_kept n = within_choice (nat_le n number_limit) (Some n) (λ is. grind (arith, nat_tests))
 
 units_within : (scale : ℕ) (parts : List (List ℕ)) → AreWithin (units_of scale parts)
 units_within scale [] = tt

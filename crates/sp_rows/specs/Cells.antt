@@ -1,9 +1,9 @@
 -- The cells of a row, as the crate csv reads them.
-use Rattle.std.specs.Prelude.{ℕ, zero, suc, Bool, List, [], ◌∷◌, length, take, drop, Option, Some, None, if◌then◌else◌}
-use Rattle.std.specs.Str.{bytes_eq}
+use Rattle.std.specs.Prelude.{ℕ, zero, suc, List, [], length, take, drop, Option, Some, None, if◌then◌else◌}
 use Rattle.csv.specs.Machine.{next_record, Read}
 use Rattle.csv.specs.Reading.{default_config, strip_bom}
 use Rattle.csv.specs.declared.parser.State.TheVariants as st
+use Rattle.sp_base.specs.Marks.{is_mark}
 
 -- a row is blank, has cells, or reads as more than one record
 pub data RowCells : Type 0 where
@@ -18,10 +18,6 @@ after_second cells (Some more) = several
 abbrev pub after_first : Option Read → RowCells
 after_first None = blank
 after_first (Some record_read) = after_second record_read.0 (next_record default_config record_read.1 [] [] record_read.2)
-
--- the three bytes of a byte order mark
-abbrev pub is_mark : List ℕ → Bool
-is_mark front = bytes_eq front (239 ∷ 187 ∷ 191 ∷ [])
 
 -- bytes without the byte order marks at their start, at most n of them
 abbrev pub without_some : ℕ → List ℕ → List ℕ

@@ -2,6 +2,7 @@
 use Rattle.std.specs.Prelude.{ℕ, ℤ, pos, neg_ℤ, ◌+◌, ◌-◌, ◌*◌, Bool, ◌&&◌, ◌||◌, List, [], ◌∷◌, ◌++◌, length, take, drop, reverse, replicate, Option, Some, None, ◌==◌, nat_lt, nat_le, if◌then◌else◌}
 use Rattle.std.specs.List.{fold, list_all, slice_split, prefix_len}
 use Rattle.std.specs.Option.{option_map}
+use Rattle.sp_base.specs.Limits.{number_limit}
 
 abbrev pub is_blank : ℕ → Bool
 is_blank b = b == 32 || b == 9
@@ -31,7 +32,7 @@ decimals_to scale decimals = take scale (decimals ++ replicate scale 48)
 
 -- at most 10 to the power of 15
 abbrev pub within_bound : ℕ → Option ℕ
-within_bound n = if nat_le n 1000000000000000 then Some n else None
+within_bound n = if nat_le n number_limit then Some n else None
 
 -- the units of a number of this scale that has these digits and decimals; decimals past the scale must be zeros
 abbrev pub units_of : ℕ → List (List ℕ) → Option ℕ

@@ -1,5 +1,6 @@
 // The cells of a row, cut at its commas or read byte by byte.
 ghost use Rattle.std.specs.Prelude.{◌≡◌, ◌<◌, ◌≤◌, true, false, take, drop, length, IfOk, IfSome};
+ghost use Rattle.sp_base.specs.Marks.{is_mark};
 ghost use Rattle.sp_rows.specs.Cells as rows;
 ghost use Rattle.sp_rows.specs.Plain.{pieces};
 ghost use Rattle.sp_rows.specs.Shapes.{read_as, shape_of};
@@ -21,7 +22,7 @@ const MARK: &[u8] = b"\xef\xbb\xbf";
 
 // Whether the bytes begin with a byte order mark.
 fn is_marked(bytes: &[u8]) -> bool
-    ensures mark { result ≡ rows.is_mark (take 3 bytes.now) }
+    ensures mark { result ≡ is_mark (take 3 bytes.now) }
     ensures long { result ≡ true → 3 ≤ length bytes.now }
 {
     bytes.starts_with(MARK)
@@ -39,7 +40,7 @@ fn behind_mark(bytes: &[u8]) -> &[u8]
 // The bytes without the byte order marks at their start.
 fn without_marks(row: &[u8]) -> &[u8]
     ensures rest { result.now ≡ rows.without_marks row.now }
-    ensures unmarked { rows.is_mark (take 3 result.now) ≡ false }
+    ensures unmarked { is_mark (take 3 result.now) ≡ false }
 {
     let mut rest = row;
     while is_marked(rest) {

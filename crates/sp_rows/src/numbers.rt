@@ -2,11 +2,11 @@
 ghost use Rattle.std.specs.Prelude.{◌≡◌, ℕ, List, ◌<◌, ◌≤◌, ◌^◌, ◌≢◌, ◌∷◌, true, false, ◌++◌, ◌==◌, ◌-◌, IfSome, IfNone, length, take, drop, pos, neg_ℤ, [], slice_index_or};
 ghost use Rattle.std.specs.List.{list_all, suffix_len, All};
 ghost use Rattle.std.specs.Option.{option_map, ForSome};
+ghost use Rattle.sp_base.specs.Limits.{past_number_limit, number_limit};
 ghost use Rattle.sp_rows.specs.Numbers;
 ghost use Rattle.sp_rows.specs.Capped.{with_digit, capped, with_more};
 
-// The largest number of units, 10^15.
-const BOUND: u64 = 1_000_000_000_000_000;
+use sp_base::limits::NUMBER_LIMIT;
 
 // So many digits write no number past the bound.
 const FEW: usize = 15;
@@ -74,16 +74,16 @@ fn are_zeros(digits: &[u8]) -> bool
 
 // The number with one more digit, or the first past the bound.
 fn with_digit(value: u64, digit: u8) -> u64
-    requires { value ≤ 1000000000000001 }
+    requires { value ≤ past_number_limit }
     ensures { result ≡ capped (with_digit value digit) }
 {
-    (value * 10 + u64::from(digit.saturating_sub(b'0'))).min(BOUND + 1)
+    (value * 10 + u64::from(digit.saturating_sub(b'0'))).min(NUMBER_LIMIT + 1)
 }
 
 // The digits at the front: the number that they write, or the first past the bound, and how many they are.
 fn leading(digits: &[u8]) -> (u64, usize)
     ensures value { result.0 ≡ with_more 0 (take result.1 digits.now) }
-    ensures small { result.0 ≤ 1000000000000001 }
+    ensures small { result.0 ≤ past_number_limit }
     ensures within { result.1 ≤ length digits.now }
     ensures digits { list_all Numbers.is_digit (take result.1 digits.now) ≡ true }
     ensures ends { result.1 < length digits.now
@@ -111,7 +111,7 @@ fn decimal_at(decimals: &[u8], place: usize) -> u8
 
 // The number with as many decimals as the scale has, or the first past the bound.
 fn with_decimals(whole: u64, scale: u8, decimals: &[u8]) -> u64
-    requires { whole ≤ 1000000000000001 }
+    requires { whole ≤ past_number_limit }
     ensures { result ≡ with_more whole (Numbers.decimals_to scale decimals.now) }
 {
     let mut value = whole;
@@ -132,18 +132,22 @@ fn past_scale(scale: u8, decimals: &[u8]) -> &[u8]
 // The number, where it is within the bound.
 fn within_bound(value: u64) -> Option<u64>
     ensures value { result ≡ Numbers.within_bound value }
-    ensures below { ForSome result (λ n. n ≤ 1000000000000000) }
+    ensures below { ForSome result (λ n. n ≤ number_limit) }
 {
-    if value <= BOUND { Some(value) } else { None }
+    if value <= NUMBER_LIMIT {
+        Some(value)
+    } else {
+        None
+    }
 }
 
 // The units of a number with decimals, whose digits before the point write this number.
 fn decimal_units(scale: u8, whole: u64, decimals: &[u8]) -> Option<u64>
-    requires { whole ≤ 1000000000000001 }
+    requires { whole ≤ past_number_limit }
     ensures units { (digits : List ℕ) → Numbers.are_digits digits ≡ true
         → whole ≡ with_more 0 digits
         → result ≡ Numbers.units_of scale (digits ∷ decimals.now ∷ []) }
-    ensures below { ForSome result (λ n. n ≤ 1000000000000000) }
+    ensures below { ForSome result (λ n. n ≤ number_limit) }
 {
     if !are_digits(decimals) || !are_zeros(past_scale(scale, decimals)) {
         return None;
@@ -154,7 +158,7 @@ fn decimal_units(scale: u8, whole: u64, decimals: &[u8]) -> Option<u64>
 // The units without a sign before them.
 fn unsigned(scale: u8, digits: &[u8]) -> Option<u64>
     ensures units { result ≡ Numbers.unsigned scale digits.now }
-    ensures below { ForSome result (λ n. n ≤ 1000000000000000) }
+    ensures below { ForSome result (λ n. n ≤ number_limit) }
 {
     let (value, count) = leading(digits);
     if count == 0 {
@@ -171,7 +175,7 @@ fn unsigned(scale: u8, digits: &[u8]) -> Option<u64>
 
 // A number of units as the value of a cell.
 fn as_value(units: Option<u64>) -> Option<i64>
-    requires { ForSome units (λ n. n ≤ 1000000000000000) }
+    requires { ForSome units (λ n. n ≤ number_limit) }
     ensures { result ≡ option_map pos units }
 {
     match units {
@@ -182,7 +186,7 @@ fn as_value(units: Option<u64>) -> Option<i64>
 
 // A number of units below 0 as the value of a cell.
 fn as_negative(units: Option<u64>) -> Option<i64>
-    requires { ForSome units (λ n. n ≤ 1000000000000000) }
+    requires { ForSome units (λ n. n ≤ number_limit) }
     ensures { result ≡ option_map (λ n. neg_ℤ (pos n)) units }
 {
     match units {
@@ -207,7 +211,7 @@ fn signed(scale: u8, cell: &[u8]) -> Option<i64>
 fn few_digits(cell: &[u8]) -> Option<u64>
     ensures digits { IfSome result (λ n. Numbers.are_digits cell.now ≡ true) }
     ensures value { IfSome result (λ n. n ≡ Numbers.digits_value cell.now) }
-    ensures below { IfSome result (λ n. n ≤ 1000000000000000) }
+    ensures below { IfSome result (λ n. n ≤ number_limit) }
 {
     if cell.is_empty() || cell.len() > FEW {
         return None;

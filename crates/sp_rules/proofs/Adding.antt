@@ -4,8 +4,9 @@ use Rattle.std.specs.List.{flat_map}
 use Rattle.std.proofs.lemmas.List.{append-nil, length-append, map-append}
 use Rattle.std.proofs.lemmas.List.Concat.{flat_map-append}
 use Rattle.std.proofs.lemmas.List.Elements.{filter-append}
+use Rattle.sp_base.specs.Numbers.{is_among}
 use Rattle.sp_plan.specs.declared.plan.Plan.{Plan}
-use Rattle.sp_plan.specs.Runs.{Run, Started, State, is_among, used}
+use Rattle.sp_plan.specs.Runs.{Run, Started, State, used}
 use Rattle.sp_plan.specs.Moves.{is_run, pairs_of}
 use Rattle.sp_match.specs.public.Laws.{Sound, Leads}
 use Rattle.sp_group.specs.Rising.{has_number}

@@ -1,6 +1,7 @@
 -- Live versions are at most as many as the bound, and a step is refused as full exactly where a child that could be spawned is, at the bound.
 use Rattle.std.proofs.Common.{◌≡◌, ℕ, suc, ◌+◌, ◌<◌, ◌≤◌, Bool, true, false, cond, not, ◌&&◌, ◌==◌, nat_lt, nat_le, List, [], ◌∷◌, length, find, Option, Some, None, is_some, refl, sym, ap, ◌∙◌, subst, arith}
 use Rattle.std.proofs.lemmas.Bool.Decides.{nat_tests}
+use Rattle.sp_base.specs.Limits.{event_limit}
 use Rattle.sp_plan.specs.declared.plan.Plan.{Plan}
 use Rattle.sp_plan.specs.Runs.{State}
 use Rattle.sp_plan.specs.WindowNumbers.{count}
@@ -10,7 +11,7 @@ use Rattle.sp_group.specs.declared.step.Step.{Step}
 use Rattle.sp_group.specs.declared.step.Step.TheVariants as s
 use Rattle.sp_group.specs.Family.{is_parent, parent_there, kept, prune}
 use Rattle.sp_group.specs.Machine.{Version, Ticket, Machine, kin, version_at, ticket_at, out_for, root_in, is_group, conflict, inner}
-use Rattle.sp_group.specs.Refusing.{refuse_if, refuse_for, event_limit, id_of, same_list, child_with, not_open, has_nothing_to_read, is_read_whole, child_refusal, lease_refusal, event_refusal, return_refusal, roll_refusal, finish_refusal, refusal}
+use Rattle.sp_group.specs.Refusing.{refuse_if, refuse_for, id_of, same_list, child_with, not_open, has_nothing_to_read, is_read_whole, child_refusal, lease_refusal, event_refusal, return_refusal, roll_refusal, finish_refusal, refusal}
 use Rattle.sp_group.specs.Effects.{child_spawned, leased, after_ticket, after_reading, but, home, returned, rolled, promoted, popped, settled, finished_one, effect}
 use Rattle.sp_group.specs.Steps.{unless_refused, step, steps}
 use Rattle.sp_rules.specs.Kept.{Shape, Sane, Kept}

@@ -5,9 +5,11 @@ use Rattle.std.proofs.lemmas.Bool.Decides.{nat_tests}
 use Rattle.std.proofs.lemmas.List.{append-nil}
 use Rattle.std.proofs.lemmas.List.Elements.{All-filter, All-map}
 use Rattle.std.proofs.lemmas.List.Kept.{IsStrictlyIncreasing-filter}
+use Rattle.sp_base.proofs.RisingLists.{Rises, rises, rising_same}
+use Rattle.sp_base.specs.Numbers.{is_among}
 use Rattle.sp_plan.specs.declared.event.Event.{Event}
 use Rattle.sp_plan.specs.declared.plan.Plan.{Plan}
-use Rattle.sp_plan.specs.Runs.{Started, State, is_among, used, after_closing}
+use Rattle.sp_plan.specs.Runs.{Started, State, used, after_closing}
 use Rattle.sp_plan.specs.Moves.{is_run, pairs_of}
 use Rattle.sp_plan.specs.Reading.{reading}
 use Rattle.sp_plan.specs.WindowNumbers.{first}
@@ -25,7 +27,6 @@ use Rattle.sp_rules.specs.ComingHome.{IsComingHome, come_home}
 use Rattle.sp_rules.specs.ByGroups.{using_runs, grouped, HasGroups, VersionHasGroups, outcome_in, ended, AreToDecide, child_of_decided, after_decisions, IsByGroups}
 use Rattle.sp_rules.proofs.Facts.{ReadsOn, facts, group_open, spent_matched}
 use Rattle.sp_rules.proofs.Lists.{or_right, and_left, and_both, same_bool, absent, not_true, mem_filter, filter_mem, all_mem}
-use Rattle.sp_rules.proofs.RisingLists.{Rises, rises, rising_same}
 use Rattle.sp_rules.proofs.Labels.{foresees, child_is, names_it, member_fate}
 use Rattle.sp_rules.proofs.Tree.{at_id, at_head, Each, each_tail, parent_is}
 use Rattle.sp_rules.proofs.Home.{home_leads}

@@ -1,18 +1,18 @@
 -- What a ticket lends, read on from the version's runs.
 use Rattle.std.proofs.Common.{◌≡◌, ℕ, zero, suc, ◌+◌, ◌-◌, ◌<◌, ◌≤◌, Bool, true, cond, ◌||◌, nat_lt, List, [], ◌∷◌, take, drop, filter, Option, ⊎_elim, refl, sym, ap, ◌∙◌, arith}
 use Rattle.std.specs.Prelude.{slice_get}
+use Rattle.sp_base.proofs.RisingLists.{mem_left, mem_right, mem_cases}
+use Rattle.sp_base.specs.Numbers.{is_among, with_numbers}
 use Rattle.sp_plan.specs.declared.event.Event.{Event}
 use Rattle.sp_plan.specs.declared.plan.Plan.{Plan}
-use Rattle.sp_plan.specs.Runs.{State, is_among, after_closing}
+use Rattle.sp_plan.specs.Runs.{State, after_closing}
 use Rattle.sp_plan.specs.Reading.{event_of, after_event, reading}
 use Rattle.sp_plan.specs.WindowNumbers.{first}
-use Rattle.sp_group.specs.Rising.{with_numbers}
 use Rattle.sp_group.specs.Machine.{Version, Ticket, Machine, inner, is_suppressed}
 use Rattle.sp_rules.specs.Kept.{Lent}
 use Rattle.sp_rules.specs.Lawful.{Lawful}
 use Rattle.sp_rules.specs.ComingHome.{IsComingHome, FollowLent, come_home, events_lent}
 use Rattle.sp_rules.proofs.Lists.{same_bool, lt_is, mem_filter, filter_mem}
-use Rattle.sp_rules.proofs.RisingLists.{mem_left, mem_right, mem_cases}
 use Rattle.sp_rules.proofs.Tree.{at_id}
 
 get_behind : {X : Type 0} (j : ℕ) (xs : List X) (i : ℕ) → slice_get (drop j xs) i ≡ slice_get xs (j + i)

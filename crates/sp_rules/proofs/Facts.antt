@@ -1,8 +1,9 @@
 -- What the laws of the matcher and of the windows come to, in the words of the machine.
 use Rattle.std.proofs.Common.{◌≡◌, ℕ, suc, ◌+◌, ◌<◌, ◌≤◌, Bool, true, false, List, [], ◌∷◌, ◌++◌, length, arith}
+use Rattle.sp_base.specs.Numbers.{is_among}
 use Rattle.sp_plan.specs.declared.event.Event.{Event}
 use Rattle.sp_plan.specs.declared.plan.Plan.{Plan}
-use Rattle.sp_plan.specs.Runs.{State, is_among, after_closing, matched_runs}
+use Rattle.sp_plan.specs.Runs.{State, after_closing, matched_runs}
 use Rattle.sp_plan.specs.Reading.{reading}
 use Rattle.sp_plan.specs.Sequential.{seq, after_window}
 use Rattle.sp_plan.specs.Windows.{closed}

@@ -1,5 +1,6 @@
 -- Feeding an event, and the end of input, keep what every state keeps.
 use Rattle.std.proofs.Common.{◌≡◌, ℕ, ◌+◌, ◌≤◌, Bool, true, false, cond, List, [], ◌∷◌, ◌++◌, Some, refl, sym, ap, ◌∙◌, subst, arith}
+use Rattle.sp_base.specs.Numbers.{with_numbers}
 use Rattle.sp_plan.specs.declared.event.Event.{Event}
 use Rattle.sp_plan.specs.declared.plan.Plan.{Plan}
 use Rattle.sp_plan.specs.Runs.{State, after_closing}
@@ -7,7 +8,6 @@ use Rattle.sp_plan.specs.Reading.{reading}
 use Rattle.sp_plan.specs.Sequential.{Progress}
 use Rattle.sp_plan.specs.Windows.{closed}
 use Rattle.sp_plan.specs.WindowNumbers.{Good, count, size}
-use Rattle.sp_group.specs.Rising.{with_numbers}
 use Rattle.sp_group.specs.Machine.{Version, Machine, version_at, inner, suppressed_by, is_suppressed, is_hit}
 use Rattle.sp_rules.specs.Kept.{Local, Kept}
 use Rattle.sp_rules.proofs.Facts.{Facts}

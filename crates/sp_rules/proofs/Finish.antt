@@ -3,22 +3,23 @@ use Rattle.std.proofs.Common.{◌≡◌, ◌≢◌, ℕ, suc, ◌+◌, ◌<◌, 
 use Rattle.std.specs.Prelude.{⊤}
 use Rattle.std.specs.List.{enumerate_from}
 use Rattle.std.proofs.lemmas.Bool.Decides.{nat_tests}
+use Rattle.sp_base.proofs.RisingLists.{mem_left, mem_right, numbers_append, among_sorted}
+use Rattle.sp_base.specs.Numbers.{is_among, with_numbers}
 use Rattle.sp_plan.specs.declared.event.Event.{Event}
 use Rattle.sp_plan.specs.declared.found.Match.{Match}
 use Rattle.sp_plan.specs.declared.plan.Plan.{Plan}
-use Rattle.sp_plan.specs.Runs.{State, is_among, after_closing, matched_runs}
+use Rattle.sp_plan.specs.Runs.{State, after_closing, matched_runs}
 use Rattle.sp_plan.specs.Reading.{reading}
 use Rattle.sp_plan.specs.Sequential.{Progress, seq, match_of, after_window}
 use Rattle.sp_plan.specs.WindowNumbers.{first, size}
 use Rattle.sp_plan.specs.Groups.{used_by_all}
-use Rattle.sp_group.specs.Rising.{IsLabel, with_numbers}
+use Rattle.sp_group.specs.Rising.{IsLabel}
 use Rattle.sp_group.specs.Family.{is_parent, parent_there, prune}
 use Rattle.sp_group.specs.Machine.{Version, Machine, kin, version_at, root_in, is_bare, is_hit, conflict, inner, is_group, is_named, is_withheld, withheld_by, suppressed_below, suppressed_by, is_suppressed}
 use Rattle.sp_group.specs.Effects.{fresh, but, promoted, rolled, popped, settled, finished_one, new_matches}
 use Rattle.sp_rules.specs.Kept.{Child, Stands, Placed, Shape, Local, Sane, Kept}
 use Rattle.sp_rules.proofs.Facts.{Facts}
 use Rattle.sp_rules.proofs.Lists.{or_cases, or_left, or_right, same_bool, least_none}
-use Rattle.sp_rules.proofs.RisingLists.{mem_left, mem_right, among_sorted, numbers_append}
 use Rattle.sp_rules.proofs.Labels.{child_is, no_child, named_is}
 use Rattle.sp_rules.proofs.Tree.{Names, at_cases, at_some, Pruned, none, goes, stays, prune_is, from_id, parent_is, supp_head, supp_later}
 use Rattle.sp_rules.proofs.Locals.{local_grows, root_last, root_is, rootless, root_supp}

@@ -1,19 +1,19 @@
 -- The return of a live version's ticket keeps what is kept.
 use Rattle.std.proofs.Common.{◌≡◌, ℕ, ◌+◌, ◌<◌, ◌≤◌, ◌⊎◌, Bool, true, false, cond, not, ◌&&◌, ◌||◌, nat_lt, nat_le, List, filter, Option, Some, None, inl, inr, ⊎_elim, refl, sym, ap, ◌∙◌, subst, arith}
+use Rattle.sp_base.proofs.RisingLists.{mem_left, mem_right, mem_cases, numbers_rise}
+use Rattle.sp_base.specs.Numbers.{is_among, with_numbers}
 use Rattle.sp_plan.specs.declared.event.Event.{Event}
 use Rattle.sp_plan.specs.declared.plan.Plan.{Plan}
-use Rattle.sp_plan.specs.Runs.{State, is_among, after_closing}
+use Rattle.sp_plan.specs.Runs.{State, after_closing}
 use Rattle.sp_plan.specs.Reading.{reading}
 use Rattle.sp_plan.specs.Windows.{closed}
 use Rattle.sp_plan.specs.WindowNumbers.{first, size}
-use Rattle.sp_group.specs.Rising.{with_numbers}
 use Rattle.sp_group.specs.Family.{prune}
 use Rattle.sp_group.specs.Machine.{Version, Ticket, Machine, kin, version_at, ticket_at, is_bare, is_hit, is_read, inner, is_group, suppressed_by, is_suppressed}
 use Rattle.sp_group.specs.Effects.{after_ticket, home, after_reading, without}
 use Rattle.sp_rules.specs.Kept.{Lent, Local, Kept}
 use Rattle.sp_rules.proofs.Facts.{ReadsOn, Facts}
 use Rattle.sp_rules.proofs.Lists.{or_cases, or_left, or_right, and_left, and_right, and_both, same_bool, absent, le_is, lt_is, le_true, lt_true, not_true, below_or, mem_filter, filter_mem}
-use Rattle.sp_rules.proofs.RisingLists.{mem_left, mem_right, mem_cases, numbers_rise}
 use Rattle.sp_rules.proofs.Tickets.{bare_at, without_at, without_out, without_bare, without_ordered}
 use Rattle.sp_rules.proofs.Labels.{Outcome, itself, child, other, outcome, reading_prunes}
 use Rattle.sp_rules.proofs.Tree.{at_id, Each, Pruned, prune_is, Prunes, from, prune_shape, prune_grows}

@@ -2,9 +2,11 @@
 use Rattle.std.proofs.Common.{◌≡◌, ◌≢◌, ℕ, ◌⊎◌, Bool, true, false, cond, not, ◌&&◌, ◌||◌, ◌==◌, List, [], ◌∷◌, filter, Option, Some, None, ⊎_elim, refl, sym, ap, ◌∙◌, subst, arith}
 use Rattle.std.specs.List.{flat_map, list_all}
 use Rattle.std.proofs.lemmas.Bool.Decides.{nat_tests}
+use Rattle.sp_base.proofs.RisingLists.{rising_same}
+use Rattle.sp_base.specs.Numbers.{is_among}
 use Rattle.sp_plan.specs.declared.event.Event.{Event}
 use Rattle.sp_plan.specs.declared.plan.Plan.{Plan}
-use Rattle.sp_plan.specs.Runs.{Started, State, is_among, used}
+use Rattle.sp_plan.specs.Runs.{Started, State, used}
 use Rattle.sp_plan.specs.Moves.{is_run, pairs_of}
 use Rattle.sp_plan.specs.Groups.{group, used_by_all}
 use Rattle.sp_group.specs.Rising.{IsLabel, has_number}
@@ -14,7 +16,7 @@ use Rattle.sp_group.specs.Effects.{is_newly_spent, names_completed, names_no_aba
 use Rattle.sp_rules.specs.Kept.{Shape}
 use Rattle.sp_rules.proofs.Facts.{ReadsOn}
 use Rattle.sp_rules.proofs.Lists.{or_cases, or_left, or_right, and_left, and_right, and_both, filter_mem, mem_filter, all_mem, split}
-use Rattle.sp_rules.proofs.RisingLists.{rising_same, label_filter}
+use Rattle.sp_rules.proofs.RisingLists.{label_filter}
 use Rattle.sp_rules.proofs.Tree.{Names, Prunes, parent_is}
 
 -- a label foresees what is decided on the way from the runs s to the runs t

@@ -1,8 +1,9 @@
 -- What a live version keeps where little changes.
 use Rattle.std.proofs.Common.{◌≡◌, ◌≢◌, ℕ, ◌+◌, ◌≤◌, Bool, true, false, cond, List, [], ◌∷◌, Option, Some, None, is_some, ⊎_elim, refl, sym, ap, ◌∙◌, subst, arith}
+use Rattle.sp_base.specs.Numbers.{is_among}
 use Rattle.sp_plan.specs.declared.event.Event.{Event}
 use Rattle.sp_plan.specs.declared.plan.Plan.{Plan}
-use Rattle.sp_plan.specs.Runs.{State, is_among}
+use Rattle.sp_plan.specs.Runs.{State}
 use Rattle.sp_plan.specs.WindowNumbers.{count}
 use Rattle.sp_group.specs.Machine.{Version, Ticket, version_at, ticket_at, is_out, root_in, is_group, is_withheld, withheld_by, suppressed_below, suppressed_by}
 use Rattle.sp_group.specs.Effects.{fresh}

@@ -7,8 +7,9 @@ use Rattle.std.proofs.lemmas.List.{map-append}
 use Rattle.std.proofs.lemmas.List.Concat.{flat_map-append}
 use Rattle.std.proofs.lemmas.List.Elements.{All-head, All-tail, filter-append}
 use Rattle.std.proofs.lemmas.List.Folds.{list_any-append}
+use Rattle.sp_base.specs.Numbers.{is_among}
 use Rattle.sp_plan.specs.declared.plan.Plan.{Plan}
-use Rattle.sp_plan.specs.Runs.{Pair, Run, Started, State, used, is_among, is_consumed}
+use Rattle.sp_plan.specs.Runs.{Pair, Run, Started, State, used, is_consumed}
 use Rattle.sp_plan.specs.Moves.{is_run, pairs_of}
 use Rattle.sp_match.specs.public.Laws.{Leads, is_matched, used_by_all}
 use Rattle.sp_rules.specs.Lawful.{NumbersAreLawful}

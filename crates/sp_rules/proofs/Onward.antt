@@ -1,8 +1,9 @@
 -- No step takes back of a version what it has read or skipped, that it is done, or what is suppressed for it.
 use Rattle.std.proofs.Common.{◌≡◌, ◌≢◌, ℕ, ◌+◌, ◌<◌, ◌≤◌, Bool, true, false, cond, not, nat_lt, List, [], ◌∷◌, ◌++◌, filter, Option, Some, None, is_some, ⊎_elim, refl, sym, ap, ◌∙◌, subst, arith}
+use Rattle.sp_base.proofs.RisingLists.{mem_left, mem_cases}
+use Rattle.sp_base.specs.Numbers.{is_among}
 use Rattle.sp_plan.specs.declared.event.Event.{Event}
 use Rattle.sp_plan.specs.declared.plan.Plan.{Plan}
-use Rattle.sp_plan.specs.Runs.{is_among}
 use Rattle.sp_plan.specs.WindowNumbers.{Good, first}
 use Rattle.sp_group.specs.declared.refusal.Refusal.{Refusal}
 use Rattle.sp_group.specs.declared.step.Step.{Step}
@@ -16,7 +17,6 @@ use Rattle.sp_rules.specs.Kept.{Lent, Sane, Kept}
 use Rattle.sp_rules.specs.Schedules.{FitsStep, TakesNothingBack, Onward}
 use Rattle.sp_rules.proofs.Facts.{Facts}
 use Rattle.sp_rules.proofs.Lists.{or_left, absent, mem_filter}
-use Rattle.sp_rules.proofs.RisingLists.{mem_left, mem_cases}
 use Rattle.sp_rules.proofs.Tree.{at_cases, at_id, supp_later, Each, Prunes, prune_is, from, prune_grows}
 use Rattle.sp_rules.proofs.Labels.{Outcome, itself, child, other, outcome}
 use Rattle.sp_rules.proofs.Locals.{supp_same}

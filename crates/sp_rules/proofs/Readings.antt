@@ -3,9 +3,10 @@ use Rattle.std.proofs.Common.{◌≡◌, ℕ, zero, suc, ◌+◌, ◌≤◌, ◌
 use Rattle.std.specs.List.{All}
 use Rattle.std.proofs.lemmas.List.Elements.{All-nil}
 use Rattle.std.proofs.lemmas.List.Sums.{fold-append}
+use Rattle.sp_base.specs.Numbers.{is_among}
 use Rattle.sp_plan.specs.declared.event.Event.{Event}
 use Rattle.sp_plan.specs.declared.plan.Plan.{Plan}
-use Rattle.sp_plan.specs.Runs.{Pair, Started, State, is_among, after_closing}
+use Rattle.sp_plan.specs.Runs.{Pair, Started, State, after_closing}
 use Rattle.sp_plan.specs.Moves.{Move, apply, apply_all, moves, closing}
 use Rattle.sp_plan.specs.Reading.{event_of, after_event, read_one, reading}
 use Rattle.sp_match.specs.public.Laws.{Sound, Leads, Below, RunsAreSound, HandlingIsLawful, SeveralAreLawful, MovesAreHandling, MovesLeadOn, ClosingEndsRuns, NumbersStayBelow}

@@ -1,7 +1,7 @@
 -- The list of tickets.
 use Rattle.std.proofs.Common.{◌≡◌, ◌≢◌, ℕ, ◌+◌, ◌<◌, ◌≤◌, ◌⊎◌, Bool, true, false, cond, not, ◌&&◌, ◌||◌, ◌==◌, nat_lt, nat_le, List, [], ◌∷◌, Some, None, ⊎_elim, refl, sym, ap, ◌∙◌, subst, arith}
 use Rattle.std.proofs.lemmas.Bool.Decides.{nat_tests}
-use Rattle.sp_plan.specs.Runs.{is_among}
+use Rattle.sp_base.specs.Numbers.{is_among}
 use Rattle.sp_group.specs.Machine.{Ticket, ticket_at, out_for, is_out, is_lent, is_bare}
 use Rattle.sp_group.specs.Effects.{without, read_on, read_if}
 use Rattle.sp_rules.specs.Kept.{NewestFirst}

@@ -1,8 +1,9 @@
 -- The list of versions: what stands below what, and what a prune keeps.
 use Rattle.std.proofs.Common.{◌≡◌, ◌≢◌, ℕ, ◌+◌, ◌<◌, ◌⊎◌, Bool, true, false, cond, ◌||◌, List, [], ◌∷◌, Option, Some, None, is_some, ⊎_elim, refl, sym, ap, ◌∙◌, subst, arith}
 use Rattle.std.proofs.lemmas.Bool.Decides.{nat_tests}
+use Rattle.sp_base.specs.Numbers.{is_among}
 use Rattle.sp_plan.specs.declared.plan.Plan.{Plan}
-use Rattle.sp_plan.specs.Runs.{State, is_among}
+use Rattle.sp_plan.specs.Runs.{State}
 use Rattle.sp_group.specs.Rising.{IsLabel}
 use Rattle.sp_group.specs.Family.{parent_there, kept, prune}
 use Rattle.sp_group.specs.Machine.{Version, kin, version_at, is_group, is_withheld, withheld_by, suppressed_below, suppressed_by}

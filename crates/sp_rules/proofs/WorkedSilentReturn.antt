@@ -4,6 +4,7 @@ use Rattle.std.proofs.Common.{◌≡◌, ◌≢◌, ℕ, pos, ◌<◌, ◌≤◌
 use Rattle.std.specs.Prelude.{codes, if◌then◌else◌}
 use Rattle.std.proofs.lemmas.Option.{same_Some}
 use Rattle.std.specs.List.{range_with_len}
+use Rattle.sp_base.specs.Numbers.{is_among, with_numbers}
 use Rattle.sp_plan.specs.declared.plan.Plan.{Plan}
 use Rattle.sp_plan.specs.declared.plan.Name.{Name}
 use Rattle.sp_plan.specs.declared.plan.Kind.TheVariants.{Int}
@@ -16,12 +17,11 @@ use Rattle.sp_plan.specs.declared.plan.Expr.{Literal, Column}
 use Rattle.sp_plan.specs.declared.plan.Pred.{Test}
 use Rattle.sp_plan.specs.declared.event.Event.{Event}
 use Rattle.sp_plan.specs.declared.event.Value.TheVariants.{Number}
-use Rattle.sp_plan.specs.Runs.{is_among}
 use Rattle.sp_plan.specs.WindowNumbers.{first}
 use Rattle.sp_group.specs.declared.step.Step.{Step}
 use Rattle.sp_group.specs.declared.step.Step.TheVariants as s
 use Rattle.sp_group.specs.Family.{prune}
-use Rattle.sp_group.specs.Rising.{has_number, with_numbers}
+use Rattle.sp_group.specs.Rising.{has_number}
 use Rattle.sp_group.specs.Machine.{Version, Ticket, Machine, kin, opening, version_at, is_read, is_hit, is_suppressed}
 use Rattle.sp_group.specs.Steps.{step, steps}
 use Rattle.sp_rules.specs.Schedules.{Onward}

@@ -1,9 +1,10 @@
 -- Where the reading of what a ticket lends leads: to the runs of its version, once that has read so far.
 use Rattle.std.specs.Prelude.{◌≡◌, ℕ, suc, ◌+◌, ◌-◌, Bool, List, Some, take, drop, slice_get, if◌then◌else◌}
+use Rattle.sp_base.specs.Numbers.{is_among}
 use Rattle.sp_plan.specs.declared.event.Event.{Event}
 use Rattle.sp_plan.specs.declared.plan.Plan.{Plan}
 use Rattle.sp_plan.specs.Compiled.{IsCompiled}
-use Rattle.sp_plan.specs.Runs.{State, is_among, after_closing}
+use Rattle.sp_plan.specs.Runs.{State, after_closing}
 use Rattle.sp_plan.specs.Reading.{after_event}
 use Rattle.sp_group.specs.Machine.{Version, Ticket, Machine, version_at, ticket_at, inner}
 use Rattle.sp_group.specs.Effects.{after_ticket}

@@ -1,13 +1,14 @@
 -- What every state of the machine keeps that steps lead to.
 use Rattle.std.specs.Prelude.{◌≡◌, ⊤, ℕ, ◌+◌, ◌<◌, ◌≤◌, Bool, true, false, List, [], ◌∷◌, Option, Some, None}
 use Rattle.std.specs.List.Sorted.{IsStrictlyIncreasing}
+use Rattle.sp_base.specs.Numbers.{is_among, with_numbers}
 use Rattle.sp_plan.specs.declared.event.Event.{Event}
 use Rattle.sp_plan.specs.declared.plan.Plan.{Plan}
-use Rattle.sp_plan.specs.Runs.{State, is_among}
+use Rattle.sp_plan.specs.Runs.{State}
 use Rattle.sp_plan.specs.Sequential.{seq}
 use Rattle.sp_plan.specs.Windows.{closed}
 use Rattle.sp_plan.specs.WindowNumbers.{Good, count, first, size}
-use Rattle.sp_group.specs.Rising.{IsLabel, with_numbers}
+use Rattle.sp_group.specs.Rising.{IsLabel}
 use Rattle.sp_group.specs.Machine.{Version, Ticket, Machine, version_at, ticket_at, is_out, inner, is_group, is_suppressed, is_hit}
 
 -- A version with a parent, among the older versions: the parent is there, and of the window before; the label names open groups of the

@@ -1,9 +1,10 @@
 -- What a layer over matcher and windows may rely on, for every compiled plan.
 use Rattle.std.specs.Prelude.{◌≡◌, ℕ, ◌+◌, ◌≤◌, true, List, []}
+use Rattle.sp_base.specs.Numbers.{is_among}
 use Rattle.sp_plan.specs.declared.event.Event.{Event}
 use Rattle.sp_plan.specs.declared.plan.Plan.{Plan}
 use Rattle.sp_plan.specs.Laws.{ReadingIsState}
-use Rattle.sp_plan.specs.Runs.{State, is_among, after_closing}
+use Rattle.sp_plan.specs.Runs.{State, after_closing}
 use Rattle.sp_plan.specs.Reading.{reading}
 use Rattle.sp_match.specs.public.Laws.{is_open, is_matched, group, used_by_all, Sound, Leads, Below, RunsAreSound, HandlingIsLawful, SeveralAreLawful, MovesAreHandling, MovesLeadOn, ClosingEndsRuns, OpenHasNoMatch, CompletionsAreMatches, AbandonmentsAreTold}
 use Rattle.sp_window.specs.Laws.{GoodEvents, Holds, KeptByFeeding, ClosedFirst, FinishedStay, WindowsAreRead}

@@ -1,16 +1,17 @@
 -- The theorem over every list of steps: in whatever order they are taken, what is emitted is what processing the windows one after another
 -- gives.
 use Rattle.std.specs.Prelude.{◌≡◌, ◌↔◌, ◌⊎◌, ⊤, ℕ, ◌+◌, ◌<◌, ◌≤◌, Bool, true, false, List, [], ◌∷◌, ◌++◌, length, Some, None}
+use Rattle.sp_base.specs.Limits.{live_limit}
+use Rattle.sp_base.specs.Numbers.{is_among, with_numbers}
 use Rattle.sp_plan.specs.declared.plan.Plan.{Plan}
 use Rattle.sp_plan.specs.Compiled.{IsCompiled}
-use Rattle.sp_plan.specs.Runs.{is_among}
 use Rattle.sp_plan.specs.Sequential.{seq, whole}
 use Rattle.sp_plan.specs.Windows.{closed}
 use Rattle.sp_plan.specs.WindowNumbers.{Good, count, size}
 use Rattle.sp_group.specs.declared.refusal.Refusal.TheVariants as r
 use Rattle.sp_group.specs.declared.step.Step.{Step}
 use Rattle.sp_group.specs.declared.step.Step.TheVariants as s
-use Rattle.sp_group.specs.Rising.{IsLabel, with_numbers}
+use Rattle.sp_group.specs.Rising.{IsLabel}
 use Rattle.sp_group.specs.Machine.{Version, Ticket, Machine, opening, version_at, ticket_at, root_in, inner, is_group, is_read, is_suppressed, conflict}
 use Rattle.sp_group.specs.Refusing.{refusal}
 use Rattle.sp_group.specs.Effects.{new_matches, popped, finished_one}
@@ -178,5 +179,5 @@ pub record Reached (q : Plan) (bound : ℕ) (m : Machine) : Type 0 where
 
 -- Every list of steps, in whatever order, those that are refused among them, leads from the opening to such a state.
 abbrev pub EverySchedule : Type 0
-EverySchedule = (q : Plan) (bound : ℕ) (xs : List Step) → IsCompiled q → 1 ≤ bound → bound ≤ 4096 → Fits q bound opening xs
+EverySchedule = (q : Plan) (bound : ℕ) (xs : List Step) → IsCompiled q → 1 ≤ bound → bound ≤ live_limit → Fits q bound opening xs
     → Reached q bound (steps q bound opening xs)

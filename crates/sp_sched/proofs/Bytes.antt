@@ -7,9 +7,11 @@ use Rattle.std.proofs.lemmas.Fmt.{decimal_by_steps}
 use Rattle.std.proofs.lemmas.List.Sums.{AllPass-from_list_all}
 use borrow.Author.Tests.{leb-true}
 use Rattle.std.proofs.lemmas.List.Elements.{All-nil, All-cons, All-head, All-tail, All-append, All-push, All-weaker}
+use Rattle.sp_base.specs.Limits.{batch_limit}
+use Rattle.sp_base.specs.Commas.{list_text}
 use Rattle.sp_sched.specs.declared.step.TraceStep.{TraceStep}
 use Rattle.sp_sched.specs.declared.step.TraceStep.TheVariants as t
-use Rattle.sp_sched.specs.Schedules.{CanStand, IsNumber, label_text, step_text}
+use Rattle.sp_sched.specs.Schedules.{CanStand, IsNumber, step_text}
 
 -- a byte that can stand in a word
 abbrev pub IsLetter : ℕ → Type 0
@@ -50,10 +52,10 @@ more_letters (n ∷ ns) h =
 pub number_letters : (n : ℕ) → IsNumber n → All IsLetter (decimal n)
 number_letters n h = letters n (number_bounds n h)
 
-pub count_letters : (n : ℕ) → n ≤ 1024 → All IsLetter (decimal n)
+pub count_letters : (n : ℕ) → n ≤ batch_limit → All IsLetter (decimal n)
 count_letters n h = letters n (omega arith)
 
-pub label_letters : (ns : List ℕ) → All IsShort ns → All IsLetter (label_text ns)
+pub label_letters : (ns : List ℕ) → All IsShort ns → All IsLetter (list_text ns)
 label_letters [] h = All-cons IsLetter 45 [] (omega arith) (All-nil IsLetter)
 label_letters (n ∷ ns) h =
     let small : n < 2 ^ 32 = All-head IsShort n ns h in
@@ -83,7 +85,7 @@ step_printed t.Feed h = fixed (codes "feed") refl
 step_printed t.End h = fixed (codes "end") refl
 step_printed (t.Spawn None label) h = fixed (codes "spawn root") refl
 step_printed (t.Spawn (Some parent) label) h =
-    then_word (codes "spawn " ++ decimal parent) (label_text label) (number (codes "spawn ") parent refl h.0) (label_letters label h.1.1)
+    then_word (codes "spawn " ++ decimal parent) (list_text label) (number (codes "spawn ") parent refl h.0) (label_letters label h.1.1)
 step_printed (t.Lease version count) h =
     then_word (codes "lease " ++ decimal version) (decimal count) (number (codes "lease ") version refl h.0) (count_letters count h.2)
 step_printed (t.Event ticket) h = number (codes "event ") ticket refl h

@@ -8,9 +8,8 @@ use Rattle.std.proofs.Math.Seq.{take-length}
 use Rattle.std.proofs.lemmas.List.Elements.{All-nil, All-push, All-get_or, All-head, All-tail, All-weaker}
 use Rattle.std.proofs.lemmas.List.Splits.{slice_split_none}
 use Rattle.std.proofs.lemmas.Fmt.{decimal_injective}
-use Rattle.sp_plan.specs.Lines.{commas}
+use Rattle.sp_base.specs.Commas.{commas, list_text}
 use Rattle.sp_group.specs.Rising.{IsLabel}
-use Rattle.sp_sched.specs.Schedules.{label_text}
 use Rattle.sp_sched.specs.Reading.{Answers, IsNumberText, AreCommaText, AreRunsText, parts}
 use Rattle.sp_sched.proofs.Parts.{is_mark, parts_some, joined, front_part}
 use Rattle.sp_sched.proofs.Numbers.{decimal_free}
@@ -101,7 +100,7 @@ module _ (text numbers : List ℕ) (a : AreCommaText text numbers) where
   pub named : IsLabel numbers → AreRunsText text numbers
   named label = record { are = (label, All-weaker IsShort (λ r. r < 2 ^ 32) (λ r h. omega arith) numbers a.small); is = is numbers a }
     where
-      is : (ns : List ℕ) → AreCommaText text ns → label_text ns ≡ text
+      is : (ns : List ℕ) → AreCommaText text ns → list_text ns ≡ text
       is [] b = absurd (no_text text b)
       is (n ∷ ns) b = sym (joined_commas n ns) ∙ ap (join_with_byte 44) b.is ∙ joined 44 text
 

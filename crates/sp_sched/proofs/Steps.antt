@@ -4,9 +4,11 @@ use Rattle.std.specs.Prelude.{codes}
 use Rattle.std.specs.List.{All}
 use Rattle.std.proofs.lemmas.List.{append_cancel_left}
 use Rattle.std.specs.Fmt.{decimal}
+use Rattle.sp_base.specs.Limits.{batch_limit}
+use Rattle.sp_base.specs.Commas.{list_text}
 use Rattle.sp_sched.specs.declared.step.TraceStep.{TraceStep}
 use Rattle.sp_sched.specs.declared.step.TraceStep.TheVariants as t
-use Rattle.sp_sched.specs.Schedules.{IsNumber, AreRuns, label_text, step_text}
+use Rattle.sp_sched.specs.Schedules.{IsNumber, AreRuns, step_text}
 use Rattle.sp_sched.specs.Reading.{Answers, AreRunsText, IsCut, IsNumberText, IsStepText, parts}
 use Rattle.sp_sched.proofs.Parts.{is_mark, parts_some, not_alone, whole, one_cut}
 use Rattle.sp_sched.proofs.Numbers.{decimal_free}
@@ -34,7 +36,7 @@ record Lent (text : List ℕ) : Type 0 where
   count : ℕ
   named : IsNumber version
   some : 1 ≤ count
-  within : count ≤ 1024
+  within : count ≤ batch_limit
   is : text ≡ decimal version ++ 32 ∷ decimal count
 
 lent : (text : List ℕ) (x : TraceStep) → IsStepText (codes "lease " ++ text) x → Lent text
@@ -61,13 +63,13 @@ module _ (text : List ℕ) where
         let p = one_cut 32 text front rest c (decimal l.version) (decimal l.count) (unbroken l.version l.named) l.is in
         none l.version (named front l.version l.named (sym p.0))
 
-    pub no_count : ((n : ℕ) → IsNumberText 1024 rest n → ⊥) → (x : TraceStep) → IsStepText (codes "lease " ++ text) x → ⊥
+    pub no_count : ((n : ℕ) → IsNumberText batch_limit rest n → ⊥) → (x : TraceStep) → IsStepText (codes "lease " ++ text) x → ⊥
     no_count none x a =
         let l = lent text x a in
         let p = one_cut 32 text front rest c (decimal l.version) (decimal l.count) (unbroken l.version l.named) l.is in
         none l.count (record { some = l.some; within = l.within; is = sym p.1 })
 
-    pub lease_there : (version count : ℕ) → IsNumberText 9999999999999999999 front version → IsNumberText 1024 rest count → IsStepText (codes "lease " ++ text) (t.Lease version count)
+    pub lease_there : (version count : ℕ) → IsNumberText 9999999999999999999 front version → IsNumberText batch_limit rest count → IsStepText (codes "lease " ++ text) (t.Lease version count)
     lease_there version count a b = record {
       stands = ((a.some, let w : version ≤ 9999999999999999999 = a.within in omega arith), b.some, b.within);
       is = ap (λ (l : List ℕ). codes "lease " ++ l) (append_assoc (decimal version) (32 ∷ []) (decimal count) ∙ (λ i. a.is i ++ 32 ∷ b.is i) ∙ sym (whole 32 text front rest c));
@@ -81,7 +83,7 @@ record Child (text : List ℕ) : Type 0 where
   label : List ℕ
   named : IsNumber parent
   are : AreRuns label
-  is : text ≡ decimal parent ++ 32 ∷ label_text label
+  is : text ≡ decimal parent ++ 32 ∷ list_text label
 
 spawned : (text : List ℕ) (x : TraceStep) → text ≢ codes "root" → IsStepText (codes "spawn " ++ text) x → Child text
 spawned text (t.Spawn None label) root a = absurd (root (append_cancel_left (codes "spawn ") text (codes "root") (sym a.is)))
@@ -90,32 +92,32 @@ spawned text (t.Spawn (Some parent) label) root a = record {
   label = label;
   named = a.stands.0;
   are = a.stands.1;
-  is = let e : (decimal parent ++ 32 ∷ []) ++ label_text label ≡ text = append_cancel_left (codes "spawn ") ((decimal parent ++ 32 ∷ []) ++ label_text label) text a.is in sym e ∙ append_assoc (decimal parent) (32 ∷ []) (label_text label);
+  is = let e : (decimal parent ++ 32 ∷ []) ++ list_text label ≡ text = append_cancel_left (codes "spawn ") ((decimal parent ++ 32 ∷ []) ++ list_text label) text a.is in sym e ∙ append_assoc (decimal parent) (32 ∷ []) (list_text label);
 }
 spawned text x root a = absurd (differ (ap (begins 115 112) a.is))
 
 module _ (text : List ℕ) (root : text ≢ codes "root") where
   pub no_spawn : parts 32 text ≡ text ∷ [] → (x : TraceStep) → IsStepText (codes "spawn " ++ text) x → ⊥
-  no_spawn alone x a = let l = spawned text x root a in not_alone 32 text (decimal l.parent) (label_text l.label) alone (unbroken l.parent l.named) l.is
+  no_spawn alone x a = let l = spawned text x root a in not_alone 32 text (decimal l.parent) (list_text l.label) alone (unbroken l.parent l.named) l.is
 
   module _ (front rest : List ℕ) (c : IsCut 32 text front rest) where
     pub no_parent : ((n : ℕ) → IsNumberText 9999999999999999999 front n → ⊥) → (x : TraceStep) → IsStepText (codes "spawn " ++ text) x → ⊥
     no_parent none x a =
         let l = spawned text x root a in
-        let p = one_cut 32 text front rest c (decimal l.parent) (label_text l.label) (unbroken l.parent l.named) l.is in
+        let p = one_cut 32 text front rest c (decimal l.parent) (list_text l.label) (unbroken l.parent l.named) l.is in
         none l.parent (named front l.parent l.named (sym p.0))
 
     pub no_label : ((runs : List ℕ) → AreRunsText rest runs → ⊥) → (x : TraceStep) → IsStepText (codes "spawn " ++ text) x → ⊥
     no_label none x a =
         let l = spawned text x root a in
-        let p = one_cut 32 text front rest c (decimal l.parent) (label_text l.label) (unbroken l.parent l.named) l.is in
+        let p = one_cut 32 text front rest c (decimal l.parent) (list_text l.label) (unbroken l.parent l.named) l.is in
         none l.label (record { are = l.are; is = sym p.1 })
 
 pub spawn_there : (text front rest : List ℕ) → IsCut 32 text front rest → (parent : ℕ) (label : List ℕ) → IsNumberText 9999999999999999999 front parent → AreRunsText rest label
     → IsStepText (codes "spawn " ++ text) (t.Spawn (Some parent) label)
 spawn_there text front rest c parent label a b = record {
   stands = ((a.some, let w : parent ≤ 9999999999999999999 = a.within in omega arith), b.are);
-  is = ap (λ (l : List ℕ). codes "spawn " ++ l) (append_assoc (decimal parent) (32 ∷ []) (label_text label) ∙ (λ i. a.is i ++ 32 ∷ b.is i) ∙ sym (whole 32 text front rest c));
+  is = ap (λ (l : List ℕ). codes "spawn " ++ l) (append_assoc (decimal parent) (32 ∷ []) (list_text label) ∙ (λ i. a.is i ++ 32 ∷ b.is i) ∙ sym (whole 32 text front rest c));
 }
 
 -- ---- lines of more than one word
@@ -141,7 +143,7 @@ module _ (line word rest : List ℕ) (c : IsCut 32 line word rest) where
   pub no_line : word ≢ codes "spawn" → word ≢ codes "lease" → word ≢ codes "event" → word ≢ codes "return" → word ≢ codes "roll" → (x : TraceStep) → IsStepText line x → ⊥
   no_line spawn lease event back roll (t.Spawn None label) a = spawn (first_word (codes "spawn") (codes "root") (codes "spawn root") refl a.is)
   no_line spawn lease event back roll (t.Spawn (Some parent) label) a =
-      spawn (first_word (codes "spawn") ((decimal parent ++ 32 ∷ []) ++ label_text label) (step_text (t.Spawn (Some parent) label)) refl a.is)
+      spawn (first_word (codes "spawn") ((decimal parent ++ 32 ∷ []) ++ list_text label) (step_text (t.Spawn (Some parent) label)) refl a.is)
   no_line spawn lease event back roll (t.Lease version count) a = lease (first_word (codes "lease") ((decimal version ++ 32 ∷ []) ++ decimal count) (step_text (t.Lease version count)) refl a.is)
   no_line spawn lease event back roll (t.Event ticket) a = event (first_word (codes "event") (decimal ticket) (step_text (t.Event ticket)) refl a.is)
   no_line spawn lease event back roll (t.Return ticket) a = back (first_word (codes "return") (decimal ticket) (step_text (t.Return ticket)) refl a.is)
@@ -167,7 +169,7 @@ no_word word one feed end finish state t.Finish a = finish (sym a.is)
 no_word word one feed end finish state t.State a = state (sym a.is)
 no_word word one feed end finish state (t.Spawn None label) a = unbroken_line word (codes "spawn") (codes "root") (codes "spawn root") one refl a.is
 no_word word one feed end finish state (t.Spawn (Some parent) label) a =
-    unbroken_line word (codes "spawn") ((decimal parent ++ 32 ∷ []) ++ label_text label) (step_text (t.Spawn (Some parent) label)) one refl a.is
+    unbroken_line word (codes "spawn") ((decimal parent ++ 32 ∷ []) ++ list_text label) (step_text (t.Spawn (Some parent) label)) one refl a.is
 no_word word one feed end finish state (t.Lease version count) a = unbroken_line word (codes "lease") ((decimal version ++ 32 ∷ []) ++ decimal count) (step_text (t.Lease version count)) one refl a.is
 no_word word one feed end finish state (t.Event ticket) a = unbroken_line word (codes "event") (decimal ticket) (step_text (t.Event ticket)) one refl a.is
 no_word word one feed end finish state (t.Return ticket) a = unbroken_line word (codes "return") (decimal ticket) (step_text (t.Return ticket)) one refl a.is

@@ -8,9 +8,11 @@ use Rattle.std.proofs.lemmas.Bool.Decides.{nat_tests}
 use Rattle.std.proofs.lemmas.Fmt.{decimal_is_IsNumeral, decimal_nonempty}
 use Rattle.std.proofs.lemmas.List.Elements.{All-head, All-tail, All-weaker}
 use Rattle.std.proofs.lemmas.List.Splits.{slice_split_at, slice_split_none}
+use Rattle.sp_base.specs.Limits.{batch_limit}
+use Rattle.sp_base.specs.Commas.{list_text}
 use Rattle.sp_sched.specs.declared.step.TraceStep.{TraceStep}
 use Rattle.sp_sched.specs.declared.step.TraceStep.TheVariants as t
-use Rattle.sp_sched.specs.Schedules.{CanStand, IsNumber, label_text, step_text}
+use Rattle.sp_sched.specs.Schedules.{CanStand, IsNumber, step_text}
 use Rattle.sp_sched.proofs.Bytes.{IsLetter, IsDigit, IsShort, decimal_digits, number_bounds, number_letters, count_letters, label_letters}
 
 -- ---- what words say
@@ -92,7 +94,7 @@ no_dash : (ds rest : List ℕ) → 0 < length ds → All IsDigit ds → (get_or 
 no_dash [] rest some h = absurd (omega arith)
 no_dash (d ∷ ds) rest some h = let digit : IsDigit d = All-head IsDigit d ds h in grind (arith, nat_tests)
 
-label_read : (ns : List ℕ) → All IsShort ns → runs_of (label_text ns) ≡ ns
+label_read : (ns : List ℕ) → All IsShort ns → runs_of (list_text ns) ≡ ns
 label_read [] h = refl
 label_read (n ∷ ns) h =
     let small : n < 2 ^ 32 = All-head IsShort n ns h in
@@ -111,11 +113,11 @@ step_read t.Feed h = refl
 step_read t.End h = refl
 step_read (t.Spawn None label) h = ap (λ l. t.Spawn None l) (sym h)
 step_read (t.Spawn (Some parent) label) h =
-    ap (λ l. step_of (codes "spawn" ∷ l)) (two_words (decimal parent) (label_text label) (number_letters parent h.0) (label_letters label h.1.1))
+    ap (λ l. step_of (codes "spawn" ∷ l)) (two_words (decimal parent) (list_text label) (number_letters parent h.0) (label_letters label h.1.1))
     ∙ (λ i. t.Spawn (Some (valued parent (number_bounds parent h.0) i)) (label_read label h.1.1 i))
 step_read (t.Lease version count) h =
     ap (λ l. step_of (codes "lease" ∷ l)) (two_words (decimal version) (decimal count) (number_letters version h.0) (count_letters count h.2))
-    ∙ (λ i. t.Lease (valued version (number_bounds version h.0) i) (valued count (let most : count ≤ 1024 = h.2 in omega arith) i))
+    ∙ (λ i. t.Lease (valued version (number_bounds version h.0) i) (valued count (let most : count ≤ batch_limit = h.2 in omega arith) i))
 step_read (t.Event ticket) h = number_read (codes "event") ticket h
 step_read (t.Return ticket) h = number_read (codes "return") ticket h
 step_read (t.Roll version) h = number_read (codes "roll") version h

@@ -2,10 +2,11 @@
 use Rattle.std.specs.Prelude.{◌≡◌, ℕ, ◌+◌, ◌≤◌, Bool, false, ◌&&◌, nat_le, map, List, [], ◌∷◌, ◌++◌, length, Option, Some, None, ◌==◌}
 use Rattle.std.specs.List.{All, slice_split}
 use Rattle.std.specs.Fmt.{decimal}
+use Rattle.sp_base.specs.Commas.{list_text}
 use Rattle.sp_sched.specs.declared.step.TraceStep.{TraceStep}
 use Rattle.sp_sched.specs.declared.fault.SchedFault.{SchedFault}
 use Rattle.sp_sched.specs.declared.fault.SchedFault.TheVariants as f
-use Rattle.sp_sched.specs.Schedules.{AreRuns, label_text, CanStand, step_text, lines, IsBad}
+use Rattle.sp_sched.specs.Schedules.{AreRuns, CanStand, step_text, lines, IsBad}
 
 -- a text cut at each byte that is this one
 abbrev pub parts : ℕ → List ℕ → List (List ℕ)
@@ -25,7 +26,7 @@ pub record IsNumberText (most : ℕ) (text : List ℕ) (n : ℕ) : Type 0 where
 -- The text is runs as a schedule names them.
 pub record AreRunsText (text runs : List ℕ) : Type 0 where
   pub are : AreRuns runs
-  pub is : label_text runs ≡ text
+  pub is : list_text runs ≡ text
 
 -- The text is a step that can stand in a schedule.
 pub record IsStepText (text : List ℕ) (x : TraceStep) : Type 0 where

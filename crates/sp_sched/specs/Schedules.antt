@@ -2,7 +2,8 @@
 use Rattle.std.specs.Prelude.{◌≡◌, ◌≢◌, ℕ, ◌+◌, ◌-◌, ◌<◌, ◌≤◌, ◌^◌, Bool, List, [], ◌∷◌, ◌++◌, length, take, Option, Some, None, slice_get, codes, ◌==◌, if◌then◌else◌}
 use Rattle.std.specs.List.{All, flat_map, slice_split}
 use Rattle.std.specs.Fmt.{decimal}
-use Rattle.sp_plan.specs.Lines.{used_text}
+use Rattle.sp_base.specs.Limits.{batch_limit}
+use Rattle.sp_base.specs.Commas.{list_text}
 use Rattle.sp_group.specs.Rising.{IsLabel}
 use Rattle.sp_sched.specs.declared.step.TraceStep.{TraceStep}
 use Rattle.sp_sched.specs.declared.step.TraceStep.TheVariants as t
@@ -23,23 +24,19 @@ CanStand t.Feed = Unit {0}
 CanStand t.End = Unit {0}
 CanStand (t.Spawn None label) = label ≡ []
 CanStand (t.Spawn (Some parent) label) = IsNumber parent × AreRuns label
-CanStand (t.Lease version count) = IsNumber version × (1 ≤ count) × (count ≤ 1024)
+CanStand (t.Lease version count) = IsNumber version × (1 ≤ count) × (count ≤ batch_limit)
 CanStand (t.Event ticket) = IsNumber ticket
 CanStand (t.Return ticket) = IsNumber ticket
 CanStand (t.Roll version) = IsNumber version
 CanStand t.Finish = Unit {0}
 CanStand t.State = Unit {0}
 
--- runs joined by commas, or a dash where there are none
-abbrev pub label_text : List ℕ → List ℕ
-label_text label = used_text label
-
 -- the one way in which a step is written
 abbrev pub step_text : TraceStep → List ℕ
 step_text t.Feed = codes "feed"
 step_text t.End = codes "end"
 step_text (t.Spawn None label) = codes "spawn root"
-step_text (t.Spawn (Some parent) label) = codes "spawn " ++ decimal parent ++ codes " " ++ label_text label
+step_text (t.Spawn (Some parent) label) = codes "spawn " ++ decimal parent ++ codes " " ++ list_text label
 step_text (t.Lease version count) = codes "lease " ++ decimal version ++ codes " " ++ decimal count
 step_text (t.Event ticket) = codes "event " ++ decimal ticket
 step_text (t.Return ticket) = codes "return " ++ decimal ticket

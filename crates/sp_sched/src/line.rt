@@ -6,11 +6,12 @@ use crate::cut::cut;
 use crate::label::label_of;
 use crate::number::{MOST_NAMED, number};
 use crate::{Memory, TraceStep};
+use sp_base::limits::BATCH_LIMIT;
 use sp_group::Label;
 use std::alloc::Global;
 
 // The most events that a step lends.
-const MOST_LENT: u64 = 1_024;
+const MOST_LENT: u64 = BATCH_LIMIT as u64;
 
 // The step that is one word.
 fn bare_step(word: &[u8]) -> Option<TraceStep>
@@ -61,7 +62,7 @@ fn lease_of(text: &[u8]) -> Option<TraceStep>
     let Some(version) = number(version, MOST_NAMED) else {
         return None;
     };
-    let Some(count) = number(count, MOST_LENT) else {
+    let Some(count) = number(count, u64::from(BATCH_LIMIT)) else {
         return None;
     };
     Some(TraceStep::Lease {

@@ -1,8 +1,8 @@
 ghost use Rattle.std.specs.Prelude.{◌≡◌, ◌++◌, codes, string_bytes, IfOk, OnOk};
 ghost use Rattle.std.specs.Fmt.{decimal};
 ghost use Rattle.std.specs.List.{All, flat_map};
-ghost use Rattle.sp_plan.specs.Lines.{commas};
-ghost use Rattle.sp_sched.specs.Schedules.{CanStand, IsSchedule, label_text, schedule_text, step_text};
+ghost use Rattle.sp_base.specs.Commas.{commas, list_text};
+ghost use Rattle.sp_sched.specs.Schedules.{CanStand, IsSchedule, schedule_text, step_text};
 
 use crate::{Memory, TraceStep};
 use sp_group::Label;
@@ -46,7 +46,7 @@ fn push_commas(out: &mut String, numbers: &[u32]) -> Result<(), Memory>
 
 // Adds the runs of a label, or a dash where there are none.
 fn push_label(out: &mut String, label: &Label) -> Result<(), Memory>
-    ensures { OnOk result (string_bytes out.new ≡ string_bytes out.old ++ label_text label.now) }
+    ensures { OnOk result (string_bytes out.new ≡ string_bytes out.old ++ list_text label.now) }
 {
     if label.runs().is_empty() {
         out.push_str("-")?;

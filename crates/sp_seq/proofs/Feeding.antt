@@ -4,6 +4,7 @@ use Rattle.std.specs.Prelude.{slice_get, int_le}
 use Rattle.std.specs.List.{list_all, zip}
 use Rattle.std.proofs.lemmas.Int.{ints}
 use Rattle.std.proofs.lemmas.List.{take_more}
+use Rattle.sp_base.specs.Limits.{number_limit}
 use Rattle.sp_plan.specs.declared.event.Event.{Event}
 use Rattle.sp_plan.specs.declared.plan.Plan.{Plan}
 use Rattle.sp_plan.specs.Events.{AllFit, NeverGoesBack, fits, fits_column}
@@ -26,7 +27,7 @@ third false b c d is = absurd (cc is)
 -- the time of an event that fits is 0 or later
 not_before : (q : Plan) (e : Event) → fits q e ≡ true → pos 0 ≤ℤ e.time
 not_before q e fit =
-    let low : int_le (pos 0) e.time ≡ true = third (length q.schema.columns == length e.values) (list_all fits_column (zip q.schema.columns e.values)) (int_le (pos 0) e.time) (int_le e.time (pos 1000000000000000)) fit in
+    let low : int_le (pos 0) e.time ≡ true = third (length q.schema.columns == length e.values) (list_all fits_column (zip q.schema.columns e.values)) (int_le (pos 0) e.time) (int_le e.time (pos number_limit)) fit in
     grind (arith, ints)
 
 -- an item is there at its place

@@ -6,11 +6,12 @@ use Rattle.std.proofs.lemmas.List.{take_more, get_or-drop, length-drop, append-n
 use Rattle.std.proofs.lemmas.List.Elements.{filter-append, All-weaker, All-nil}
 use Rattle.std.proofs.lemmas.List.Sums.{fold_push}
 use Rattle.std.proofs.lemmas.List.FromFn.{length-enumerate_from, get_or-enumerate_from}
+use Rattle.sp_base.specs.Numbers.{is_among}
 use Rattle.sp_plan.specs.declared.event.Event.{Event}
 use Rattle.sp_plan.specs.declared.plan.Plan.{Plan}
 use Rattle.sp_plan.specs.declared.found.Match.{Match}
 use Rattle.sp_plan.specs.Windows.{Numbered, numbered}
-use Rattle.sp_plan.specs.Runs.{Pair, Started, State, is_among, handle, state, fresh}
+use Rattle.sp_plan.specs.Runs.{Pair, Started, State, handle, state, fresh}
 use Rattle.sp_plan.specs.Moves.{Told, told, moves}
 use Rattle.sp_plan.specs.Sequential.{match_of}
 use Rattle.sp_match.specs.public.Laws.{RunsAreSound, CompletionsAreMatches, Below, completion, is_completion}

@@ -7,8 +7,8 @@ use Rattle.std.proofs.lemmas.Bool.Decides.{nat_tests}
 use Rattle.std.proofs.lemmas.List.{take_more, append-nil}
 use Rattle.std.proofs.lemmas.List.Concat.{flat_map-append}
 use Rattle.std.specs.List.{flat_map}
+use Rattle.sp_base.specs.Numbers.{is_among}
 use Rattle.sp_plan.specs.declared.found.Match.{Match}
-use Rattle.sp_plan.specs.Runs.{is_among}
 use Rattle.sp_seq.specs.Marked.{IsMarked}
 
 -- what is among the numbers with one more

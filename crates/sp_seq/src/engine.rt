@@ -1,6 +1,7 @@
 // The windows one after another.
 ghost use Rattle.std.specs.Prelude.{◌≡◌, ◌≤◌, ◌<◌, length, drop, IfOk};
 ghost use Rattle.std.specs.Arc.{arc_value};
+ghost use Rattle.sp_base.specs.Limits.{event_limit};
 ghost use Rattle.sp_plan.specs.Compiled.{IsCompiled};
 ghost use Rattle.sp_plan.specs.Events.{AllFit, NeverGoesBack};
 ghost use Rattle.sp_plan.specs.Sequential.{whole};
@@ -24,7 +25,7 @@ fn windows_of(
     ended: bool,
 ) -> Result<Windows, Memory>
     requires compiled { IsCompiled (arc_value plan) }
-    requires few { length events.now ≤ 1048576 }
+    requires few { length events.now ≤ event_limit }
     requires fit { AllFit (arc_value plan) events.now }
     requires ordered { NeverGoesBack events.now }
     ensures plan { IfOk result (λ windows. windows.plan ≡ arc_value plan) }
@@ -84,7 +85,7 @@ fn match_windows(
     requires compiled { IsCompiled (arc_value plan) }
     requires plan { windows.now.plan ≡ arc_value plan }
     requires stands { Stands windows.now events.now windows.now.ended }
-    requires few { length events.now ≤ 1048576 }
+    requires few { length events.now ≤ event_limit }
     requires fit { AllFit (arc_value plan) events.now }
     ensures { IfOk result
         (λ matches. matches.items ≡ (whole (arc_value plan) events.now windows.now.ended).matches) }
@@ -127,7 +128,7 @@ pub fn plain(
     ended: bool,
 ) -> Result<Vec<Match>, Memory>
     requires compiled { IsCompiled (arc_value plan) }
-    requires few { length events.now ≤ 1048576 }
+    requires few { length events.now ≤ event_limit }
     requires fit { AllFit (arc_value plan) events.now }
     requires ordered { NeverGoesBack events.now }
     ensures { IfOk result

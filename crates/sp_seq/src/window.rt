@@ -1,6 +1,7 @@
 // One window: its matches, and what they consume.
 ghost use Rattle.std.specs.Prelude.{◌≡◌, ℕ, ◌≤◌, List, ◌++◌, length, OnOk};
 ghost use Rattle.std.specs.List.{flat_map};
+ghost use Rattle.sp_base.specs.Limits.{event_limit};
 ghost use Rattle.sp_plan.specs.Events.{AllFit};
 ghost use Rattle.sp_plan.specs.Runs.{state};
 ghost use Rattle.sp_seq.specs.Marked.{IsMarked};
@@ -66,7 +67,7 @@ pub(crate) fn match_window(
 ) -> Result<(), Memory>
     requires fit { AllFit matcher.old.plan seats.now.events.now }
     requires known { AllKnown matcher.old.plan seats.now.events.now seats.now.known.now }
-    requires few { length seats.now.events.now ≤ 1048576 }
+    requires few { length seats.now.events.now ≤ event_limit }
     requires ordered { window.first ≤ window.end }
     requires within { window.end ≤ length seats.now.events.now }
     requires learned { window.end ≤ length seats.now.known.now }

@@ -5,6 +5,7 @@ use Rattle.sp_plan.specs.declared.event.Event.{Event}
 use Rattle.sp_plan.specs.declared.found.Match.{Match}
 use Rattle.sp_plan.specs.declared.plan.Plan.{Plan}
 use Rattle.std.specs.List.{count_by}
+use Rattle.sp_base.specs.Limits.{batch_limit}
 use Rattle.sp_hub.specs.Calls.{by_seat}
 use Rattle.sp_hub.specs.History.{is_call, is_put_by, is_take_by, IsLegal}
 use Rattle.sp_hub.specs.State.{Posting, Sitting}
@@ -34,7 +35,7 @@ pub record Filled (old new : Running) : Type 0 where
 pub record CanTurn (instances batch : ℕ) (kept : List Job) (next_ticket : ℕ) (by : Posting) : Type 0 where
   pub few : instances ≤ 16
   pub some : 1 ≤ batch
-  pub most : batch ≤ 1024
+  pub most : batch ≤ batch_limit
   pub room : by.room ≡ instances + 1
   pub unclosed : by.closed ≡ false
   pub last : IsBelowKept by.last kept next_ticket

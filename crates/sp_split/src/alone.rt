@@ -1,5 +1,6 @@
 // A core on one thread: events are fed, and the root is read, window after window.
 ghost use Rattle.std.specs.Prelude.{◌≡◌, ◌≤◌, IfOk, OnErr, List};
+ghost use Rattle.sp_base.specs.Limits.{batch_limit};
 ghost use Rattle.sp_io.specs.Outside.{Rose};
 ghost use Rattle.sp_core.specs.Running.{begun};
 ghost use Rattle.sp_spread.specs.Journaled.{MakesNoChild};
@@ -25,7 +26,7 @@ fn run<I: Intake, O: Outlet>(
 ) -> Result<Why, Memory>
     requires fresh { core.old ≡ begun core.old.plan core.old.bound }
     requires some { 1 ≤ batch }
-    requires most { batch ≤ 1024 }
+    requires most { batch ≤ batch_limit }
     requires intake_plan { I.plan intake.old ≡ core.old.plan }
     requires outlet_plan { O.plan outlet.old ≡ core.old.plan }
     ensures ended { IfOk result (λ why. Drove (λ events. I.gave intake.old events intake.new)
@@ -73,7 +74,7 @@ pub(crate) fn drive_alone<I: Intake, O: Outlet>(
 ) -> Result<Went, Memory>
     requires fresh { core ≡ begun core.plan core.bound }
     requires some { 1 ≤ batch }
-    requires most { batch ≤ 1024 }
+    requires most { batch ≤ batch_limit }
     requires intake_plan { I.plan intake.old ≡ core.plan }
     requires outlet_plan { O.plan outlet.old ≡ core.plan }
     ensures ended { IfOk result (Drove (λ events. I.gave intake.old events intake.new)

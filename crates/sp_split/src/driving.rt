@@ -1,5 +1,6 @@
 // A core and its instances, from an intake to an outlet.
 ghost use Rattle.std.specs.Prelude.{◌≡◌, ◌≤◌, ◌<◌, [], IfOk, OnErr};
+ghost use Rattle.sp_base.specs.Limits.{batch_limit};
 ghost use Rattle.sp_io.specs.Outside.{Rose};
 ghost use Rattle.sp_core.specs.Running.{begun};
 ghost use Rattle.sp_split.specs.Driving.{CameAbout, Drove, FellShort};
@@ -9,13 +10,13 @@ use crate::alone::drive_alone;
 use crate::joining::{Ways, under};
 use crate::lent::{LentIntake, LentOutlet};
 use crate::{Ended, Memory, Went};
+use sp_base::Listed;
 use sp_chance::Predictor;
 use sp_core::Core;
 use sp_hub::{History, Opened};
 use sp_instance::Gate;
 use sp_ports::{Intake, Outlet};
 use sp_splitter::Splitter;
-use sp_text::Listed;
 use std::alloc::Global;
 use std::marker::Brand;
 use std::sync::Wait;
@@ -47,7 +48,7 @@ pub fn drive<I: Intake, O: Outlet, G: Gate, R: Threads + Wait + Sync>(
     requires fresh { core ≡ begun core.plan core.bound }
     requires instances { instances ≤ 16 }
     requires some { 1 ≤ batch }
-    requires most { batch ≤ 1024 }
+    requires most { batch ≤ batch_limit }
     requires intake_plan { I.plan intake.old ≡ core.plan }
     requires outlet_plan { O.plan outlet.old ≡ core.plan }
     ensures ended { IfOk result (λ end. Drove (λ events. I.gave intake.old events intake.new)
@@ -83,7 +84,7 @@ fn drive_lone<I: Intake, O: Outlet>(
 ) -> Result<Ended, Memory>
     requires fresh { core ≡ begun core.plan core.bound }
     requires some { 1 ≤ batch }
-    requires most { batch ≤ 1024 }
+    requires most { batch ≤ batch_limit }
     requires intake_plan { I.plan intake.old ≡ core.plan }
     requires outlet_plan { O.plan outlet.old ≡ core.plan }
     ensures ends { Ends (λ events. I.gave intake.old events intake.new) (I.ended intake.new)
@@ -121,7 +122,7 @@ fn drive_shared<I: Intake, O: Outlet, G: Gate, R: Threads + Wait + Sync>(
 ) -> Result<Ended, Memory>
     requires fresh { splitter.core ≡ begun splitter.core.plan splitter.core.bound }
     requires instances { (0 < splitter.instances) × (splitter.instances ≤ 16) }
-    requires batch { (1 ≤ splitter.batch) × (splitter.batch ≤ 1024) }
+    requires batch { (1 ≤ splitter.batch) × (splitter.batch ≤ batch_limit) }
     requires kept { splitter.kept.items ≡ [] }
     requires intake_plan { I.plan intake.old ≡ splitter.core.plan }
     requires outlet_plan { O.plan outlet.old ≡ splitter.core.plan }

@@ -2,6 +2,7 @@
 ghost use Rattle.std.specs.Prelude.{◌≡◌, ◌≤◌, ◌<◌, ◌+◌, [], true, None, List, length, vec_len, vec_capacity};
 ghost use Rattle.std.specs.List.{All};
 ghost use Rattle.std.specs.Thread.{IsSync};
+ghost use Rattle.sp_base.specs.Limits.{batch_limit};
 ghost use Rattle.sp_io.specs.Outside.{Rose};
 ghost use Rattle.sp_core.specs.Running.{begun};
 ghost use Rattle.sp_split.specs.Serving.{Ends, MayServe, Serves, WoundUp, ending};
@@ -144,7 +145,7 @@ pub(crate) fn under<
         × (opened.room ≡ splitter.instances + 1) }
     requires fresh { splitter.core ≡ begun splitter.core.plan splitter.core.bound }
     requires instances { (0 < splitter.instances) × (splitter.instances ≤ 16) }
-    requires batch { (1 ≤ splitter.batch) × (splitter.batch ≤ 1024) }
+    requires batch { (1 ≤ splitter.batch) × (splitter.batch ≤ batch_limit) }
     requires kept { splitter.kept.items ≡ [] }
     requires intake_plan { I.plan ways.intake ≡ splitter.core.plan }
     requires outlet_plan { O.plan ways.outlet ≡ splitter.core.plan }

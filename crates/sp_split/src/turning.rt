@@ -7,16 +7,13 @@ ghost use Rattle.sp_split.specs.Stages.{AllFinished, CutOff, IsOutAlone, Turned}
 ghost use Rattle.sp_split.specs.declared.turning.Turn.TheVariants as t;
 
 use crate::{Memory, law};
+use sp_base::limits::BATCH_LIMIT;
 use sp_chance::Predictor;
 use sp_core::{Core, CoreFault, Emitted};
 use sp_group::Label;
 use sp_piece::Piece;
 use sp_splitter::learn;
 use std::alloc::{AllocError, Global};
-
-// The most events that a lease may ask for. A root that stands alone reads as many as it can: each lease copies
-// the open runs, and nobody waits for a smaller one.
-const MOST_LENT: u32 = 1_024;
 
 /// What a turn came to.
 #[derive(Drop)]
@@ -68,7 +65,7 @@ fn can_wait(core: &Core, root: u64) -> bool
     match core.tree().get(root) {
         Some(held) => {
             let next = held.first as usize + held.position as usize;
-            core.events().len() < next + MOST_LENT as usize
+            core.events().len() < next + BATCH_LIMIT as usize
         }
         None => false,
     }
@@ -92,7 +89,9 @@ fn read_on(
     if can_wait(core, root) {
         return Ok(Turn::Idle);
     }
-    let job = match core.lease(alloc, root, MOST_LENT) {
+    // A root that stands alone reads as many events as it can: each lease copies the open runs, and nobody
+    // waits for a smaller one.
+    let job = match core.lease(alloc, root, BATCH_LIMIT) {
         Ok(job) => job,
         Err(CoreFault::Refused(_)) => return Ok(Turn::Idle),
         Err(CoreFault::Memory) => return Err(AllocError),

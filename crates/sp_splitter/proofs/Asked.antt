@@ -6,6 +6,7 @@ use Rattle.std.proofs.lemmas.Bool.{and_parts, cases_eq}
 use Rattle.std.proofs.lemmas.Bool.Decides.{nat_tests}
 use Rattle.std.proofs.lemmas.List.{get_or-map, length-map}
 use Rattle.std.proofs.lemmas.List.Elements.{All-get_or, All-head, All-tail, All-nil, All-cons}
+use Rattle.sp_base.specs.Limits.{whole_share}
 use Rattle.sp_plan.specs.declared.plan.Plan.{Plan}
 use Rattle.sp_plan.specs.declared.plan.Element.{Element}
 use Rattle.sp_plan.specs.Same.{SamePlan}
@@ -118,7 +119,7 @@ left_alike p q same run = ap (λ (es : List Element). length (flat_map (λ eleme
 
 -- What is asked of each run is what is meant for each group.
 pub group_asked : (q : Plan) (s : State) (m : Matching) → SamePlan m.plan q → Stands m s → Sound s → HasGroups q s → (means : ℕ → ℕ → ℕ) (events : ℕ) (share : ℕ → ℕ)
-    → AreAsked m means events share → (r : ℕ) → is_group q s r ≡ true → share r ≡ min 65536 (means (left_of q s r) events)
+    → AreAsked m means events share → (r : ℕ) → is_group q s r ≡ true → share r ≡ min whole_share (means (left_of q s r) events)
 group_asked q s m same stands sound groups means events share asked r group =
     let p : Started → Bool = λ one. one.0 == r && has_number (used q one.1) in
     let place = place_passing p s.open_runs (groups.any r ∙ group) in
@@ -134,7 +135,7 @@ group_asked q s m same stands sound groups means events share asked r group =
     let numbered : AreNumbered s.open_runs = subst AreNumbered open_is (numbered_of m s stands sound) in
     let pairs : run_of s.open_runs r ≡ run.1 = subst (λ (n : ℕ). run_of s.open_runs n ≡ run.1) number (run_of_place s.open_runs numbered k place.1) in
     let wants : left_at m k ≡ left_of q s r = ap (λ (x : Started). left m.plan x.1) at ∙ left_alike m.plan q same run.1 ∙ ap (left q) (sym pairs) in
-    ap share (sym (ap (λ (x : Started). x.0) at ∙ number)) ∙ asked k within has ∙ ap (λ (n : ℕ). min 65536 (means n events)) wants
+    ap share (sym (ap (λ (x : Started). x.0) at ∙ number)) ∙ asked k within has ∙ ap (λ (n : ℕ). min whole_share (means n events)) wants
 
 -- ---- the shares that are set
 
@@ -155,7 +156,7 @@ module _ (m : Matching) (means : ℕ → ℕ → ℕ) (events id place : ℕ) (s
 
   -- and one that has one is
   pub asked_one : AreNumbered m.open_runs → place < length m.open_runs → (next : ℕ → ℕ → ℕ) (number share : ℕ) → number ≡ (run_at m.open_runs place).0
-      → share ≡ min (means (left_at m place) events) 65536
+      → share ≡ min (means (left_at m place) events) whole_share
       → ((v r : ℕ) → next v r ≡ cond (is_that v r id number) share (shares v r)) → Asked m means events id (place + 1) next before
   asked_one numbered within next number share number_is share_is sets = record {
     done = λ k low has. ⊎_elim (here k) (λ (apart : k ≡ place → ⊥). earlier k (omega (arith, low)) has) (cases_eq k place);
@@ -165,14 +166,14 @@ module _ (m : Matching) (means : ℕ → ℕ → ℕ) (events id place : ℕ) (s
       own : (n : ℕ) → (n == n) ≡ true
       own n = grind (arith, nat_tests)
 
-      here : (k : ℕ) → k ≡ place → next id (run_at m.open_runs k).0 ≡ min 65536 (means (left_at m k) events)
+      here : (k : ℕ) → k ≡ place → next id (run_at m.open_runs k).0 ≡ min whole_share (means (left_at m k) events)
       here k same =
           let at : next id number ≡ share = sets id number ∙ (rw (own id, own number) refl) in
-          let whole : next id (run_at m.open_runs place).0 ≡ min 65536 (means (left_at m place) events) =
+          let whole : next id (run_at m.open_runs place).0 ≡ min whole_share (means (left_at m place) events) =
           ap (next id) (sym number_is) ∙ at ∙ share_is ∙ (omega arith) in
-          subst (λ (n : ℕ). next id (run_at m.open_runs n).0 ≡ min 65536 (means (left_at m n) events)) (sym same) whole
+          subst (λ (n : ℕ). next id (run_at m.open_runs n).0 ≡ min whole_share (means (left_at m n) events)) (sym same) whole
 
-      earlier : (k : ℕ) → k < place → has_number (used m.plan (run_at m.open_runs k).1) ≡ true → next id (run_at m.open_runs k).0 ≡ min 65536 (means (left_at m k) events)
+      earlier : (k : ℕ) → k < place → has_number (used m.plan (run_at m.open_runs k).1) ≡ true → next id (run_at m.open_runs k).0 ≡ min whole_share (means (left_at m k) events)
       earlier k less has =
           let low : (run_at m.open_runs k).0 < (run_at m.open_runs place).0 = earlier_less m.open_runs numbered k place less within in
           let other : ((run_at m.open_runs k).0 == number) ≡ false = grind (arith, nat_tests) in

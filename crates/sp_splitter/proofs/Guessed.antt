@@ -2,6 +2,7 @@
 use Rattle.std.proofs.Common.{◌≡◌, ◌≢◌, ℕ, ◌+◌, ◌<◌, true, List, Some, None, sym, ap, subst, ◌∙◌, ⊎_elim, arith}
 use Rattle.std.specs.Prelude.{min}
 use Rattle.std.proofs.lemmas.Bool.{cases_eq}
+use Rattle.sp_base.specs.Limits.{whole_share}
 use Rattle.sp_plan.specs.declared.plan.Plan.{Plan}
 use Rattle.sp_plan.specs.Compiled.{IsCompiled}
 use Rattle.sp_plan.specs.WindowNumbers.{size}
@@ -92,7 +93,7 @@ held_guessed c compiled groups t tree id held is means events shares events_are 
     let count : events ≡ coming c.plan c.machine w = events_are ∙ ap (λ (u : Version). coming_in c.plan.length (size c.plan c.machine.events u.window) u.position) (sym h.value) in
     let asked_here : AreAsked e.value.matcher means events (shares id) = subst (λ (u : Version). AreAsked u.matcher means events (shares id)) (sym h.value) asked in
     let back : is_group c.plan (inner c.plan c.machine.events w) r ≡ true = subst (λ (u : machine.Version). is_group c.plan (inner c.plan c.machine.events u) r ≡ true) (sym same) group in
-    let here : shares id r ≡ min 65536 (means (left_of c.plan (inner c.plan c.machine.events w) r) events) =
+    let here : shares id r ≡ min whole_share (means (left_of c.plan (inner c.plan c.machine.events w) r) events) =
     group_asked c.plan (inner c.plan c.machine.events w) e.value.matcher h.holds.plan h.holds.stands has.sound has.groups means events (shares id) asked_here r back in
-    subst (λ (u : machine.Version). shares id r ≡ min 65536 (means (left_of c.plan (inner c.plan c.machine.events u) r) (coming c.plan c.machine u))) same
-    (here ∙ ap (λ (n : ℕ). min 65536 (means (left_of c.plan (inner c.plan c.machine.events w) r) n)) count)
+    subst (λ (u : machine.Version). shares id r ≡ min whole_share (means (left_of c.plan (inner c.plan c.machine.events u) r) (coming c.plan c.machine u))) same
+    (here ∙ ap (λ (n : ℕ). min whole_share (means (left_of c.plan (inner c.plan c.machine.events w) r) n)) count)

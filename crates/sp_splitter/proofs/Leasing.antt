@@ -5,10 +5,10 @@ use Rattle.std.proofs.lemmas.Bool.Decides.{nat_tests}
 use Rattle.std.proofs.lemmas.List.{length-append}
 use Rattle.std.proofs.lemmas.List.Elements.{All-head, All-tail}
 use Rattle.std.proofs.lemmas.List.Sums.{count_by_more_yes, sum_by-cons, sum_by-take-drop}
+use Rattle.sp_base.specs.Numbers.{is_among}
 use Rattle.sp_rules.proofs.Lists.{and_both, and_left, and_right, filter_mem, mem_filter, same_bool}
 use Rattle.sp_plan.specs.declared.event.Event.{Event}
 use Rattle.sp_plan.specs.declared.plan.Plan.{Plan}
-use Rattle.sp_plan.specs.Runs.{is_among}
 use Rattle.sp_piece.specs.declared.job.Job.{Job}
 use Rattle.sp_group.specs.declared.refusal.Refusal.{Refusal}
 use Rattle.sp_group.specs.declared.step.Step.TheVariants as s

@@ -7,8 +7,8 @@ use Rattle.std.proofs.lemmas.List.{length-take, take_all}
 use Rattle.std.proofs.lemmas.List.Elements.{All-take}
 use Rattle.std.proofs.lemmas.List.Sorted.{All-permutation, IsPermutation-reverse, list_any-IsPermutation, sum_by-IsPermutation}
 use Rattle.std.proofs.lemmas.List.Sums.{sum_by-cons, sum_by-take-drop}
+use Rattle.sp_base.specs.Numbers.{is_among}
 use Rattle.sp_rules.proofs.Lists.{below_or}
-use Rattle.sp_plan.specs.Runs.{is_among}
 use Rattle.sp_group.specs.Family.{entry_at}
 use Rattle.sp_group.specs.Machine as machine
 use Rattle.sp_group.specs.Steps.{IsLentOut, IsSpreadOut, is_ready, out_count}

@@ -4,7 +4,7 @@ use Rattle.std.specs.List.{All}
 use Rattle.std.proofs.lemmas.Bool.Decides.{nat_tests}
 use Rattle.std.proofs.lemmas.List.{length-map}
 use Rattle.std.proofs.lemmas.List.Elements.{All-head, All-tail}
-use Rattle.sp_plan.specs.Runs.{is_among}
+use Rattle.sp_base.specs.Numbers.{is_among}
 use Rattle.sp_plan.specs.WindowNumbers.{count}
 use Rattle.sp_group.specs.declared.refusal.Refusal.TheVariants as r
 use Rattle.sp_group.specs.declared.step.Step.TheVariants as s

@@ -3,6 +3,7 @@ use Rattle.std.proofs.Common.{◌≡◌, ℕ, ◌+◌, ◌≤◌, inl, inr, Bool
 use Rattle.std.specs.List.{All}
 use Rattle.std.proofs.lemmas.List.{append-nil, length-map}
 use Rattle.std.proofs.lemmas.List.Elements.{All-map}
+use Rattle.sp_base.specs.Limits.{whole_share}
 use Rattle.sp_plan.specs.declared.event.Event.{Event}
 use Rattle.sp_plan.specs.declared.plan.Plan.{Plan}
 use Rattle.sp_plan.specs.WindowNumbers.{count, size}
@@ -163,7 +164,7 @@ settled_kept old new kept settled = record {
 abbrev Guessed : (ℕ → ℕ → ℕ) → (ℕ → ℕ → ℕ) → Plan → List Event → List machine.Version → Type 0
 Guessed means share q events versions =
     (id : ℕ) (v : machine.Version) (r : ℕ) → version_at versions id ≡ Some v → is_group q (inner q events v) r ≡ true
-    → share id r ≡ min 65536 (means (left_of q (inner q events v) r) (coming_in q.length (size q events v.window) v.position))
+    → share id r ≡ min whole_share (means (left_of q (inner q events v) r) (coming_in q.length (size q events v.window) v.position))
 
 pub guessed_kept : (old new : Running) (means share : ℕ → ℕ → ℕ) → KeepsVersions old new → AreGuessed old.plan old.machine means share
     → AreGuessed new.plan new.machine means share

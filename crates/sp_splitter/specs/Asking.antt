@@ -2,6 +2,7 @@
 use Rattle.std.specs.Prelude.{◌≡◌, ◌≢◌, ℕ, ◌<◌, ◌≤◌, true, List, [], length, map, min, slice_index_or, Some}
 use Rattle.std.specs.List.{All}
 use Rattle.std.specs.List.Sorted.{IsStrictlyIncreasing}
+use Rattle.sp_base.specs.Limits.{whole_share}
 use Rattle.sp_plan.specs.declared.plan.Plan.{Plan}
 use Rattle.sp_plan.specs.Runs.{Started, used}
 use Rattle.sp_match.specs.public.Matching.{Matching, left_at}
@@ -13,7 +14,7 @@ use Rattle.sp_spread.specs.Guessing.{left_of, coming}
 abbrev pub IsGuessed : Plan → Machine → (ℕ → ℕ → ℕ) → (ℕ → ℕ → ℕ) → ℕ → Type 0
 IsGuessed q m means share id =
     (v : Version) (r : ℕ) → version_at m.versions id ≡ Some v → is_group q (inner q m.events v) r ≡ true
-    → share id r ≡ min 65536 (means (left_of q (inner q m.events v) r) (coming q m v))
+    → share id r ≡ min whole_share (means (left_of q (inner q m.events v) r) (coming q m v))
 
 -- the shares of all versions but one are as they were
 abbrev pub AreKept : ℕ → (ℕ → ℕ → ℕ) → (ℕ → ℕ → ℕ) → Type 0
@@ -32,7 +33,7 @@ run_at runs place = slice_index_or runs place (0, [])
 abbrev pub IsAsked : Matching → (ℕ → ℕ → ℕ) → ℕ → (ℕ → ℕ) → ℕ → Type 0
 IsAsked m means events share place =
     has_number (used m.plan (run_at m.open_runs place).1) ≡ true
-    → share (run_at m.open_runs place).0 ≡ min 65536 (means (left_at m place) events)
+    → share (run_at m.open_runs place).0 ≡ min whole_share (means (left_at m place) events)
 
 -- and so has every run
 abbrev pub AreAsked : Matching → (ℕ → ℕ → ℕ) → ℕ → (ℕ → ℕ) → Type 0

@@ -2,7 +2,7 @@
 -- cites this.
 use Rattle.std.specs.Prelude.{◌≡◌, ℕ, ◌+◌, ◌≤◌, ◌==◌, true, not, ◌&&◌, List, length, None}
 use Rattle.std.specs.List.{All, count_by}
-use Rattle.sp_plan.specs.Runs.{is_among}
+use Rattle.sp_base.specs.Numbers.{is_among}
 use Rattle.sp_group.specs.Machine.{ticket_at}
 use Rattle.sp_group.specs.Steps.{Spread, IsSpreadOut, out_count}
 use Rattle.sp_core.specs.Running.{Running}

@@ -1,5 +1,6 @@
 // What is ready is leased.
 ghost use Rattle.std.specs.Prelude.{◌≡◌, ◌≤◌, ◌+◌, ◌*◌, ◌++◌, ◌∷◌, ◌||◌, ℕ, length, [], take, not, nat_le, nat_lt, None, IfOk, OnOk, OnErr};
+ghost use Rattle.sp_base.specs.Limits.{batch_limit};
 ghost use Rattle.sp_plan.specs.WindowNumbers.{size};
 ghost use Rattle.sp_chance.specs.Shares.{share_of};
 ghost use Rattle.sp_group.specs.declared.step.Step.TheVariants as s;
@@ -52,7 +53,7 @@ fn lend_one(
     kept: &mut VecDeque<Job>,
 ) -> Result<(), Memory>
     requires some { 1 ≤ batch }
-    requires most { batch ≤ 1024 }
+    requires most { batch ≤ batch_limit }
     requires passes { refused core.old (s.Lease id batch) ≡ None }
     ensures leased { OnOk result (core.new ≡ after core.old (s.Lease id batch)) }
     ensures kept { OnOk result ((job : piece.Job) × (job.ticket ≡ core.old.machine.next_ticket)
@@ -138,7 +139,7 @@ fn lend_all(
     kept: &mut VecDeque<Job>,
 ) -> Result<(), Memory>
     requires some { 1 ≤ batch }
-    requires most { batch ≤ 1024 }
+    requires most { batch ≤ batch_limit }
     requires ready { AreReady core.old ids.now }
     requires apart { AreApart ids.now }
     ensures lends { OnOk result (Lends batch ids.now core.old core.new) }
@@ -168,7 +169,7 @@ pub(crate) fn lend(
 ) -> Result<(), Memory>
     requires instances { instances ≤ 16 }
     requires some { 1 ≤ batch }
-    requires most { batch ≤ 1024 }
+    requires most { batch ≤ batch_limit }
     requires settled { Settled core.old.plan core.old.machine }
     requires spread_out { IsSpreadOut core.old.plan core.old.bound instances core.old.machine }
     ensures went { Went instances core.old core.new }

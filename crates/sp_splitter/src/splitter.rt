@@ -1,4 +1,5 @@
 ghost use Rattle.std.specs.Prelude.{◌≡◌, ◌≤◌, ◌+◌, ◌++◌, ◌∷◌, ℕ, [], length, false, Some, IfOk, IfErr, OnOk, OnErr};
+ghost use Rattle.sp_base.specs.Limits.{batch_limit};
 ghost use Rattle.sp_plan.specs.WindowNumbers.{Good};
 ghost use Rattle.sp_group.specs.declared.step.Step.TheVariants as s;
 ghost use Rattle.sp_group.specs.Steps.{out_count};
@@ -54,7 +55,7 @@ impl Splitter {
     ) -> Result<Splitter, Memory>
         requires instances { instances ≤ 16 }
         requires some { 1 ≤ batch }
-        requires most { batch ≤ 1024 }
+        requires most { batch ≤ batch_limit }
         requires none_out { core.machine.tickets ≡ [] }
         ensures core { IfOk result (λ splitter. splitter.core ≡ core) }
         ensures instances { IfOk result (λ splitter. splitter.instances ≡ instances) }
@@ -136,7 +137,7 @@ impl Splitter {
     ) -> Result<Vec<Emitted>, Memory>
         requires instances { self.old.instances ≤ 16 }
         requires some { 1 ≤ self.old.batch }
-        requires most { self.old.batch ≤ 1024 }
+        requires most { self.old.batch ≤ batch_limit }
         requires room { by.old.room ≡ self.old.instances + 1 }
         requires open { by.old.closed ≡ false }
         requires last { IsBelowKept by.old.last self.old.kept.items

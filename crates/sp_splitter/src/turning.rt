@@ -1,5 +1,6 @@
 // The two halves of a turn, behind the gathering.
 ghost use Rattle.std.specs.Prelude.{◌≡◌, ◌≤◌, ◌++◌, ℕ, IfOk, OnOk};
+ghost use Rattle.sp_base.specs.Limits.{batch_limit};
 ghost use Rattle.sp_chance.specs.Shares.{share_of};
 ghost use Rattle.sp_group.specs.Steps.{IsLentOut};
 ghost use Rattle.sp_spread.specs.Calm.{Settled};
@@ -51,7 +52,7 @@ fn send_out(
 ) -> Result<(), Memory>
     requires instances { instances ≤ 16 }
     requires some { 1 ≤ batch }
-    requires most { batch ≤ 1024 }
+    requires most { batch ≤ batch_limit }
     requires settled { Settled core.old.plan core.old.machine }
     ensures went { Went instances core.old core.new }
     ensures goes { OnOk result (Goes instances core.old core.new) }
@@ -85,7 +86,7 @@ pub(crate) fn guess_and_send(
 ) -> Result<Chances, Memory>
     requires instances { instances ≤ 16 }
     requires some { 1 ≤ batch }
-    requires most { batch ≤ 1024 }
+    requires most { batch ≤ batch_limit }
     requires settled { Settled core.old.plan core.old.machine }
     ensures went { Went instances core.old core.new }
     ensures goes { OnOk result (Goes instances core.old core.new) }

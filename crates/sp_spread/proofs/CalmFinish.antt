@@ -1,18 +1,18 @@
 -- A finish makes no conflict where there is none: what the root that goes used, or kept back, was suppressed for all below it.
 use Rattle.std.proofs.Common.{◌≡◌, ◌≢◌, ℕ, ◌+◌, true, cond, not, ◌||◌, List, [], ◌∷◌, Option, Some, None, is_some, ⊎_elim, refl, sym, ap, ◌∙◌, subst, arith}
+use Rattle.sp_base.proofs.RisingLists.{mem_cases}
+use Rattle.sp_base.specs.Numbers.{is_among, with_numbers}
 use Rattle.sp_plan.specs.declared.event.Event.{Event}
 use Rattle.sp_plan.specs.declared.plan.Plan.{Plan}
-use Rattle.sp_plan.specs.Runs.{State, is_among}
+use Rattle.sp_plan.specs.Runs.{State}
 use Rattle.sp_plan.specs.Groups.{used_by_all}
 use Rattle.sp_group.specs.declared.step.Step.TheVariants as s
-use Rattle.sp_group.specs.Rising.{with_numbers}
 use Rattle.sp_group.specs.Family.{parent_there}
 use Rattle.sp_group.specs.Machine.{Version, Machine, kin, version_at, root_in, is_bare, is_hit, inner, is_named, is_withheld, withheld_by, suppressed_below, suppressed_by, is_suppressed}
 use Rattle.sp_group.specs.Refusing.{refusal, finish_refusal}
 use Rattle.sp_group.specs.Effects.{promoted, popped, settled, finished_one, effect, rolled}
 use Rattle.sp_rules.specs.Kept.{Stands, Shape, Sane}
 use Rattle.sp_rules.proofs.Lists.{or_cases, or_left, or_right}
-use Rattle.sp_rules.proofs.RisingLists.{mem_cases}
 use Rattle.sp_rules.proofs.Tree.{at_cases, at_id, at_some, Pruned, none, goes, stays, prune_is, supp_head, supp_later}
 use Rattle.sp_rules.proofs.Locals.{root_is, root_supp}
 use Rattle.sp_rules.proofs.Home.{HasRead, hit_cases, hit_read, hit_bare}

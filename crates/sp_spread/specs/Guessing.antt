@@ -1,5 +1,6 @@
 -- What the chance of an open group is asked with, and what it is held to be.
 use Rattle.std.specs.Prelude.{◌≡◌, ℕ, ◌-◌, true, List, [], ◌∷◌, Some, min, ◌==◌, if◌then◌else◌}
+use Rattle.sp_base.specs.Limits.{whole_share}
 use Rattle.sp_plan.specs.declared.plan.Length.{Length}
 use Rattle.sp_plan.specs.declared.plan.Length.TheVariants as counted
 use Rattle.sp_plan.specs.declared.plan.Plan.{Plan}
@@ -31,4 +32,4 @@ coming q m v = coming_in q.length (size q m.events v.window) v.position
 abbrev pub AreGuessed : Plan → Machine → (ℕ → ℕ → ℕ) → (ℕ → ℕ → ℕ) → Type 0
 AreGuessed q m means share =
     (id : ℕ) (v : Version) (r : ℕ) → version_at m.versions id ≡ Some v → is_group q (inner q m.events v) r ≡ true
-    → share id r ≡ min 65536 (means (left_of q (inner q m.events v) r) (coming q m v))
+    → share id r ≡ min whole_share (means (left_of q (inner q m.events v) r) (coming q m v))

@@ -1,5 +1,6 @@
 -- How a store keeps its entries: places with an id and a key each, the newest first. No public clause cites this.
 use Rattle.std.specs.Prelude.{◌≡◌, ◌≢◌, ℕ, ◌<◌, ◌≤◌, List, [], ◌∷◌, length, slice_index_or, Option, Some, None, IsSome}
+use Rattle.sp_base.specs.Limits.{live_limit}
 use Rattle.sp_store.specs.declared.place.Place.{Place}
 
 -- the ids fall, and are below this one
@@ -44,4 +45,4 @@ module _ {V : Type 0} where
     pub falls : Falls next places
     pub keyed : AreKeyed at places
     pub most : length places ≤ bound
-    pub few : bound ≤ 4096
+    pub few : bound ≤ live_limit

@@ -1,6 +1,7 @@
 ghost use Rattle.std.specs.Prelude.{◌≡◌, ◌+◌, ◌<◌, ◌≤◌, length, option_copied, IfOk, IfErr, OnOk, OnErr};
 ghost use Rattle.std.specs.Option.{option_copied_mut};
 ghost use Rattle.std.specs.Borrow.{sem};
+ghost use Rattle.sp_base.specs.Limits.{live_limit};
 ghost use Rattle.sp_store.specs.Stored.{opened, put_in, found, without, renewed, renewed_id, AreListed};
 ghost use Rattle.sp_store.specs.Faults.{IsPutFault};
 
@@ -46,7 +47,7 @@ impl<V> Store<V> {
     /// No value is live, and at most `bound` may be at a time. The first id is 1.
     pub fn new(alloc: Global, bound: u32) -> Result<Store<V>, Memory>
         requires some { 0 < bound }
-        requires most { bound ≤ 4096 }
+        requires most { bound ≤ live_limit }
         ensures { IfOk result (λ store. store ≡ opened bound) }
     {
         let places = Vec::with_capacity(alloc, bound as usize)?;

@@ -1,6 +1,7 @@
 -- Constants and names as they are written.
 use Rattle.std.proofs.Common.{◌≡◌, ◌≢◌, ℕ, ◌^◌, ◌≤◌, ◌<◌, Option, Some, None, List, [], ◌∷◌, ◌++◌, codes, refl, sym, ◌∙◌, ap, subst, arith, append-nil, append_assoc}
 use Rattle.std.specs.Fmt.{decimal}
+use Rattle.sp_base.specs.Limits.{number_limit}
 use Rattle.sp_lex.specs.declared.token.Token.{Token}
 use Rattle.sp_lex.specs.declared.token.Kernel.{Kernel}
 use Rattle.sp_lex.specs.declared.token.Kernel.TheVariants as k
@@ -38,10 +39,10 @@ plain_name text has = let p = plain_one name text has in subst IsPlain (name_bac
 pub prints_name : (text : List ℕ) → Prints (One (kernel name)) Equal text (text ++ 32 ∷ [])
 prints_name text has = prints_one name Equal text (k.Name text) text refl (name_spelled text (plain_name text has)) refl has
 
-small_word : (x : ℕ) → x ≤ 1000000000000000 → x < 2 ^ 64
+small_word : (x : ℕ) → x ≤ number_limit → x < 2 ^ 64
 small_word x h = omega arith
 
-pub number_spelled : (x : ℕ) → x ≤ 1000000000000000 → IsSpelled (k.Whole x) (decimal x)
+pub number_spelled : (x : ℕ) → x ≤ number_limit → IsSpelled (k.Whole x) (decimal x)
 number_spelled x h = whole_spelled (decimal x) x (decimal_digits x (small_word x h)) (decimal_value x (small_word x h)) h
 
 pub prints_whole : (number : ℕ) → Prints (One (kernel whole)) Equal number (decimal number ++ 32 ∷ [])

@@ -1,6 +1,7 @@
 -- How each token is written, and that a text that is written token by token has these tokens.
 use Rattle.std.proofs.Common.{◌≡◌, ◌≢◌, ℕ, ◌+◌, ◌≤◌, ◌<◌, ◌⊎◌, inl, inr, true, false, not, ◌==◌, Some, List, [], ◌∷◌, ◌++◌, length, get_or, refl, sym, ◌∙◌, ap, subst, arith, append_assoc, append-nil}
 use Rattle.std.specs.List.{list_all}
+use Rattle.sp_base.specs.Limits.{number_limit}
 use Rattle.sp_lex.specs.declared.token.Word.{Word}
 use Rattle.sp_lex.specs.declared.token.Token.{Token}
 use Rattle.sp_lex.specs.declared.token.Kernel.{Kernel}
@@ -63,10 +64,10 @@ literal_spelled value rest =
 no_part : (rest : List ℕ) → IsPart (32 ∷ rest)
 no_part rest part r e n = cc
 
-small_capped : (n : ℕ) → n ≤ 1000000000000000 → n ≡ capped n
+small_capped : (n : ℕ) → n ≤ number_limit → n ≡ capped n
 small_capped n h = omega arith
 
-pub whole_spelled : (f : List ℕ) (x : ℕ) → IsNumber f → number_of f ≡ x → x ≤ 1000000000000000 → IsSpelled (k.Whole x) f
+pub whole_spelled : (f : List ℕ) (x : ℕ) → IsNumber f → number_of f ≡ x → x ≤ number_limit → IsSpelled (k.Whole x) f
 whole_spelled f x n e small rest =
     let run : IsRun is_digit f (32 ∷ rest) = record { all = n.all; stops = refl } in (
       record { spells = as_whole (ap k.Whole (sym e)) n; longest = whole_longest f (32 ∷ rest) (heads_append is_digit f (32 ∷ rest) (number_begins f n)) run (no_part rest) },
@@ -76,7 +77,7 @@ whole_spelled f x n e small rest =
 some_digits : (part : List ℕ) → 1 ≤ length part → part ≢ []
 some_digits part h e = let i : length part ≡ 0 = ap length e in omega arith
 
-decimal_token : (whole part rest : List ℕ) (units scale : ℕ) → IsNumber whole → list_all is_digit part ≡ true → length part ≡ scale → number_of (whole ++ part) ≡ units → units ≤ 1000000000000000 → 1 ≤ scale → scale ≤ 6
+decimal_token : (whole part rest : List ℕ) (units scale : ℕ) → IsNumber whole → list_all is_digit part ≡ true → length part ≡ scale → number_of (whole ++ part) ≡ units → units ≤ number_limit → 1 ≤ scale → scale ≤ 6
     → IsToken (k.Decimal units scale) (whole ++ 46 ∷ part) (32 ∷ rest) × (IsLong ((whole ++ 46 ∷ part) ++ 32 ∷ rest) → ⊥)
 decimal_token whole part rest units scale n digits longer value small some_ few =
     let after = 32 ∷ rest in
@@ -86,15 +87,15 @@ decimal_token whole part rest units scale n digits longer value small some_ few 
     let below : IsRun is_digit part after = record { all = digits; stops = refl } in
     let head : heads is_digit (whole ++ (46 ∷ (part ++ after))) ≡ true = heads_append is_digit whole (46 ∷ (part ++ after)) (number_begins whole n) in
     let grown : number_of whole ≤ number_of (whole ++ part) = number_grows whole part in
-    let first : capped (number_of whole) ≤ 1000000000000000 = omega arith in
+    let first : capped (number_of whole) ≤ number_limit = omega arith in
     let both : with_more (with_more 0 whole) part ≡ capped (number_of (whole ++ part)) = in_two whole part in
-    let last : capped (number_of (whole ++ part)) ≤ 1000000000000000 = omega arith in (
+    let last : capped (number_of (whole ++ part)) ≤ number_limit = omega arith in (
       record { spells = as_decimal whole part (λ i. k.Decimal (sym value i) (sym longer i)) refl n is_part (subst (λ z. z ≤ 6) (sym longer) few); longest = decimal_longest whole part after head run below },
       decimal_short ((whole ++ 46 ∷ part) ++ after) whole (46 ∷ (part ++ after)) (part ++ after) part after (with_more 0 whole) (with_more (with_more 0 whole) part)
-          (ap (heads is_digit) cut ∙ head) cut run refl refl below (λ e. let l : length part ≡ scale = longer in omega arith) refl refl first (subst (λ z. z ≤ 6) (sym longer) few) (subst (λ z. z ≤ 1000000000000000) (sym both) last),
+          (ap (heads is_digit) cut ∙ head) cut run refl refl below (λ e. let l : length part ≡ scale = longer in omega arith) refl refl first (subst (λ z. z ≤ 6) (sym longer) few) (subst (λ z. z ≤ number_limit) (sym both) last),
     )
 
-pub decimal_spelled : (text : List ℕ) (units scale : ℕ) → IsDecimalOf units scale text → units ≤ 1000000000000000 → 1 ≤ scale → scale ≤ 6 → IsSpelled (k.Decimal units scale) text
+pub decimal_spelled : (text : List ℕ) (units scale : ℕ) → IsDecimalOf units scale text → units ≤ number_limit → 1 ≤ scale → scale ≤ 6 → IsSpelled (k.Decimal units scale) text
 decimal_spelled text units scale d small some_ few = subst (IsSpelled (k.Decimal units scale)) (sym d.cut) (λ rest. decimal_token d.whole d.part rest units scale d.is_whole d.digits d.scale_is d.units_is small some_ few)
 
 -- ---- what a text's own tokens are
@@ -122,10 +123,10 @@ positive (b ∷ part) n = omega arith
 plain_kernel : (kernel : Kernel) (f rest : List ℕ) → Spells kernel f rest → (IsLong (f ++ rest) → ⊥) → IsPlain kernel
 plain_kernel kernel f rest (as_word w e d) short = subst IsPlain (sym e) tt
 plain_kernel kernel f rest (as_name e n o) short = subst IsPlain (sym e) (n, o)
-plain_kernel kernel f rest (as_whole e n) short = subst IsPlain (sym e) (not_more (number_of f) 1000000000000000 (λ h.
-    short (record { whole = f; part = []; rest = rest; cut = refl; is_whole = n; is_part = refl; long = inr (subst (λ l. 1000000000000000 < number_of l) (sym (append-nil f)) h) })))
+plain_kernel kernel f rest (as_whole e n) short = subst IsPlain (sym e) (not_more (number_of f) number_limit (λ h.
+    short (record { whole = f; part = []; rest = rest; cut = refl; is_whole = n; is_part = refl; long = inr (subst (λ l. number_limit < number_of l) (sym (append-nil f)) h) })))
 plain_kernel kernel f rest (as_decimal w p e d n m s) short = subst IsPlain (sym e) (
-  not_more (number_of (w ++ p)) 1000000000000000 (λ h. short (record {
+  not_more (number_of (w ++ p)) number_limit (λ h. short (record {
     whole = w;
     part = p;
     rest = rest;

@@ -1,6 +1,7 @@
 -- What the functions that print a query promise.
 use Rattle.std.specs.Prelude.{◌≡◌, ◌≢◌, ℕ, zero, suc, ◌≤◌, Option, List, [], ◌∷◌, ◌++◌, true, length}
 use Rattle.std.specs.List.{list_all}
+use Rattle.sp_base.specs.Limits.{number_limit}
 use Rattle.sp_lex.specs.declared.token.Token.{Token}
 use Rattle.sp_lex.specs.declared.token.Word.{Word}
 use Rattle.sp_lex.specs.declared.token.Kernel.{Kernel}
@@ -22,8 +23,8 @@ use Rattle.sp_syntax.specs.Written.{Written, kernels}
 -- A kernel that a text can have.
 abbrev pub IsPlain : Kernel → Type 0
 IsPlain (k.Name text) = IsName text × ((word : Word) → text ≢ spelling word)
-IsPlain (k.Whole x) = x ≤ 1000000000000000
-IsPlain (k.Decimal units scale) = (units ≤ 1000000000000000) × (1 ≤ scale) × (scale ≤ 6)
+IsPlain (k.Whole x) = x ≤ number_limit
+IsPlain (k.Decimal units scale) = (units ≤ number_limit) × (1 ≤ scale) × (scale ≤ 6)
 IsPlain _ = Unit {0}
 
 -- Tokens of such kernels.

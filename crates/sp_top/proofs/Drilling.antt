@@ -1,6 +1,8 @@
 -- A drill: its plan, its run over generated rows, and its summary.
 use Rattle.std.proofs.Common.{◌⊎◌, ◌≡◌, ◌≤◌, inl, inr, ⊎_elim, ℕ, true, List, [], length, Option, Some, None, Ok, Err, refl, sym, ◌∙◌, ap, subst, arith}
 use Rattle.std.specs.Prelude.{Result, IfErr}
+use Rattle.sp_base.specs.Limits.{event_limit}
+use Rattle.sp_base.specs.Numbers.{with_numbers}
 use Rattle.sp_cut.specs.Growth.{RowsStay}
 use Rattle.sp_io.specs.Outside.{Told, SourceState, SinkState, Gave, Grew, GrewWithin, IsUsedUp, Rose}
 use Rattle.sp_plan.specs.declared.event.Event.{Event}
@@ -8,7 +10,6 @@ use Rattle.sp_plan.specs.declared.found.Match.{Match}
 use Rattle.sp_plan.specs.declared.plan.Plan.{Plan}
 use Rattle.sp_plan.specs.Sequential.{seq, whole}
 use Rattle.sp_plan.specs.Windows.{closed, windows}
-use Rattle.sp_group.specs.Rising.{with_numbers}
 use Rattle.sp_emit.specs.Summary.{summary}
 use Rattle.sp_gen.specs.Generated.{generated}
 use Rattle.sp_drill.specs.Drill.{GeneratedRowsAreRead}
@@ -58,7 +59,7 @@ quiet (inr full) = omega (arith, full)
 pub end_of : (Is : Ended → Type 0) (s : Status) (o : Option Ended) (e : Ended) → s ≡ Done → o ≡ Some e → WhereDone Is s o → Is e
 end_of Is s o e done some report = subst (λ (x : Option Ended). WhereDone Is Done x) some (subst (λ (t : Status). WhereDone Is t o) done report) refl
 
-module _ (stay : RowsStay) (has : DrillQueryHasPlan) (rows : GeneratedRowsAreRead) (q : Plan) (is : IsPlanFor drill_query q) (events seed : ℕ) (few : events ≤ 1048576) (old new : Outside)
+module _ (stay : RowsStay) (has : DrillQueryHasPlan) (rows : GeneratedRowsAreRead) (q : Plan) (is : IsPlanFor drill_query q) (events seed : ℕ) (few : events ≤ event_limit) (old new : Outside)
     (told : old.input.left ≡ Some (generated events seed)) (no_read : Rose old.input.faults new.input.faults → ⊥) (no_write : Rose old.out.faults new.out.faults → ⊥)
     (used_up : new.input.ended ≡ true → IsUsedUp new.input.left) (s : Status) (ran : Ran (IsPlanRun q) old new (ending s)) where
   reads : ReadsToEnd q old.input (generated events seed)
@@ -118,7 +119,7 @@ module _ (q : Plan) (is : IsPlanFor drill_query q) (events seed : ℕ) (input : 
 
 -- ---- the whole of it
 
-module _ (has : DrillQueryHasPlan) (rows : GeneratedRowsAreRead) (events seed : ℕ) (few : events ≤ 1048576) (speed : Speed) where
+module _ (has : DrillQueryHasPlan) (rows : GeneratedRowsAreRead) (events seed : ℕ) (few : events ≤ event_limit) (speed : Speed) where
   -- a drill's run can be summed up
   pub can_sum : (s : Status) (ended : Option Ended) → WhereDone (ReportsDrill events seed speed) s ended → WhereDone CanSum s ended
   can_sum s None report = report

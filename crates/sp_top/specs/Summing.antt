@@ -1,5 +1,6 @@
 -- What the summary of a drill is made of, and how it is written.
 use Rattle.std.specs.Prelude.{◌≡◌, ◌≢◌, ◌≤◌, ℕ, true, length, Option, Some}
+use Rattle.sp_base.specs.Limits.{event_limit}
 use Rattle.sp_io.specs.Outside.{SinkState}
 use Rattle.sp_plan.specs.Windows.{windows}
 use Rattle.sp_split.specs.declared.ended.Ended.{Ended}
@@ -9,7 +10,7 @@ use Rattle.sp_commands.specs.Drill.{summary_of, WritesSummary}
 
 -- a run ended with the windows of its events all finished, and had no more events than an input may have
 abbrev pub CanSum : Ended → Type 0
-CanSum e = (length e.core.machine.events ≤ 1048576) × (e.core.machine.finished ≡ length (windows e.core.plan e.core.machine.events true))
+CanSum e = (length e.core.machine.events ≤ event_limit) × (e.core.machine.finished ≡ length (windows e.core.plan e.core.machine.events true))
 
 -- Of a run with this status and end: where it was done its summary was written, and the new status is that of the writing; else nothing was.
 pub record SumsUp (status : Status) (ended : Option Ended) (old new : SinkState) (later : Status) : Type 0 where

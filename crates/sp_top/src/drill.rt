@@ -1,5 +1,6 @@
 // The command `drill`: its query over generated rows, by the speculative engine.
 ghost use Rattle.std.specs.Prelude.{◌≡◌, ◌⊎◌, ◌≤◌, true, false, length, string_bytes, Some, IfOk, IfErr};
+ghost use Rattle.sp_base.specs.Limits.{event_limit, live_limit, batch_limit};
 ghost use Rattle.sp_io.specs.ByteSource.{source_state};
 ghost use Rattle.sp_io.specs.Outside.{SourceState};
 ghost use Rattle.sp_plan.specs.Windows.{windows};
@@ -85,9 +86,9 @@ fn run_rows<G: Gate, R: Threads + Wait + Sync>(
     speed: &Speed,
     predictor: Box<dyn Predictor>,
 ) -> Answer
-    requires few { events ≤ 1048576 }
-    requires live { (1 ≤ speed.now.live) × (speed.now.live ≤ 4096) }
-    requires batch { (1 ≤ speed.now.batch) × (speed.now.batch ≤ 1024) }
+    requires few { events ≤ event_limit }
+    requires live { (1 ≤ speed.now.live) × (speed.now.live ≤ live_limit) }
+    requires batch { (1 ≤ speed.now.batch) × (speed.now.batch ≤ batch_limit) }
     requires instances { speed.now.instances ≤ 16 }
     ensures status { (result.status ≡ Status.Done) ⊎ (result.status ≡ Status.Memory) }
     ensures report { WhereDone (ReportsDrill events seed (speed_seen speed.now))
@@ -115,7 +116,7 @@ fn count_of(numbers: &Numbers) -> Result<u32, Memory>
 
 // The summary of a run whose windows are all finished.
 fn summary_of(alloc: Global, core: &Core) -> Result<String, Memory>
-    requires few { length core.now.machine.events ≤ 1048576 }
+    requires few { length core.now.machine.events ≤ event_limit }
     requires finished { core.now.machine.finished
         ≡ length (windows core.now.plan core.now.machine.events true) }
     ensures { IfOk result (λ line.
@@ -130,7 +131,7 @@ fn summary_of(alloc: Global, core: &Core) -> Result<String, Memory>
 
 // Writes the summary of a run that was done, by one call.
 fn write_summary<K: Sink>(alloc: Global, core: &Core, out: &mut K) -> Status
-    requires few { length core.now.machine.events ≤ 1048576 }
+    requires few { length core.now.machine.events ≤ event_limit }
     requires finished { core.now.machine.finished
         ≡ length (windows core.now.plan core.now.machine.events true) }
     ensures { WritesSummary (specs.summary_of core.now.plan core.now.machine.events)
@@ -167,9 +168,9 @@ pub(crate) fn drill<K: Sink, G: Gate, R: Threads + Wait + Sync>(
     predictor: Box<dyn Predictor>,
     out: &mut K,
 ) -> Answer
-    requires few { events ≤ 1048576 }
-    requires live { (1 ≤ speed.now.live) × (speed.now.live ≤ 4096) }
-    requires batch { (1 ≤ speed.now.batch) × (speed.now.batch ≤ 1024) }
+    requires few { events ≤ event_limit }
+    requires live { (1 ≤ speed.now.live) × (speed.now.live ≤ live_limit) }
+    requires batch { (1 ≤ speed.now.batch) × (speed.now.batch ≤ batch_limit) }
     requires instances { speed.now.instances ≤ 16 }
     ensures made { (input : SourceState) → Made (λ bytes ended. DrillOutcome events seed)
         (outside input (K.state out.old)) (outside input (K.state out.new)) (ending result.status) }

@@ -1,6 +1,7 @@
 // The command `run`: a query over the input, by the speculative engine.
 ghost use Rattle.std.specs.Prelude.{◌≡◌, ◌≤◌, false, IfOk};
 ghost use Rattle.std.specs.Arc.{arc_value};
+ghost use Rattle.sp_base.specs.Limits.{live_limit, batch_limit};
 ghost use Rattle.sp_io.specs.Outside.{SourceState};
 ghost use Rattle.sp_plan.specs.Compiled.{IsCompiled};
 ghost use Rattle.sp_core.specs.Running.{begun};
@@ -59,7 +60,7 @@ struct Start {
 fn start_of(alloc: Global, plan: Plan, live: u32) -> Result<Start, Memory>
     requires compiled { IsCompiled plan }
     requires some { 1 ≤ live }
-    requires most { live ≤ 4096 }
+    requires most { live ≤ live_limit }
     ensures plan { IfOk result (λ start. arc_value start.plan ≡ plan) }
     ensures core { IfOk result (λ start. start.core ≡ begun plan live) }
     ensures fresh { IfOk result (λ start. IsFresh plan start.events) }
@@ -83,7 +84,7 @@ fn drive_core<S: Source, K: Sink, G: Gate, R: Threads + Wait + Sync>(
 ) -> Answer
     requires fresh { core ≡ begun core.plan core.bound }
     requires bound { core.bound ≡ speed.now.live }
-    requires batch { (1 ≤ speed.now.batch) × (speed.now.batch ≤ 1024) }
+    requires batch { (1 ≤ speed.now.batch) × (speed.now.batch ≤ batch_limit) }
     requires instances { speed.now.instances ≤ 16 }
     requires compiled { IsCompiled core.plan }
     requires plan_in { plan_in input.old.events.reader.kept ≡ core.plan }
@@ -129,8 +130,8 @@ pub(crate) fn run_plan<S: Source, K: Sink, G: Gate, R: Threads + Wait + Sync>(
     out: &mut K,
 ) -> Answer
     requires compiled { IsCompiled plan }
-    requires live { (1 ≤ speed.now.live) × (speed.now.live ≤ 4096) }
-    requires batch { (1 ≤ speed.now.batch) × (speed.now.batch ≤ 1024) }
+    requires live { (1 ≤ speed.now.live) × (speed.now.live ≤ live_limit) }
+    requires batch { (1 ≤ speed.now.batch) × (speed.now.batch ≤ batch_limit) }
     requires instances { speed.now.instances ≤ 16 }
     requires not_ended { (S.state input.old).ended ≡ false }
     ensures ran { Ran (IsPlanRun plan)
@@ -163,8 +164,8 @@ pub(crate) fn run<S: Source, F: Files, K: Sink, G: Gate, R: Threads + Wait + Syn
     files: &mut F,
     out: &mut K,
 ) -> Answer
-    requires live { (1 ≤ asked.speed.now.live) × (asked.speed.now.live ≤ 4096) }
-    requires batch { (1 ≤ asked.speed.now.batch) × (asked.speed.now.batch ≤ 1024) }
+    requires live { (1 ≤ asked.speed.now.live) × (asked.speed.now.live ≤ live_limit) }
+    requires batch { (1 ≤ asked.speed.now.batch) × (asked.speed.now.batch ≤ batch_limit) }
     requires instances { asked.speed.now.instances ≤ 16 }
     requires not_ended { (S.state input.old).ended ≡ false }
     ensures served { Served (files_at (place_of asked.entry.place))

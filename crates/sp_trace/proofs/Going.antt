@@ -4,6 +4,7 @@ use Rattle.std.specs.Prelude.{slice_get}
 use Rattle.std.proofs.lemmas.List.{get_or-take, length-take, length_push, take_more}
 use Rattle.std.proofs.lemmas.List.Elements.{All-take}
 use Rattle.std.proofs.lemmas.Option.{slice_get_within, slice_get-get_or, get_or_from_slice_get}
+use Rattle.sp_base.specs.Limits.{batch_limit}
 use Rattle.sp_plan.specs.declared.event.Event.{Event}
 use Rattle.sp_plan.specs.declared.plan.Plan.{Plan}
 use Rattle.sp_plan.specs.Events.{AllFit, NeverGoesBack, fits}
@@ -119,8 +120,8 @@ module _ (q : Plan) (events : List Event) (fed : ℕ) (bench : Benched) (kept : 
       subst (λ (p : Plan). Good p (bench.machine.events ++ e ∷ [])) (sym kept.plan) good
   can_take x (s.Lease id n) stands is = lent x stands is
     where
-      lent : (x : TraceStep) → CanStand x → machine_step (tracing q events bench) x ≡ Some (s.Lease id n) → (1 ≤ n) × (n ≤ 1024)
-      lent (t.Lease version count) stands is = let e : count ≡ n = cc in (subst (λ (k : ℕ). 1 ≤ k) e stands.1, subst (λ (k : ℕ). k ≤ 1024) e stands.2)
+      lent : (x : TraceStep) → CanStand x → machine_step (tracing q events bench) x ≡ Some (s.Lease id n) → (1 ≤ n) × (n ≤ batch_limit)
+      lent (t.Lease version count) stands is = let e : count ≡ n = cc in (subst (λ (k : ℕ). 1 ≤ k) e stands.1, subst (λ (k : ℕ). k ≤ batch_limit) e stands.2)
       lent t.Feed stands is = absurd (none (next_event (tracing q events bench)) is)
         where
           none : (o : Option Event) → feeding o ≡ Some (s.Lease id n) → ⊥

@@ -2,6 +2,7 @@
 use Rattle.std.specs.Prelude.{ℕ, Bool, true, false, List, [], ◌∷◌, ◌++◌, length, Option, Some, None, map, slice_get, codes}
 use Rattle.std.specs.List.{flat_map}
 use Rattle.std.specs.Fmt.{decimal}
+use Rattle.sp_base.specs.Commas.{list_text}
 use Rattle.sp_plan.specs.declared.event.Event.{Event}
 use Rattle.sp_plan.specs.declared.plan.Plan.{Plan}
 use Rattle.sp_plan.specs.Lines.{line}
@@ -15,7 +16,7 @@ use Rattle.sp_group.specs.Seen.{state_seen}
 use Rattle.sp_group.specs.Steps.{Answered, Fed, Ended, Spawned, Leased, Read, Closed, Home, Stale, Rolled, Finished, Nothing, Reply, Refused, Done, reply, step}
 use Rattle.sp_sched.specs.declared.step.TraceStep.{TraceStep}
 use Rattle.sp_sched.specs.declared.step.TraceStep.TheVariants as t
-use Rattle.sp_emit.specs.StateLines.{list_text, id_text, truth_text, lines_of_state}
+use Rattle.sp_emit.specs.StateLines.{id_text, truth_text, lines_of_state}
 
 -- the plan, the bound, the events of the whole input, and the state of the machine so far
 pub record Tracing : Type 0 where

@@ -1,5 +1,6 @@
 ghost use Rattle.std.specs.Prelude.{◌≡◌, ◌≤◌, ◌⊎◌, [], ◌∷◌, map, string_bytes, IfOk, IfErr, OnOk, OnErr};
 ghost use Rattle.std.specs.Arc.{arc_value};
+ghost use Rattle.sp_base.specs.Limits.{live_limit};
 ghost use Rattle.sp_plan.specs.Compiled.{IsCompiled};
 ghost use Rattle.sp_plan.specs.Events.{AllFit, NeverGoesBack};
 ghost use Rattle.sp_sched.specs.Schedules.{CanStand};
@@ -80,7 +81,7 @@ impl Tracer {
     ) -> Result<Tracer, Memory>
         requires compiled { IsCompiled (arc_value plan) }
         requires some { 1 ≤ bound }
-        requires most { bound ≤ 4096 }
+        requires most { bound ≤ live_limit }
         requires fit { AllFit (arc_value plan) events.items }
         requires ordered { NeverGoesBack events.items }
         ensures { IfOk result (λ tracer. tracer ≡ begun (arc_value plan) bound events.items) }

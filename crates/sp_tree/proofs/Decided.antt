@@ -6,11 +6,10 @@ use Rattle.std.proofs.lemmas.Bool.Decides.{nat_tests}
 use Rattle.std.proofs.lemmas.List.{append_assoc, append-nil}
 use Rattle.std.proofs.lemmas.List.Elements.{filter_agree}
 use Rattle.std.proofs.lemmas.List.Folds.{list_all-append, list_any-append}
-use Rattle.sp_plan.specs.Runs.{is_among}
+use Rattle.sp_base.specs.Numbers.{is_among, with_number}
 use Rattle.sp_group.specs.declared.outcome.Outcome.{Outcome}
 use Rattle.sp_group.specs.declared.outcome.Outcome.TheVariants.{Completed, Abandoned}
 use Rattle.sp_group.specs.Deciding.{others, others_than, foresaw, foresaw_all}
-use Rattle.sp_group.specs.Rising.{with_number}
 use Rattle.sp_group.specs.Family.{Kin, entry_at, parent_there, kept, prune, is_parent}
 use Rattle.sp_tree.specs.declared.version.Version.{Version}
 use Rattle.sp_tree.specs.Changes.{decided, child_decided, with_run}

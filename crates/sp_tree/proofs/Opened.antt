@@ -4,8 +4,8 @@ use Rattle.std.specs.Prelude.{Result, Ok, Err, OnOk, IfSome, IsSome}
 use Rattle.std.proofs.lemmas.List.{drop_more, get_or_default}
 use Rattle.std.proofs.lemmas.Bool.{false≢true}
 use Rattle.std.proofs.lemmas.Bool.Decides.{nat_tests}
+use Rattle.sp_base.specs.Numbers.{is_among}
 use Rattle.sp_store.specs.Stored.{Stored, FallFrom}
-use Rattle.sp_plan.specs.Runs.{is_among}
 use Rattle.sp_group.specs.Family.{entry_at, parent_there}
 use Rattle.sp_tree.specs.declared.version.Version.{Version}
 use Rattle.sp_tree.specs.Changes.{branches, with_run, IsIndex, IsUnder, IsChildAt, AreNoChild}

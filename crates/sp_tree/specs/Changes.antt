@@ -1,8 +1,8 @@
 -- What each call does to one version of a tree: it stays, perhaps changed, or it goes.
 use Rattle.std.specs.Prelude.{◌≡◌, ◌<◌, ℕ, length, slice_index_or, Bool, true, false, List, [], ◌∷◌, Option, Some, None, is_some, ◌==◌, if◌then◌else◌}
+use Rattle.sp_base.specs.Numbers.{with_number}
 use Rattle.sp_group.specs.declared.outcome.Outcome.{Outcome}
 pub use Rattle.sp_group.specs.Deciding.{others, foresaw}
-use Rattle.sp_group.specs.Rising.{with_number}
 use Rattle.sp_group.specs.Family.{Kin, is_parent}
 use Rattle.sp_tree.specs.declared.version.Version.{Version}
 use Rattle.sp_tree.specs.declared.version.Change.{Change}

@@ -1,6 +1,7 @@
 ghost use Rattle.std.specs.Prelude.{◌≡◌, ◌≢◌, ◌+◌, ◌<◌, ◌≤◌, false, length, option_copied, IfOk, IfErr, OnOk, OnErr, IsTrue, IsSome, IsNone, IfSome, [], reverse, map};
 ghost use Rattle.std.specs.Option.{option_copied_mut};
 ghost use Rattle.std.specs.Borrow.{sem};
+ghost use Rattle.sp_base.specs.Limits.{live_limit};
 ghost use Rattle.sp_group.specs.Family.{entry_at, prune};
 ghost use Rattle.sp_group.specs.Rising.{IsLabel};
 ghost use Rattle.sp_tree.specs.Changes.{changed_by, decided, promoted};
@@ -48,7 +49,7 @@ impl<V> Tree<V> {
     /// No version is live, and at most `bound` may be at a time. The first id is 1.
     pub fn new(alloc: Global, bound: u32) -> Result<Tree<V>, Memory>
         requires some { 0 < bound }
-        requires most { bound ≤ 4096 }
+        requires most { bound ≤ live_limit }
         ensures { IfOk result (λ tree. tree ≡ opened bound) }
     {
         let values = Store::new(alloc, bound)?;

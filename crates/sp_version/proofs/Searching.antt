@@ -7,9 +7,9 @@ use Rattle.std.proofs.lemmas.List.Elements.{All-get_or}
 use Rattle.std.proofs.lemmas.List.Folds.{list_any_at}
 use Rattle.std.proofs.lemmas.Bool.{cases_eq, cases_lt, eq-eqb, ne_eqb}
 use Rattle.std.proofs.lemmas.Bool.Decides.{nat_tests}
+use Rattle.sp_base.specs.Numbers.{is_among}
 use Rattle.sp_base.specs.Place.{IsPlace}
 use Rattle.sp_base.proofs.Placed.{earlier}
-use Rattle.sp_plan.specs.Runs.{is_among}
 use Rattle.sp_group.specs.Rising.{least}
 
 -- none passes

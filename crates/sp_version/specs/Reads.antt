@@ -1,8 +1,8 @@
 -- Which events a version has read and not skipped, and which of them it should not have.
 use Rattle.std.specs.Prelude.{◌≡◌, ℕ, ◌+◌, Bool, not, ◌&&◌, nat_le, nat_lt, List, Option}
+use Rattle.sp_base.specs.Numbers.{is_among}
 use Rattle.sp_plan.specs.declared.event.Event.{Event}
 use Rattle.sp_plan.specs.declared.plan.Plan.{Plan}
-use Rattle.sp_plan.specs.Runs.{is_among}
 use Rattle.sp_plan.specs.WindowNumbers.{first}
 use Rattle.sp_group.specs.Machine as machine
 use Rattle.sp_group.specs.Machine.{is_read}

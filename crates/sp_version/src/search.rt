@@ -1,8 +1,8 @@
 // The least number of a part of a rising list that is not among others.
 ghost use Rattle.std.specs.Prelude.{◌≡◌, ◌+◌, ◌&&◌, not, nat_le, nat_lt};
 ghost use Rattle.std.specs.List.Sorted.{IsStrictlyIncreasing};
+ghost use Rattle.sp_base.specs.Numbers.{is_among};
 ghost use Rattle.sp_base.specs.Place.{IsPlace};
-ghost use Rattle.sp_plan.specs.Runs.{is_among};
 ghost use Rattle.sp_group.specs.Rising.{least};
 ghost use Rattle.sp_version.specs.Reads.{least_unskipped};
 

@@ -1,11 +1,12 @@
 -- What the window-by-window engine reads of a window is a reading by numbers.
 use Rattle.std.proofs.Common.{◌≡◌, ℕ, suc, ◌-◌, ◌<◌, Bool, false, not, List, Option, sym, ap, ◌∙◌, arith}
 use Rattle.std.specs.Prelude.{filter, slice_get}
+use Rattle.sp_base.specs.Numbers.{is_among}
 use Rattle.sp_plan.specs.declared.event.Event.{Event}
 use Rattle.sp_plan.specs.declared.plan.Plan.{Plan}
 use Rattle.sp_plan.specs.Windows.{Numbered, Window, windows, IsWindowed}
 use Rattle.sp_plan.specs.WindowNumbers.{Good, count, first, size, numbered_window}
-use Rattle.sp_plan.specs.Runs.{State, is_among, state, matched_runs}
+use Rattle.sp_plan.specs.Runs.{State, state, matched_runs}
 use Rattle.sp_plan.specs.Reading.{reading}
 use Rattle.sp_plan.specs.Sequential.{seq, visible, after_window}
 use Rattle.sp_plan.proofs.Readings.{reading_is_state}

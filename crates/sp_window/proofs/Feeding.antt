@@ -7,6 +7,7 @@ use Rattle.std.proofs.lemmas.Bool.Decides.{nat_tests}
 use Rattle.std.proofs.lemmas.Int.{ints}
 use Rattle.std.proofs.lemmas.Option.{slice_get_within}
 use Rattle.std.proofs.lemmas.List.Elements.{All-nil, All-cons}
+use Rattle.sp_base.specs.Limits.{number_limit}
 use Rattle.sp_plan.specs.declared.event.Event.{Event}
 use Rattle.sp_plan.specs.declared.event.Value.{Value}
 use Rattle.sp_plan.specs.declared.event.Value.TheVariants.{Number, Symbol}
@@ -23,17 +24,17 @@ use Rattle.sp_window.proofs.Lists.{last_or-push, last_at, get_push, get_front, g
 -- what an event that fits keeps of its time
 pub record InTime (e : Event) : Type 0 where
   pub is : e.time ≡ pos (stamp e)
-  pub late : stamp e ≤ 1000000000000000
+  pub late : stamp e ≤ number_limit
 
 -- a time that passes both tests
-time_within : (t : ℤ) → int_le (pos 0) t ≡ true → int_le t (pos 1000000000000000) ≡ true → (t ≡ pos (unsigned_abs t)) × (unsigned_abs t ≤ 1000000000000000)
+time_within : (t : ℤ) → int_le (pos 0) t ≡ true → int_le t (pos number_limit) ≡ true → (t ≡ pos (unsigned_abs t)) × (unsigned_abs t ≤ number_limit)
 time_within (pos n) low high = (refl, grind (arith, nat_tests))
 time_within (negsuc n) low high = cc
 
 -- the parts of a test by which an event fits
-fits_parts : (q : Plan) (e : Event) → fits q e ≡ true → ((length q.schema.columns == length e.values) ≡ true) × (list_all fits_column (zip q.schema.columns e.values) ≡ true) × (int_le (pos 0) e.time ≡ true) × (int_le e.time (pos 1000000000000000) ≡ true)
+fits_parts : (q : Plan) (e : Event) → fits q e ≡ true → ((length q.schema.columns == length e.values) ≡ true) × (list_all fits_column (zip q.schema.columns e.values) ≡ true) × (int_le (pos 0) e.time ≡ true) × (int_le e.time (pos number_limit) ≡ true)
 fits_parts q e is =
-    let outer = and_parts ((length q.schema.columns == length e.values) && list_all fits_column (zip q.schema.columns e.values) && int_le (pos 0) e.time) (int_le e.time (pos 1000000000000000)) is in
+    let outer = and_parts ((length q.schema.columns == length e.values) && list_all fits_column (zip q.schema.columns e.values) && int_le (pos 0) e.time) (int_le e.time (pos number_limit)) is in
     let middle = and_parts ((length q.schema.columns == length e.values) && list_all fits_column (zip q.schema.columns e.values)) (int_le (pos 0) e.time) outer.0 in
     let inner = and_parts (length q.schema.columns == length e.values) (list_all fits_column (zip q.schema.columns e.values)) middle.0 in
     (inner.0, inner.1, middle.1, outer.1)

@@ -10,6 +10,7 @@ use Rattle.std.proofs.lemmas.List.{append-nil, length-map, map-append}
 use Rattle.std.proofs.lemmas.Option.{slice_get_within, slice_get-map}
 use Rattle.std.proofs.lemmas.List.Elements.{All-append, All-weaker, All-push, All-head, All-tail, filter-append}
 use Rattle.std.proofs.Math.Nat.{add-mod_right, zero-mod}
+use Rattle.sp_base.specs.Limits.{event_limit}
 use Rattle.sp_plan.specs.declared.event.Event.{Event}
 use Rattle.sp_plan.specs.declared.plan.Plan.{Plan}
 use Rattle.sp_plan.specs.declared.plan.Length.{Length}
@@ -184,7 +185,7 @@ module _ (q : Plan) (limits : IsWindowed q) (events : List Event) (e : Event) (g
       )
 
 -- one event more
-module _ (w v : Kept) (events : List Event) (e : Event) (limits : IsWindowed w.plan) (stands : Stands w events false) (fits_e : fits w.plan e ≡ true) (rise : w.time ≤ stamp e) (few : w.fed < 1048576) (feeds : Feeds w v e) where
+module _ (w v : Kept) (events : List Event) (e : Event) (limits : IsWindowed w.plan) (stands : Stands w events false) (fits_e : fits w.plan e ≡ true) (rise : w.time ≤ stamp e) (few : w.fed < event_limit) (feeds : Feeds w v e) where
   rises : last_stamp events ≤ stamp e
   rises = let at = stands.time_is in omega arith
 

@@ -1,5 +1,6 @@
 -- What callers see of windows, and when it stands for a list of events.
 use Rattle.std.specs.Prelude.{◌≡◌, ◌≤◌, ℕ, Bool, List, length, Some, None, if◌then◌else◌}
+use Rattle.sp_base.specs.Limits.{event_limit}
 use Rattle.sp_plan.specs.declared.event.Event.{Event}
 use Rattle.sp_plan.specs.declared.plan.Plan.{Plan}
 use Rattle.sp_plan.specs.Windows as spec
@@ -20,7 +21,7 @@ pub record Kept : Type 0 where
 -- what is kept stands for these events, and for whether input has ended behind them
 pub record Stands (w : Kept) (events : List Event) (ended : Bool) : Type 0 where
   pub good : Good w.plan events
-  pub few : length events ≤ 1048576
+  pub few : length events ≤ event_limit
   pub fed_is : w.fed ≡ length events
   pub time_is : w.time ≡ last_stamp events
   pub ended_is : w.ended ≡ ended

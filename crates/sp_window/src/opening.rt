@@ -1,6 +1,7 @@
 // The windows that open with an event.
 ghost use Rattle.std.specs.Prelude.{◌≡◌, ℕ, ◌≤◌, ◌<◌, pos, ◌≤ℤ◌, ◌<ℤ◌, ◌+◌, ◌-◌, ◌*◌, ◌/◌, ◌++◌, ◌∷◌, [], map, IfOk, OnOk, OnErr, length, unsigned_abs};
 ghost use Rattle.std.specs.List.{range_with_len};
+ghost use Rattle.sp_base.specs.Limits.{event_limit, number_limit};
 ghost use Rattle.sp_plan.specs.Windows.{IsLength, IsStepInTime, IsWindowed, duration};
 ghost use Rattle.sp_plan.specs.Compiled.{IsCompiled, OpeningWithin};
 ghost use Rattle.sp_plan.specs.Bounds.{IsSmall};
@@ -25,8 +26,8 @@ pub(crate) fn stamp_of(event: &Event) -> u64
 // A window that begins with the event of this number and time.
 fn begun(length: Length, number: u32, time: u64) -> Record
     requires length { IsLength length }
-    requires number { number ≤ 1048576 }
-    requires time { time ≤ 1000000000000000 }
+    requires number { number ≤ event_limit }
+    requires time { time ≤ number_limit }
     ensures { result ≡ spec.open_at number (spec.limit_from length number time) }
 {
     let limit = match length {
@@ -43,7 +44,7 @@ fn begun(length: Length, number: u32, time: u64) -> Record
 // The first of the spans of time from `next` on that is not over at this time.
 fn first_span(step: u64, size: u64, next: u64, time: u64) -> u64
     requires step { 0 < step }
-    requires time { time ≤ 1000000000000000 }
+    requires time { time ≤ number_limit }
     ensures { result ≡ spec.first_begun step size next time }
 {
     if time < size {
@@ -62,8 +63,8 @@ fn open_spans(
     first: u64,
     end: u64,
 ) -> Result<(), Memory>
-    requires size { size ≤ 1000000000000000 }
-    requires times { (k : ℕ) → k < end → k * step ≤ 1000000000000000 }
+    requires size { size ≤ number_limit }
+    requires times { (k : ℕ) → k < end → k * step ≤ number_limit }
     ensures opened { OnOk result
         (records.new.items
         ≡ records.old.items
@@ -96,8 +97,8 @@ fn open_in_time(
     time: u64,
 ) -> Result<u64, Memory>
     requires step { 0 < step }
-    requires size { size ≤ 1000000000000000 }
-    requires time { time ≤ 1000000000000000 }
+    requires size { size ≤ number_limit }
+    requires time { time ≤ number_limit }
     ensures opened { OnOk result
         (records.new.items
         ≡ records.old.items
@@ -127,9 +128,9 @@ pub(crate) fn open(
     requires within { OpeningWithin plan.now.opening }
     requires ahead { IsAhead plan.now.opening number next }
     requires from_one { 0 < number }
-    requires number { number ≤ 1048576 }
+    requires number { number ≤ event_limit }
     requires early { pos 0 ≤ℤ event.now.time }
-    requires late { event.now.time ≤ℤ pos 1000000000000000 }
+    requires late { event.now.time ≤ℤ pos number_limit }
     requires small { IsSmall event.now }
     ensures opened { OnOk result
         (records.new.items

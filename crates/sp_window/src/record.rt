@@ -1,6 +1,7 @@
 // What is kept of a window.
 ghost use Rattle.std.specs.Prelude.{◌≡◌, ◌≤◌, ◌+◌, length, drop, Some};
 ghost use Rattle.std.specs.List.{prefix_len};
+ghost use Rattle.sp_base.specs.Limits.{event_limit};
 ghost use Rattle.sp_window.specs.Limits as spec;
 
 // Where a window stops.
@@ -23,7 +24,7 @@ pub(crate) struct Record {
 impl Limit {
     // Whether no event can join after so many events, the last of them of this time.
     fn is_reached(self, fed: u32, time: u64) -> bool
-        requires { fed ≤ 1048576 }
+        requires { fed ≤ event_limit }
         ensures { result ≡ spec.is_reached self fed time }
     {
         match self {
@@ -47,7 +48,7 @@ impl Limit {
 // is not, and gives the place behind them. The last event has the number `fed`, and this time.
 pub(crate) fn close_reached(records: &mut [Record], closed: usize, fed: u32, time: u64) -> usize
     requires within { closed ≤ length records.old }
-    requires few { fed ≤ 1048576 }
+    requires few { fed ≤ event_limit }
     ensures records { records.new ≡ spec.settled closed fed time records.old }
     ensures count { result
         ≡ closed + prefix_len (λ r. spec.is_reached r.limit fed time) (drop closed records.old) }

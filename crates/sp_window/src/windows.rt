@@ -1,6 +1,7 @@
 ghost use Rattle.std.specs.Prelude.{◌≡◌, ◌≤◌, ◌<◌, pos, ◌≤ℤ◌, ◌+◌, ◌++◌, ◌∷◌, [], Bool, true, false, List, length, IfOk, OnOk, OnErr, unsigned_abs};
 ghost use Rattle.std.specs.Arc.{arc_value};
 ghost use Rattle.std.specs.Option.{option_map};
+ghost use Rattle.sp_base.specs.Limits.{event_limit};
 ghost use Rattle.sp_plan.specs.declared.event.Event.{Event as EventValue};
 ghost use Rattle.sp_plan.specs.Windows as spec;
 ghost use Rattle.sp_plan.specs.Events.{fits};
@@ -81,7 +82,7 @@ impl Windows {
         requires fits { fits self.old.plan event.now ≡ true }
         requires in_order { pos self.old.time ≤ℤ event.now.time }
         requires more { self.old.ended ≡ false }
-        requires few { self.old.fed < 1048576 }
+        requires few { self.old.fed < event_limit }
         ensures stands { OnOk result
             ((events : List EventValue) → Stands self.old events false
             → Stands self.new (events ++ event.now ∷ []) false) }

@@ -1,9 +1,10 @@
 -- What the handling of an event does to the runs in plain values, and what is told of it.
 use Rattle.std.specs.Prelude.{◌≡◌, ℕ, Bool, true, false, not, ◌&&◌, ◌||◌, List, [], ◌∷◌, ◌++◌, map, filter, Option, Some, None, slice_get, slice_set, slice_index_or, if◌then◌else◌}
 use Rattle.std.specs.List.{flat_map}
+use Rattle.sp_base.specs.Numbers.{is_among}
 use Rattle.sp_plan.specs.declared.plan.Plan.{Plan}
 use Rattle.sp_plan.specs.Windows.{Numbered}
-use Rattle.sp_plan.specs.Runs.{Started, bindings, holds_one, is_complete, is_consumed, is_among, used}
+use Rattle.sp_plan.specs.Runs.{Started, bindings, holds_one, is_complete, is_consumed, used}
 use Rattle.sp_plan.specs.Moves.{Told, GrownTold, CompletedTold, AbandonedTold}
 use Rattle.sp_match.specs.declared.turns.Reception.{Reception}
 use Rattle.sp_match.specs.declared.turns.Reception.TheVariants.{Passed, Taken, Used}

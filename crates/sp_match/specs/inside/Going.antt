@@ -1,9 +1,10 @@
 -- How far the handling of an event has come among the runs that were open when it came.
 use Rattle.std.specs.Prelude.{◌≡◌, ℕ, Bool, false, not, Option, None, if◌then◌else◌, List, [], ◌++◌, length, map, take, drop, is_none}
 use Rattle.std.specs.List.{All, fold, list_all}
+use Rattle.sp_base.specs.Numbers.{is_among}
 use Rattle.sp_plan.specs.declared.plan.Plan.{Plan}
 use Rattle.sp_plan.specs.Windows.{Numbered}
-use Rattle.sp_plan.specs.Runs.{Started, State, is_among, may_start, takes}
+use Rattle.sp_plan.specs.Runs.{Started, State, may_start, takes}
 use Rattle.sp_plan.specs.Moves.{Acting, Told, act_run, handling_of}
 use Rattle.sp_match.specs.declared.turns.Reception.{Reception}
 use Rattle.sp_match.specs.declared.run.Turn.TheVariants.{Idle}

@@ -2,10 +2,11 @@
 use Rattle.std.specs.Prelude.{◌≡◌, ◌↔◌, ◌⊎◌, ℕ, ◌+◌, ◌<◌, ◌≤◌, ◌==◌, Bool, true, false, List, [], ◌∷◌, ◌++◌, length, filter, map}
 use Rattle.std.specs.List.{All, list_any, fold}
 use Rattle.std.specs.List.Sorted.{IsStrictlyIncreasing}
+use Rattle.sp_base.specs.Numbers.{is_among}
 use Rattle.sp_plan.specs.declared.plan.Plan.{Plan}
 pub use Rattle.sp_plan.specs.Groups.{is_open, is_matched, group, used_by, used_by_all}
 use Rattle.sp_plan.specs.Windows.{Numbered}
-use Rattle.sp_plan.specs.Runs.{Started, State, bindings, fresh, handle, state, used, is_among, after_closing}
+use Rattle.sp_plan.specs.Runs.{Started, State, bindings, fresh, handle, state, used, after_closing}
 use Rattle.sp_plan.specs.Moves.{Told, OpenedTold, GrownTold, CompletedTold, AbandonedTold, told, Move, is_run, apply, apply_all, moves, closing}
 
 -- the open runs stand in the order of their start, and have numbers that were given

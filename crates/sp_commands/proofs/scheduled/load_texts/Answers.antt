@@ -1,11 +1,11 @@
 use Rattle.std.proofs.Common.{◌≡◌, ℕ, [], ◌∷◌, refl, subst, ap, Err, arith}
 use Rattle.std.proofs.lemmas.List.Elements.{Contains-append_right}
+use Rattle.sp_base.specs.Limits.{schedule_limit}
 use Rattle.sp_io.specs.Outside.{ToldFiles, Rose}
 use Rattle.sp_load.specs.Places.{place_of, file, text_of}
 use Rattle.sp_load.specs.Loads.{RefusesLoad}
 use Rattle.sp_load.specs.declared.refusal.Refusal.TheVariants.{Read}
 use Rattle.sp_commands.specs.Commands.{files_at}
-use Rattle.sp_commands.specs.Trace.{longest_schedule}
 use Rattle.sp_commands.proofs.Tracing.{schedule_refuses}
 use Rattle.sp_commands.proofs.scheduled.load_texts.Goals as goal
 
@@ -13,7 +13,7 @@ pub returns-clause-refused : goal.returns-clause-refused
 returns-clause-refused g c =
     let name = c.args.schedule.now in
     schedule_refuses (g.F.Files.held c.args.files.now) (place_of c.args.place) name (text_of c.in-Ok.query) c.in-Ok.ensures.text c.in-Err-load_file.refusal
-    (subst (λ (held : ToldFiles). RefusesLoad held longest_schedule (file name) c.in-Err-load_file.refusal) c.text_at.ensures.held c.in-Err-load_file.ensures.refused)
+    (subst (λ (held : ToldFiles). RefusesLoad held schedule_limit (file name) c.in-Err-load_file.refusal) c.text_at.ensures.held c.in-Err-load_file.ensures.refused)
 
 pub returns-clause-fault : goal.returns-clause-fault
 returns-clause-fault g c = λ is.

@@ -1,5 +1,6 @@
 use Rattle.std.proofs.Common.{◌≡◌, Some, None, sym, ◌∙◌}
 use Rattle.std.specs.Prelude.{if◌then◌else◌}
+use Rattle.sp_base.specs.Limits.{step_limit}
 use Rattle.sp_compile.specs.declared.fault.CompileFault.TheVariants as f
 use Rattle.sp_compile.specs.Checks.{step_is_fine}
 use Rattle.sp_compile.proofs.Staged.{exit}
@@ -16,7 +17,7 @@ plan_step-requires-clause-time c =
 
 pub plan_step-requires-clause-events : goal.plan_step-requires-clause-events
 plan_step-requires-clause-events c =
-    λ out. (within_limits c.args.step 1048576 (step_of_events c.args.query.now.length.0 c.args.query.now.length.1 c.args.step c.args.unit (true_where _ (f.BadWindow c.args.span) (sym c.step_fault.ensures ∙ c.in_ok-pass.ensures.passes)) out)).1
+    λ out. (within_limits c.args.step step_limit (step_of_events c.args.query.now.length.0 c.args.query.now.length.1 c.args.step c.args.unit (true_where _ (f.BadWindow c.args.span) (sym c.step_fault.ensures ∙ c.in_ok-pass.ensures.passes)) out)).1
 
 pub returns-clause-fine : goal.returns-clause-fine
 returns-clause-fine c = true_where _ (f.BadWindow c.args.span) (sym c.step_fault.ensures ∙ c.in_ok-pass.ensures.passes)

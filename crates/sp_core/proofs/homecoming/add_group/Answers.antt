@@ -1,5 +1,5 @@
 use Rattle.std.proofs.lemmas.Result.{on_ok_weaker}
-use Rattle.sp_core.proofs.RisingLists.{taken_in}
+use Rattle.sp_base.proofs.RisingLists.{taken_in}
 use Rattle.sp_core.proofs.homecoming.add_group.Goals as goal
 
 pub returns : goal.returns

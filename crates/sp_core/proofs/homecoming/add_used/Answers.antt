@@ -2,11 +2,10 @@ use Rattle.std.proofs.Common.{◌≡◌, ℕ, List, [], ◌∷◌, take, sym, ap
 use Rattle.std.specs.List.{flat_map}
 use Rattle.std.specs.List.Sorted.{IsStrictlyIncreasing}
 use Rattle.std.proofs.lemmas.List.{append-nil}
+use Rattle.sp_base.proofs.RisingLists.{numbers_rise, union_is}
 use Rattle.sp_match.specs.declared.moves.Move.{Move}
 use Rattle.sp_core.specs.Homecoming.{completions_in, used_told}
 use Rattle.sp_core.proofs.Completions.{no_completion, used_more}
-use Rattle.sp_core.proofs.RisingLists.{union_is}
-use Rattle.sp_rules.proofs.RisingLists.{numbers_rise}
 use Rattle.sp_core.proofs.homecoming.add_used.Goals.{in-Completed+in_ok-union, in_default}
 use Rattle.sp_core.proofs.homecoming.add_used.Goals as goal
 

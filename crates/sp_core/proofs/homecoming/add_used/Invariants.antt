@@ -1,6 +1,6 @@
 use Rattle.std.proofs.Common.{◌≡◌, take}
 use Rattle.std.specs.List.{flat_map}
-use Rattle.sp_group.specs.Rising.{with_numbers}
+use Rattle.sp_base.specs.Numbers.{with_numbers}
 use Rattle.sp_core.specs.Homecoming.{completions_in, used_told}
 use Rattle.sp_core.proofs.homecoming.add_used.Given as goal
 

@@ -1,5 +1,5 @@
 use Rattle.std.proofs.Common.{Bool, ◌||◌, ap, ◌∙◌}
-use Rattle.sp_plan.specs.Runs.{is_among}
+use Rattle.sp_base.specs.Numbers.{is_among}
 use Rattle.sp_core.proofs.GroupsHeld.{group_is_shown, numbers_are_shown}
 use Rattle.sp_core.proofs.homecoming.groups_with.Goals as goal
 

@@ -1,9 +1,8 @@
 use Rattle.std.proofs.Common.{ℕ, List, take, get_or, sym, ap, ◌∙◌, subst, arith}
 use Rattle.std.specs.List.Sorted.{IsStrictlyIncreasing}
 use Rattle.std.proofs.lemmas.List.Sums.{fold_more}
-use Rattle.sp_group.specs.Rising.{with_number}
-use Rattle.sp_core.proofs.RisingLists.{put_is}
-use Rattle.sp_rules.proofs.RisingLists.{numbers_rise}
+use Rattle.sp_base.proofs.RisingLists.{numbers_rise, put_is}
+use Rattle.sp_base.specs.Numbers.{with_number}
 use Rattle.sp_core.proofs.homecoming.put_all.Goals as goal
 
 pub loop-n-preserved : goal.loop-n-preserved

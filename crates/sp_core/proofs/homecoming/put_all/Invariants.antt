@@ -1,5 +1,5 @@
 use Rattle.std.proofs.Common.{◌≡◌, ◌+◌, ◌≤◌, take}
-use Rattle.sp_group.specs.Rising.{with_numbers}
+use Rattle.sp_base.specs.Numbers.{with_numbers}
 use Rattle.sp_core.proofs.homecoming.put_all.Given as goal
 
 abbrev pub invariant-loop-n : goal.invariant-loop-n

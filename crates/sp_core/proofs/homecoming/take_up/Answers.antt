@@ -1,6 +1,6 @@
 use Rattle.std.proofs.Common.{◌≡◌, ◌+◌, nat_lt, ◌∙◌, rules}
 use Rattle.std.specs.Prelude.{filter}
-use Rattle.sp_group.specs.Rising.{with_numbers}
+use Rattle.sp_base.specs.Numbers.{with_numbers}
 use Rattle.sp_core.proofs.Cuts.{cut_from_zero}
 use Rattle.sp_core.proofs.homecoming.take_up.Goals as goal
 

@@ -1,7 +1,7 @@
 use Rattle.std.proofs.Common.{rules, not, ◌∙◌}
 use Rattle.std.proofs.lemmas.Iterator.{YieldsList-from_slice}
 use Rattle.std.proofs.lemmas.Iterator.Search.{find_from_yields_List}
-use Rattle.sp_plan.specs.Runs.{is_among}
+use Rattle.sp_base.specs.Numbers.{is_among}
 use Rattle.sp_core.proofs.spawning.first_not_open.Goals as goal
 
 pub returns : goal.returns

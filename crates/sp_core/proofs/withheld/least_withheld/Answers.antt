@@ -1,5 +1,5 @@
 use Rattle.std.proofs.Common.{ℕ, Bool, ◌+◌, ◌||◌, sym, ap, ◌∙◌}
-use Rattle.sp_plan.specs.Runs.{is_among}
+use Rattle.sp_base.specs.Numbers.{is_among}
 use Rattle.sp_core.specs.Withheld.{is_kept_back, lesser}
 use Rattle.sp_core.proofs.KeptBack.{is_kept_by, kept_by_none, kept_by_named, kept_by_unnamed, kept_by_all}
 use Rattle.sp_core.proofs.Least.{least_unskipped, unskipped_alike, unskipped_either}

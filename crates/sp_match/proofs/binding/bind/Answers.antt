@@ -2,8 +2,8 @@ use Rattle.std.proofs.Common.{◌≡◌, true, false, ◌++◌, map, get_or, set
 use Rattle.std.proofs.lemmas.Grind.{common_steps}
 use Rattle.std.specs.List.{flat_map}
 use Rattle.std.proofs.lemmas.List.{append_assoc, get_or-set_same, map-set}
+use Rattle.sp_base.specs.Numbers.{is_among}
 use Rattle.sp_plan.specs.Windows.{Numbered}
-use Rattle.sp_plan.specs.Runs.{is_among}
 use Rattle.sp_match.specs.declared.run.Run.{Run}
 use Rattle.sp_match.specs.inside.Kept.{Kept, kept}
 use Rattle.sp_match.specs.inside.Effects.{completes, run_after_use, use_told, run_after_binding, binding_told, used_by_binding}

@@ -1,5 +1,5 @@
 use Rattle.std.proofs.Common.{ℕ, List, ap, ◌∙◌}
-use Rattle.sp_plan.specs.Runs.{is_among}
+use Rattle.sp_base.specs.Numbers.{is_among}
 use Rattle.sp_pick.proofs.Searched.{found_run}
 use Rattle.sp_pick.proofs.surviving.has_run.Goals as goal
 

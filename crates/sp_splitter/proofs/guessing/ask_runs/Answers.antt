@@ -2,6 +2,7 @@ use Rattle.std.proofs.Common.{◌≡◌, ℕ, ◌+◌, true, ◌==◌, List, [],
 use Rattle.std.specs.Prelude.{min}
 use Rattle.std.proofs.lemmas.Bool.Decides.{nat_tests}
 use Rattle.std.proofs.lemmas.List.{length-map}
+use Rattle.sp_base.specs.Limits.{whole_share}
 use Rattle.sp_chance.specs.declared.chances.Chances.{Chances}
 use Rattle.sp_chance.specs.Shares.{share_of}
 use Rattle.sp_plan.specs.Runs.{used}
@@ -35,8 +36,8 @@ loop-place-preserved g c =
     let here = shown_at m.plan c.open_runs-run-items.result.now m.open_runs c.open_runs-run-items.ensures place c.run-item.result c.loop-place-test.true c.run-item.is in
     elim c.if-not-is_empty.branch [
       | then-not-is_empty+in_ok-set w ↦
-          let share : w.new-share.result ≡ min (means (left_at m place) c.args.events) 65536 =
-          w.new-share.ensures ∙ ap (λ (n : ℕ). min n 65536) (w.chance.ensures ∙ ap (λ (n : ℕ). means n c.args.events) w.left-left.ensures) in
+          let share : w.new-share.result ≡ min (means (left_at m place) c.args.events) whole_share =
+          w.new-share.ensures ∙ ap (λ (n : ℕ). min n whole_share) (w.chance.ensures ∙ ap (λ (n : ℕ). means n c.args.events) w.left-left.ensures) in
           subst (λ (z : Chances). Asked m means c.args.events c.args.id (place + 1) (share_of z) (share_of c.args.chances.now)) (sym w.chances-is)
           (asked_one m means c.args.events c.args.id place (share_of c.loop-place.chances) (share_of c.args.chances.now) c.loop-place.invariant c.requires.numbered here.0
           (share_of w.set.new.self) c.run-item.result.number w.new-share.result here.1 share w.in_ok-set.ensures.ok)

@@ -1,11 +1,12 @@
 use Rattle.std.proofs.Common.{◌≡◌, ℕ, ◌+◌, ◌≤◌, ◌==◌, true, false, cond, List, sym, ap, ◌∙◌, arith}
 use Rattle.std.proofs.lemmas.Bool.Decides.{nat_tests}
+use Rattle.sp_base.specs.Limits.{renewal}
 use Rattle.sp_chance.specs.Learned.{Learned, with_pair, turned, learned, is_move}
 use Rattle.sp_chance.proofs.markov.Markov.note.Goals as goal
 
 -- a pair that counts, where it brings no turn
 noted : (m : Learned) (from to since : ℕ) (ring : List (ℕ × ℕ)) → is_move from to ≡ true
-    → ring ≡ with_pair m.ring from to → (m.since + 1 == 1024) ≡ false → since ≡ cond (m.since + 1 == 1024) 0 (m.since + 1)
+    → ring ≡ with_pair m.ring from to → (m.since + 1 == renewal) ≡ false → since ≡ cond (m.since + 1 == renewal) 0 (m.since + 1)
     → record { ring = ring; since = since; built = m.built } ≡ learned m from to
 noted m from to since ring counts is no_turn next =
     let one : since ≡ m.since + 1 = next ∙ ap (λ b. cond b 0 (m.since + 1)) no_turn in

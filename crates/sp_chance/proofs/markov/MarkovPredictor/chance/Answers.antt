@@ -1,4 +1,5 @@
 use Rattle.std.proofs.Common.{◌≡◌, ℕ, ◌+◌, ◌-◌, ◌/◌, min, ap, sym, ◌∙◌, List, false, ◌==◌, cond, arith}
+use Rattle.sp_base.specs.Limits.{whole_share}
 use Rattle.sp_chance.specs.Matrices.{at, first, power}
 use Rattle.sp_chance.specs.Learned.{chance_of, sixteens}
 use Rattle.sp_chance.proofs.Cells.{eqb_not}
@@ -8,7 +9,7 @@ chosen : (pairs : List (ℕ × ℕ)) (left events x : ℕ) → (left == 0) ≡ f
     → x ≡ at (power (first pairs) (sixteens events - 1)) (min left 32) 0 → x ≡ chance_of pairs left events
 chosen pairs left events x some more is =
     is
-    ∙ sym (ap (λ b. cond b 65536 (cond (events == 0) 0 (at (power (first pairs) (sixteens events - 1)) (min left 32) 0))) some
+    ∙ sym (ap (λ b. cond b whole_share (cond (events == 0) 0 (at (power (first pairs) (sixteens events - 1)) (min left 32) 0))) some
     ∙ ap (λ b. cond b 0 (at (power (first pairs) (sixteens events - 1)) (min left 32) 0)) more)
 
 pub returns : goal.returns

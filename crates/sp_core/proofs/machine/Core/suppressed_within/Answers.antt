@@ -1,7 +1,7 @@
 use Rattle.std.proofs.Common.{ℕ, ◌||◌, List, sym, ap, subst, ◌∙◌}
 use Rattle.std.specs.Prelude.{option_copied}
 use Rattle.std.proofs.lemmas.Option.{none-some}
-use Rattle.sp_base.specs.Numbers.{has}
+use Rattle.sp_base.specs.Numbers.{is_among}
 use Rattle.sp_group.specs.Machine.{is_suppressed}
 use Rattle.sp_core.specs.Holding.{holding, running}
 use Rattle.sp_core.specs.Running.{Running}
@@ -45,5 +45,5 @@ returns c =
     subst (λ (r : Running). Taken r c.args.version c.loop-parent.below c.args.first c.args.count old) (sym c.self.view_is) c.loop-parent.invariant in
     passing_is c.rising_same.ensures (is_suppressed (running h).plan (running h).machine c.args.version) c.args.first c.args.count new c.in_ok-union.ensures.rising
     (taken_all h c.args.version c.loop-parent.below c.args.first c.args.count old new (sym c.parent.ensures ∙ c.in_default.is)
-    (λ i. c.in_ok-union.ensures.members i ∙ ap (λ (ns : List ℕ). has old i || has ns i) c.in_ok-cut_to.ensures) before)
+    (λ i. c.in_ok-union.ensures.members i ∙ ap (λ (ns : List ℕ). is_among old i || is_among ns i) c.in_ok-cut_to.ensures) before)
     ∙ ap (λ (r : Running). suppressed_within r.plan r.machine c.args.version c.args.first c.args.count) c.self.view_is

@@ -1,7 +1,7 @@
 use Rattle.std.proofs.Common.{◌≡◌, ◌<◌, length, get_or, sym, ap, subst, ◌∙◌, arith, false}
 use Rattle.std.proofs.lemmas.Grind.{get_or_default_zero}
-use Rattle.sp_plan.specs.Runs.{is_among}
-use Rattle.sp_group.specs.Rising.{IsLabel, with_number}
+use Rattle.sp_base.specs.Numbers.{is_among, with_number}
+use Rattle.sp_group.specs.Rising.{IsLabel}
 use Rattle.sp_group.proofs.Rising.{put_there, rising_there, absent_at, all_there}
 use Rattle.sp_group.proofs.label.Label.insert.Goals as goal
 use Rattle.sp_group.proofs.label.Label.insert.Goals.{then-loop-at-test+else-index-run, else-loop-at-test}

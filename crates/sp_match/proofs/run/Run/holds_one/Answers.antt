@@ -2,7 +2,7 @@ use Rattle.std.proofs.Common.{◌≡◌, ℕ, ◌+◌, ◌-◌, ◌<◌, false, 
 use Rattle.std.specs.List.{list_any}
 use Rattle.std.specs.List.Sorted.{IsStrictlyIncreasing}
 use Rattle.std.proofs.lemmas.List.{get_or_default}
-use Rattle.sp_base.specs.Numbers.{has}
+use Rattle.sp_base.specs.Numbers.{is_among}
 use Rattle.sp_match.proofs.NumbersAreAbove.{Holds, held_here, none_held, none_of_none}
 use Rattle.sp_match.proofs.run.Run.holds_one.Goals as goal
 
@@ -34,4 +34,4 @@ returns-then-has c =
     let d : ℕ × ℕ = (0, 0) in
     let within : i < length bs = omega (arith, c.loop-left-test.true, c.loop-left.invariant.within) in
     let here : (get_or c.as_slice-bound.result.now i d).1 ≡ (get_or bs i d).1 = ap (λ (l : List (ℕ × ℕ)). (get_or l i d).1) c.as_slice-bound.ensures.value in
-    sym (held_here ns bs i d within (ap (has ns) (sym here) ∙ sym c.has.ensures ∙ c.if-has.true))
+    sym (held_here ns bs i d within (ap (is_among ns) (sym here) ∙ sym c.has.ensures ∙ c.if-has.true))

@@ -1,7 +1,7 @@
 use Rattle.std.proofs.Common.{◌≡◌, ℕ, List, false, refl, sym, ap, subst}
 use Rattle.std.specs.Prelude.{IsSome}
+use Rattle.sp_base.specs.Numbers.{with_number}
 use Rattle.sp_group.specs.Family.{entry_at}
-use Rattle.sp_group.specs.Rising.{with_number}
 use Rattle.sp_tree.specs.declared.version.Version.{Version}
 use Rattle.sp_tree.specs.Changes.{branches, IsIndex}
 use Rattle.sp_tree.specs.Grown.{Grown, kin, is_open}

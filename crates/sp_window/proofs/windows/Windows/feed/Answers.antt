@@ -3,6 +3,7 @@ use Rattle.std.proofs.lemmas.List.{take_at}
 use Rattle.std.specs.List.{prefix_len}
 use Rattle.std.specs.Vec.{with_items}
 use Rattle.std.specs.Arc.{arc_value}
+use Rattle.sp_base.specs.Limits.{event_limit}
 use Rattle.sp_plan.specs.Events.{fits}
 use Rattle.sp_window.specs.declared.record.Record.{Record}
 use Rattle.sp_window.specs.Keeping.{kept_of}
@@ -37,7 +38,7 @@ invariant_of-self-2 c =
     let size : length new ≡ c.open.new.records.len = search rules in
     let whole = take_at new (drop (length new) c.open.new.records.items) c.open.new.records.len size in
     let rise : inside.time ≤ stamp e = stamp_from inside.time e (subst (λ (w : Kept). pos w.time ≤ℤ e.time) (sym c.self.view_is) c.requires.in_order) in
-    let few : inside.fed < 1048576 = subst (λ (w : Kept). w.fed < 1048576) (sym c.self.view_is) c.requires.few in
+    let few : inside.fed < event_limit = subst (λ (w : Kept). w.fed < event_limit) (sym c.self.view_is) c.requires.few in
     let more : inside.ended ≡ false = subst (λ (w : Kept). w.ended ≡ false) (sym c.self.view_is) c.requires.more in
     let feeds : Feeds (kept_of inside) (kept_of (record { plan = inside.plan; records = with_items c.open.new.records new; closed = c.close_reached-self-inside.result; next = c.in_ok-self-inside.field-0; fed = inside.fed + 1; time = c.stamp_of-time.result; ended = inside.ended })) e =
     feeds_from (kept_of inside) _ e c.deref.result.now c.deref_mut.result.now c.deref.ensures opened refl
@@ -63,7 +64,7 @@ returns-clause-stands c = λ events stands.
     let size : length new ≡ c.open.new.records.len = search rules in
     let whole = take_at new (drop (length new) c.open.new.records.items) c.open.new.records.len size in
     let rise : inside.time ≤ stamp e = stamp_from inside.time e (subst (λ (w : Kept). pos w.time ≤ℤ e.time) (sym c.self.view_is) c.requires.in_order) in
-    let few : inside.fed < 1048576 = subst (λ (w : Kept). w.fed < 1048576) (sym c.self.view_is) c.requires.few in
+    let few : inside.fed < event_limit = subst (λ (w : Kept). w.fed < event_limit) (sym c.self.view_is) c.requires.few in
     let more : inside.ended ≡ false = subst (λ (w : Kept). w.ended ≡ false) (sym c.self.view_is) c.requires.more in
     let feeds : Feeds (kept_of inside) (kept_of (record { plan = inside.plan; records = with_items c.open.new.records new; closed = c.close_reached-self-inside.result; next = c.in_ok-self-inside.field-0; fed = inside.fed + 1; time = c.stamp_of-time.result; ended = inside.ended })) e =
     feeds_from (kept_of inside) _ e c.deref.result.now c.deref_mut.result.now c.deref.ensures opened refl
