@@ -5,8 +5,8 @@ use Rattle.std.specs.List.{onto_first}
 use Rattle.std.specs.Cmp.Lexicographic.{same_text}
 use Rattle.std.proofs.lemmas.Bool.Decides.{nat_tests}
 use Rattle.std.proofs.lemmas.List.{append-nil, length-take}
-use Rattle.sp_base.specs.Limits.{row_limit}
 use Rattle.sp_base.specs.Marks.{is_mark, without_mark}
+use Rattle.sp_base.specs.Limits.{row_limit}
 use Rattle.sp_cut.specs.CutRows.{CutRow, long_row, is_cr, is_long, without_cr, rows_of_parts, rest_rows, ended_part, plain_rows, rows}
 use Rattle.sp_cut.specs.Left.{rows_left}
 use Rattle.sp_cut.specs.Answer.{with_more}

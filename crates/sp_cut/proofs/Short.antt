@@ -3,8 +3,8 @@ use Rattle.std.proofs.Common.{◌≡◌, ℕ, ◌-◌, ◌≤◌, Bool, true, fa
 use Rattle.std.specs.Prelude.{if◌then◌else◌, ◌==◌, slice_get}
 use Rattle.std.proofs.lemmas.Bool.Decides.{nat_tests}
 use Rattle.std.proofs.lemmas.List.{length-take}
-use Rattle.sp_base.specs.Limits.{row_limit}
 use Rattle.sp_base.specs.Marks.{is_mark, without_mark}
+use Rattle.sp_base.specs.Limits.{row_limit}
 use Rattle.sp_cut.specs.CutRows.{is_cr, is_long, without_cr}
 use Rattle.sp_cut.specs.Left.{Left}
 use Rattle.sp_cut.specs.Part.{part_of}

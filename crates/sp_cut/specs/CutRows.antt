@@ -1,8 +1,8 @@
 -- The rows of bytes, after RFC 4180 section 2: a line feed inside quotes ends no row.
 use Rattle.std.specs.Prelude.{ℕ, ◌-◌, ◌%◌, Bool, false, ◌&&◌, ◌||◌, not, List, [], ◌∷◌, ◌++◌, length, take, Option, Some, None, slice_get, ◌==◌, nat_lt, filter, if◌then◌else◌}
 use Rattle.std.specs.List.{onto_first}
-use Rattle.sp_base.specs.Limits.{row_limit}
 use Rattle.sp_base.specs.Marks.{without_mark}
+use Rattle.sp_base.specs.Limits.{row_limit}
 
 -- how many quotes there are
 abbrev pub quotes : List ℕ → ℕ

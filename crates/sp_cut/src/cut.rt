@@ -7,9 +7,10 @@ ghost use Rattle.sp_cut.specs.Span.{Finds, LiesNext, bytes_at};
 
 use crate::ends::{Found, first_end};
 use crate::fault::{CutFault, Memory};
-use crate::part::{Rest, is_long, put_bytes, rest_of, without_cr, without_mark};
+use crate::part::{Rest, is_long, put_bytes, rest_of, without_cr};
 use crate::span::Span;
 use sp_base::limits::ROW_LIMIT;
+use sp_base::without_mark;
 use std::alloc::Global;
 use std::marker::Model;
 

@@ -1,14 +1,10 @@
 ghost use Rattle.std.specs.Prelude.{◌≡◌, ℕ, ◌+◌, not, OnOk};
-ghost use Rattle.sp_base.specs.Marks.{without_mark};
 ghost use Rattle.sp_cut.specs.CutRows.{is_even, rest_rows};
 ghost use Rattle.sp_cut.specs.CutRows as cut;
 ghost use Rattle.sp_cut.specs.Part.{rows_of_rest};
 
 use crate::fault::Memory;
 use sp_base::limits::ROW_LIMIT;
-
-// A byte order mark.
-const MARK: &[u8] = &[0xEF, 0xBB, 0xBF];
 
 /// What the rest of the bytes is.
 pub(crate) enum Rest {
@@ -59,15 +55,4 @@ pub(crate) fn without_cr(part: &[u8]) -> &[u8]
         Some(b'\r') => part.split_at(part.len() - 1).0,
         _ => part,
     }
-}
-
-/// The bytes without the byte order mark at their start.
-pub(crate) fn without_mark(bytes: &[u8]) -> &[u8]
-    ensures { result.now ≡ without_mark bytes.now }
-{
-    if bytes.len() < 3 {
-        return bytes;
-    }
-    let (front, rest) = bytes.split_at(3);
-    if front == MARK { rest } else { bytes }
 }

@@ -1,6 +1,5 @@
 // A query from the place where it stands: from a word of the command, or from a file.
 ghost use Rattle.std.specs.Prelude.{◌≡◌, ◌≢◌, ◌≤◌, ℕ, List, length, IfOk, IfErr, Err};
-ghost use Rattle.sp_base.specs.Marks.{without_mark};
 ghost use Rattle.sp_base.specs.Limits.{query_limit};
 ghost use Rattle.sp_load.specs.Loads.{RefusesLoad, IsUnread};
 ghost use Rattle.sp_load.specs.Places.{place_of, text_of, HasText};
@@ -10,6 +9,7 @@ use crate::load::load_file;
 use crate::query::read_query;
 use crate::refusal::Refusal;
 use sp_base::limits::QUERY_LIMIT;
+use sp_base::without_mark;
 use sp_io::Files;
 use sp_plan::Plan;
 use std::alloc::Global;
@@ -27,17 +27,6 @@ pub enum Place<'a> {
 pub enum QueryText<'a> {
     Word(&'a str),
     File(Vec<u8>),
-}
-
-// The bytes of a byte order mark.
-const MARK: &[u8] = b"\xef\xbb\xbf";
-
-// The bytes without the byte order mark at their start.
-fn without_mark(bytes: &[u8]) -> &[u8]
-    ensures rest { result.now ≡ without_mark bytes.now }
-    ensures shorter { length result.now ≤ length bytes.now }
-{
-    bytes.strip_prefix(MARK).unwrap_or(bytes)
 }
 
 // The plan of the text that these bytes are, or why there is none.

@@ -1,5 +1,5 @@
 // The cells of a row, cut at its commas or read byte by byte.
-ghost use Rattle.std.specs.Prelude.{◌≡◌, ◌<◌, ◌≤◌, true, false, take, drop, length, IfOk, IfSome};
+ghost use Rattle.std.specs.Prelude.{◌≡◌, ◌<◌, ◌≤◌, false, take, drop, length, IfOk, IfSome};
 ghost use Rattle.sp_base.specs.Marks.{is_mark};
 ghost use Rattle.sp_rows.specs.Cells as rows;
 ghost use Rattle.sp_rows.specs.Plain.{pieces};
@@ -7,6 +7,7 @@ ghost use Rattle.sp_rows.specs.Shapes.{read_as, shape_of};
 
 use crate::quoted::{Cells, Record};
 use crate::split::{Fields, find_cells};
+use sp_base::is_marked;
 use sp_plan::Memory;
 
 /// What a row reads as.
@@ -15,17 +16,6 @@ pub(crate) enum Row<'a> {
     Blank,
     One(Fields<'a>),
     Several,
-}
-
-// The bytes of a byte order mark.
-const MARK: &[u8] = b"\xef\xbb\xbf";
-
-// Whether the bytes begin with a byte order mark.
-fn is_marked(bytes: &[u8]) -> bool
-    ensures mark { result ≡ is_mark (take 3 bytes.now) }
-    ensures long { result ≡ true → 3 ≤ length bytes.now }
-{
-    bytes.starts_with(MARK)
 }
 
 // What stands behind the first three bytes.

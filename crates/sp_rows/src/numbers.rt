@@ -2,7 +2,7 @@
 ghost use Rattle.std.specs.Prelude.{◌≡◌, ℕ, List, ◌<◌, ◌≤◌, ◌^◌, ◌≢◌, ◌∷◌, true, false, ◌++◌, ◌==◌, ◌-◌, IfSome, IfNone, length, take, drop, pos, neg_ℤ, [], slice_index_or};
 ghost use Rattle.std.specs.List.{list_all, suffix_len, All};
 ghost use Rattle.std.specs.Option.{option_map, ForSome};
-ghost use Rattle.sp_base.specs.Limits.{past_number_limit, number_limit};
+ghost use Rattle.sp_base.specs.Limits.{number_limit, past_number_limit};
 ghost use Rattle.sp_rows.specs.Numbers;
 ghost use Rattle.sp_rows.specs.Capped.{with_digit, capped, with_more};
 
