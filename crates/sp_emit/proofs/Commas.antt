@@ -1,20 +1,16 @@
 -- Numbers joined by commas in front of texts.
 use Rattle.std.proofs.Common.{◌≡◌, ◌≢◌, ℕ, ◌<◌, ◌≤◌, ◌^◌, true, false, List, [], ◌∷◌, ◌++◌, refl, sym, ◌∙◌, ap, subst, arith, append_assoc, append-nil}
 use Rattle.std.specs.Prelude.{codes}
-use Rattle.std.specs.List.{All, flat_map}
+use Rattle.std.specs.List.{All}
 use Rattle.std.specs.Fmt.{decimal}
 use Rattle.std.proofs.lemmas.Bool.Decides.{nat_tests}
 use Rattle.std.proofs.lemmas.Grind.{flat_map-append}
 use Rattle.std.proofs.lemmas.List.Elements.{All-nil, All-cons, All-head, All-tail, All-push}
 use Rattle.std.specs.List.Sorted.{IsStrictlyIncreasing}
-use Rattle.sp_base.specs.Commas.{commas}
+use Rattle.sp_base.specs.Commas.{more, commas}
 use Rattle.sp_emit.specs.Reading.{heads, is_digit, goes_on, NumberAt, NumbersAt, PlacesAt}
 use Rattle.sp_emit.proofs.Runs.{ends_number}
 use Rattle.sp_emit.proofs.Numbers.{decimal_one}
-
--- numbers, each after a comma
-abbrev pub more : List ℕ → List ℕ
-more ns = flat_map (λ n. codes "," ++ decimal n) ns
 
 abbrev pub IsShort : ℕ → Type 0
 IsShort n = n < 2 ^ 32

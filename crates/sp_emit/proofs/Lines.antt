@@ -3,7 +3,7 @@ use Rattle.std.proofs.Common.{◌≡◌, ◌≢◌, ℕ, ◌<◌, ◌≤◌, ◌
 use Rattle.std.specs.Prelude.{codes}
 use Rattle.std.specs.Fmt.{decimal}
 use Rattle.std.proofs.lemmas.List.Elements.{All-nil}
-use Rattle.sp_base.specs.Commas.{list_text}
+use Rattle.sp_base.specs.Commas.{more, list_text}
 use Rattle.sp_plan.specs.declared.plan.Plan.{Plan}
 use Rattle.sp_plan.specs.declared.found.Match.{Match}
 use Rattle.sp_plan.specs.Lines.{line}
@@ -11,7 +11,7 @@ use Rattle.sp_emit.specs.Matches.{IsLine, OneMatch}
 use Rattle.sp_emit.specs.Reading.{heads, is_digit, LabelledAt, PlacesAt, BindingsAt, UsedIs}
 use Rattle.sp_emit.proofs.Runs.{ends_number}
 use Rattle.sp_emit.proofs.Numbers.{labelled_one, decimal_heads}
-use Rattle.sp_emit.proofs.Commas.{more, first_number, places_numbers, places_one}
+use Rattle.sp_emit.proofs.Commas.{first_number, places_numbers, places_one}
 use Rattle.sp_emit.proofs.Named.{bindings_one, before_used, before_used_ends}
 
 -- a list of numbers is empty or not

@@ -6,8 +6,7 @@ ghost use Rattle.sp_base.specs.Commas.{list_text};
 ghost use Rattle.sp_emit.specs.StateLines.{group_text, groups_text, head_line, id_text, lines_of_state, ticket_line, truth_text, version_line};
 ghost use Rattle.sp_group.specs.Seen.{seen, seen_group, seen_ticket, seen_version};
 
-use crate::write::push_list;
-use sp_base::Numbers;
+use sp_base::{Numbers, push_list};
 use sp_group::{Label, State, TicketLine, VersionLine};
 use sp_plan::{Listed, Memory};
 use std::alloc::Global;

@@ -1,50 +1,17 @@
 // Lines of matches.
-ghost use Rattle.std.specs.Prelude.{◌≡◌, ◌<◌, ◌^◌, ◌++◌, IfOk, OnOk, slice_get, codes, string_bytes};
-ghost use Rattle.std.specs.Fmt.{decimal};
+ghost use Rattle.std.specs.Prelude.{◌≡◌, ◌<◌, ◌^◌, ◌++◌, IfOk, OnOk, slice_get, string_bytes};
 ghost use Rattle.std.specs.List.{All, flat_map};
 ghost use Rattle.sp_base.specs.Commas.{commas, list_text};
 ghost use Rattle.sp_emit.specs.Matches.{ArePlaces, Binds, IsLine};
 ghost use Rattle.sp_plan.specs.Lines.{line, binding_text, name_text};
 
-use itoa::Buffer;
+use sp_base::{push_commas, push_list};
 use sp_plan::{Match, Memory, Places, Plan};
 use std::alloc::Global;
 use std::fmt::Write;
 
 // Room for the line of a match with few events.
 const ROOM: usize = 96;
-
-// Adds a number.
-fn push_number(out: &mut String, number: u32) -> Result<(), Memory>
-    ensures { OnOk result (string_bytes out.new ≡ string_bytes out.old ++ decimal number) }
-{
-    out.push_str(Buffer::new().format(number))
-}
-
-// Adds numbers, each after a comma.
-fn push_more(out: &mut String, numbers: &[u32]) -> Result<(), Memory>
-    ensures { OnOk result
-        (string_bytes out.new
-        ≡ string_bytes out.old ++ flat_map (λ n. codes "," ++ decimal n) numbers.now) }
-{
-    for number in numbers {
-        out.push_str(",")?;
-        push_number(out, *number)?;
-    }
-    Ok(())
-}
-
-// Adds numbers joined by commas.
-fn push_commas(out: &mut String, numbers: &[u32]) -> Result<(), Memory>
-    ensures text { OnOk result (string_bytes out.new ≡ string_bytes out.old ++ commas numbers.now) }
-    ensures small { All (λ n. n < 2 ^ 32) numbers.now }
-{
-    if let [first, rest @ ..] = numbers {
-        push_number(out, *first)?;
-        push_more(out, rest)?;
-    }
-    Ok(())
-}
 
 // Adds the numbers of events.
 fn push_places(out: &mut String, places: &Places) -> Result<(), Memory>
@@ -90,19 +57,6 @@ fn push_bindings(out: &mut String, plan: &Plan, bound: &[(u8, Places)]) -> Resul
         push_binding(out, plan, *name, places)?;
     }
     Ok(())
-}
-
-// Adds numbers joined by commas, or a dash where there are none.
-pub(crate) fn push_list(out: &mut String, numbers: &[u32]) -> Result<(), Memory>
-    ensures text { OnOk result
-        (string_bytes out.new ≡ string_bytes out.old ++ list_text numbers.now) }
-    ensures small { All (λ n. n < 2 ^ 32) numbers.now }
-{
-    if numbers.is_empty() {
-        out.push_str("-")?;
-        return Ok(());
-    }
-    push_commas(out, numbers)
 }
 
 // Adds the consumed numbers, or a dash where there are none.

@@ -1,14 +1,14 @@
 -- Which bytes the texts of steps have.
 use Rattle.std.proofs.Common.{◌≡◌, ℕ, ◌+◌, ◌<◌, ◌≤◌, ◌^◌, ◌%◌, Bool, List, [], ◌∷◌, ◌++◌, arith, refl, true, ◌≢◌}
 use Rattle.std.specs.Prelude.{codes, Some, None, nat_le}
-use Rattle.std.specs.List.{All, flat_map, list_all}
+use Rattle.std.specs.List.{All, list_all}
 use Rattle.std.specs.Fmt.{decimal}
 use Rattle.std.proofs.lemmas.Fmt.{decimal_by_steps}
 use Rattle.std.proofs.lemmas.List.Sums.{AllPass-from_list_all}
 use borrow.Author.Tests.{leb-true}
 use Rattle.std.proofs.lemmas.List.Elements.{All-nil, All-cons, All-head, All-tail, All-append, All-push, All-weaker}
+use Rattle.sp_base.specs.Commas.{more, list_text}
 use Rattle.sp_base.specs.Limits.{batch_limit}
-use Rattle.sp_base.specs.Commas.{list_text}
 use Rattle.sp_sched.specs.declared.step.TraceStep.{TraceStep}
 use Rattle.sp_sched.specs.declared.step.TraceStep.TheVariants as t
 use Rattle.sp_sched.specs.Schedules.{CanStand, IsNumber, step_text}
@@ -28,13 +28,13 @@ abbrev pub IsShort : ℕ → Type 0
 IsShort n = n < 2 ^ 32
 
 pub decimal_digits : (n : ℕ) → n < 2 ^ 64 → All IsDigit (decimal n)
-decimal_digits n h = decimal_by_steps (λ n ds. All IsDigit ds) one more n h
+decimal_digits n h = decimal_by_steps (λ n ds. All IsDigit ds) one next n h
   where
     one : (n : ℕ) → n < 10 → All IsDigit ((48 + n) ∷ [])
     one n h = All-cons IsDigit (48 + n) [] (omega arith, omega arith) (All-nil IsDigit)
 
-    more : (n : ℕ) (ds : List ℕ) → 10 ≤ n → All IsDigit ds → All IsDigit (ds ++ ((48 + n % 10) ∷ []))
-    more n ds h ih = All-push IsDigit ds (48 + n % 10) ih (omega arith, omega arith)
+    next : (n : ℕ) (ds : List ℕ) → 10 ≤ n → All IsDigit ds → All IsDigit (ds ++ ((48 + n % 10) ∷ []))
+    next n ds h ih = All-push IsDigit ds (48 + n % 10) ih (omega arith, omega arith)
 
 pub number_bounds : (n : ℕ) → IsNumber n → n < 2 ^ 64
 number_bounds n h = omega arith
@@ -42,11 +42,11 @@ number_bounds n h = omega arith
 letters : (n : ℕ) → n < 2 ^ 64 → All IsLetter (decimal n)
 letters n h = All-weaker IsDigit IsLetter (λ b d. omega arith) (decimal n) (decimal_digits n h)
 
-more_letters : (ns : List ℕ) → All IsShort ns → All IsLetter (flat_map (λ n. codes "," ++ decimal n) ns)
+more_letters : (ns : List ℕ) → All IsShort ns → All IsLetter (more ns)
 more_letters [] h = All-nil IsLetter
 more_letters (n ∷ ns) h =
     let small : n < 2 ^ 32 = All-head IsShort n ns h in
-    All-append IsLetter (codes "," ++ decimal n) (flat_map (λ n. codes "," ++ decimal n) ns)
+    All-append IsLetter (codes "," ++ decimal n) (more ns)
     (All-cons IsLetter 44 (decimal n) (omega arith) (letters n (omega arith))) (more_letters ns (All-tail IsShort n ns h))
 
 pub number_letters : (n : ℕ) → IsNumber n → All IsLetter (decimal n)
@@ -59,7 +59,7 @@ pub label_letters : (ns : List ℕ) → All IsShort ns → All IsLetter (list_te
 label_letters [] h = All-cons IsLetter 45 [] (omega arith) (All-nil IsLetter)
 label_letters (n ∷ ns) h =
     let small : n < 2 ^ 32 = All-head IsShort n ns h in
-    All-append IsLetter (decimal n) (flat_map (λ n. codes "," ++ decimal n) ns) (letters n (omega arith)) (more_letters ns (All-tail IsShort n ns h))
+    All-append IsLetter (decimal n) (more ns) (letters n (omega arith)) (more_letters ns (All-tail IsShort n ns h))
 
 printed : (bs : List ℕ) → All IsLetter bs → All IsPrinted bs
 printed bs h = All-weaker IsLetter IsPrinted (λ b l. omega arith) bs h

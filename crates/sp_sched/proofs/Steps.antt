@@ -4,8 +4,8 @@ use Rattle.std.specs.Prelude.{codes}
 use Rattle.std.specs.List.{All}
 use Rattle.std.proofs.lemmas.List.{append_cancel_left}
 use Rattle.std.specs.Fmt.{decimal}
-use Rattle.sp_base.specs.Limits.{batch_limit}
 use Rattle.sp_base.specs.Commas.{list_text}
+use Rattle.sp_base.specs.Limits.{batch_limit}
 use Rattle.sp_sched.specs.declared.step.TraceStep.{TraceStep}
 use Rattle.sp_sched.specs.declared.step.TraceStep.TheVariants as t
 use Rattle.sp_sched.specs.Schedules.{IsNumber, AreRuns, step_text}

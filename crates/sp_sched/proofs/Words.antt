@@ -1,15 +1,15 @@
 -- A step that can stand is known by its text: the words between blanks say what it is.
 use Rattle.std.proofs.Common.{◌≡◌, ℕ, ◌<◌, ◌≤◌, ◌^◌, Bool, false, List, [], ◌∷◌, ◌++◌, ◌==◌, get_or, length, map, refl, sym, ◌∙◌, ap, arith, append-nil, append_assoc}
 use Rattle.std.specs.Prelude.{codes, Some, None, if◌then◌else◌}
-use Rattle.std.specs.List.{All, flat_map, slice_split}
+use Rattle.std.specs.List.{All, slice_split}
 use Rattle.std.specs.Fmt.{decimal}
 use Rattle.std.specs.Str.Parse.{digits_value}
 use Rattle.std.proofs.lemmas.Bool.Decides.{nat_tests}
 use Rattle.std.proofs.lemmas.Fmt.{decimal_is_IsNumeral, decimal_nonempty}
 use Rattle.std.proofs.lemmas.List.Elements.{All-head, All-tail, All-weaker}
 use Rattle.std.proofs.lemmas.List.Splits.{slice_split_at, slice_split_none}
+use Rattle.sp_base.specs.Commas.{more, list_text}
 use Rattle.sp_base.specs.Limits.{batch_limit}
-use Rattle.sp_base.specs.Commas.{list_text}
 use Rattle.sp_sched.specs.declared.step.TraceStep.{TraceStep}
 use Rattle.sp_sched.specs.declared.step.TraceStep.TheVariants as t
 use Rattle.sp_sched.specs.Schedules.{CanStand, IsNumber, step_text}
@@ -72,10 +72,6 @@ two_words word other h k =
 
 valued : (n : ℕ) → n < 2 ^ 64 → digits_value 10 (decimal n) ≡ n
 valued n h = (decimal_is_IsNumeral n h).1
-
--- numbers, each behind a comma
-abbrev more : List ℕ → List ℕ
-more ns = flat_map (λ n. codes "," ++ decimal n) ns
 
 -- numbers joined by commas, cut at the commas
 numbers_cut : (n : ℕ) (ns : List ℕ) → n < 2 ^ 32 → All IsShort ns → numbers_of (decimal n ++ more ns) ≡ n ∷ ns

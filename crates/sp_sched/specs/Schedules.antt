@@ -2,8 +2,8 @@
 use Rattle.std.specs.Prelude.{◌≡◌, ◌≢◌, ℕ, ◌+◌, ◌-◌, ◌<◌, ◌≤◌, ◌^◌, Bool, List, [], ◌∷◌, ◌++◌, length, take, Option, Some, None, slice_get, codes, ◌==◌, if◌then◌else◌}
 use Rattle.std.specs.List.{All, flat_map, slice_split}
 use Rattle.std.specs.Fmt.{decimal}
-use Rattle.sp_base.specs.Limits.{batch_limit}
 use Rattle.sp_base.specs.Commas.{list_text}
+use Rattle.sp_base.specs.Limits.{batch_limit}
 use Rattle.sp_group.specs.Rising.{IsLabel}
 use Rattle.sp_sched.specs.declared.step.TraceStep.{TraceStep}
 use Rattle.sp_sched.specs.declared.step.TraceStep.TheVariants as t

@@ -10,9 +10,6 @@ use sp_base::limits::BATCH_LIMIT;
 use sp_group::Label;
 use std::alloc::Global;
 
-// The most events that a step lends.
-const MOST_LENT: u64 = BATCH_LIMIT as u64;
-
 // The step that is one word.
 fn bare_step(word: &[u8]) -> Option<TraceStep>
     requires { parts 32 word.now ≡ word.now ∷ [] }

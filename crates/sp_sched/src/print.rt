@@ -1,10 +1,10 @@
-ghost use Rattle.std.specs.Prelude.{◌≡◌, ◌++◌, codes, string_bytes, IfOk, OnOk};
-ghost use Rattle.std.specs.Fmt.{decimal};
-ghost use Rattle.std.specs.List.{All, flat_map};
-ghost use Rattle.sp_base.specs.Commas.{commas, list_text};
+ghost use Rattle.std.specs.Prelude.{◌≡◌, ◌++◌, string_bytes, IfOk, OnOk};
+ghost use Rattle.std.specs.List.{All};
+ghost use Rattle.sp_base.specs.Commas.{list_text};
 ghost use Rattle.sp_sched.specs.Schedules.{CanStand, IsSchedule, schedule_text, step_text};
 
 use crate::{Memory, TraceStep};
+use sp_base::push_list;
 use sp_group::Label;
 use std::alloc::Global;
 use std::fmt::Write;
@@ -12,47 +12,11 @@ use std::fmt::Write;
 // Room for a step and its line feed; one with long numbers or a long label takes more.
 const STEP_ROOM: usize = 16;
 
-// Adds a number.
-fn push_number(out: &mut String, number: u32) -> Result<(), Memory>
-    ensures { OnOk result (string_bytes out.new ≡ string_bytes out.old ++ decimal number) }
-{
-    write!(out, "{number}")?;
-    Ok(())
-}
-
-// Adds numbers, each after a comma.
-fn push_more(out: &mut String, numbers: &[u32]) -> Result<(), Memory>
-    ensures { OnOk result
-        (string_bytes out.new
-        ≡ string_bytes out.old ++ flat_map (λ n. codes "," ++ decimal n) numbers.now) }
-{
-    for number in numbers {
-        out.push_str(",")?;
-        push_number(out, *number)?;
-    }
-    Ok(())
-}
-
-// Adds numbers joined by commas.
-fn push_commas(out: &mut String, numbers: &[u32]) -> Result<(), Memory>
-    ensures { OnOk result (string_bytes out.new ≡ string_bytes out.old ++ commas numbers.now) }
-{
-    if let [first, rest @ ..] = numbers {
-        push_number(out, *first)?;
-        push_more(out, rest)?;
-    }
-    Ok(())
-}
-
 // Adds the runs of a label, or a dash where there are none.
 fn push_label(out: &mut String, label: &Label) -> Result<(), Memory>
     ensures { OnOk result (string_bytes out.new ≡ string_bytes out.old ++ list_text label.now) }
 {
-    if label.runs().is_empty() {
-        out.push_str("-")?;
-        return Ok(());
-    }
-    push_commas(out, label.runs())
+    push_list(out, label.runs())
 }
 
 // Adds the text of a step.
