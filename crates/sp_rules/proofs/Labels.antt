@@ -2,6 +2,8 @@
 use Rattle.std.proofs.Common.{◌≡◌, ◌≢◌, ℕ, ◌⊎◌, Bool, true, false, cond, not, ◌&&◌, ◌||◌, ◌==◌, List, [], ◌∷◌, filter, Option, Some, None, ⊎_elim, refl, sym, ap, ◌∙◌, subst, arith}
 use Rattle.std.specs.List.{flat_map, list_all}
 use Rattle.std.proofs.lemmas.Bool.Decides.{nat_tests}
+use Rattle.std.proofs.lemmas.List.Elements.{All-filter}
+use Rattle.std.proofs.lemmas.List.Kept.{IsStrictlyIncreasing-filter}
 use Rattle.sp_base.proofs.RisingLists.{rising_same}
 use Rattle.sp_base.specs.Numbers.{is_among}
 use Rattle.sp_plan.specs.declared.event.Event.{Event}
@@ -16,8 +18,11 @@ use Rattle.sp_group.specs.Effects.{is_newly_spent, names_completed, names_no_aba
 use Rattle.sp_rules.specs.Kept.{Shape}
 use Rattle.sp_rules.proofs.Facts.{ReadsOn}
 use Rattle.sp_rules.proofs.Lists.{or_cases, or_left, or_right, and_left, and_right, and_both, filter_mem, mem_filter, all_mem, split}
-use Rattle.sp_rules.proofs.RisingLists.{label_filter}
 use Rattle.sp_rules.proofs.Tree.{Names, Prunes, parent_is}
+
+-- a part of a label is a label
+label_filter : (p : ℕ → Bool) (xs : List ℕ) → IsLabel xs → IsLabel (filter p xs)
+label_filter p xs label = record { rising = IsStrictlyIncreasing-filter p xs label.rising; given = All-filter p (λ r. r ≢ 0) xs label.given }
 
 -- a label foresees what is decided on the way from the runs s to the runs t
 abbrev pub foresees : Plan → State → State → List ℕ → Bool
