@@ -1,4 +1,4 @@
--- Numbers in rising order, and the least number that passes a test.
+-- What a label can be, whether there is a number, and the least one that passes a test.
 use Rattle.std.specs.Prelude.{◌≢◌, ℕ, zero, suc, ◌+◌, Bool, true, false, List, [], ◌∷◌, Option, Some, None, if◌then◌else◌}
 use Rattle.std.specs.List.{All}
 use Rattle.std.specs.List.Sorted.{IsStrictlyIncreasing}

@@ -3,6 +3,7 @@ ghost use Rattle.sp_base.specs.Numbers.{is_among, with_number};
 ghost use Rattle.sp_group.specs.Rising.{IsLabel};
 
 use crate::Memory;
+use sp_base::Numbers;
 use std::alloc::Global;
 use std::marker::Model;
 
@@ -10,32 +11,32 @@ use std::marker::Model;
 /// the list of their numbers.
 #[derive(Drop)]
 pub struct Label {
-    runs: Vec<u32>,
+    runs: Numbers,
 }
 
 impl Model for Label {
     ghost Value = { List ℕ };
 
-    ghost view = { λ s. s.runs.items };
+    ghost view = { λ s. s.runs.list };
 
-    ghost invariant = { λ s. IsLabel s.runs.items };
+    ghost invariant = { λ s. IsLabel s.runs.list };
 }
 
 impl Label {
     /// None exactly where the list doesn't rise strictly or holds 0.
+    #[tactic(auto, using(crate::proofs::Rising::none_zero, crate::proofs::Rising::no_zero))]
     pub fn new(alloc: Global, runs: &[u32]) -> Result<Option<Label>, Memory>
         ensures value { IfOk result (λ label. IfSome label (λ l. l ≡ runs.now)) }
         ensures some { IfOk result (λ label. IsSome label → IsLabel runs.now) }
         ensures none { IfOk result (λ label. IsNone label → ¬ IsLabel runs.now) }
     {
-        for i in 0..runs.len() {
-            if runs[i] == 0 || i > 0 && runs[i - 1] >= runs[i] {
-                return Ok(None);
-            }
+        let Some(runs) = Numbers::from_list(alloc, runs)? else {
+            return Ok(None);
+        };
+        if runs.has(0) {
+            return Ok(None);
         }
-        Ok(Some(Label {
-            runs: runs.to_vec(alloc)?,
-        }))
+        Ok(Some(Label { runs }))
     }
 
     /// The numbers of its runs, rising strictly, none of them 0.
@@ -43,7 +44,7 @@ impl Label {
         ensures list { result.now ≡ self.now }
         ensures label { IsLabel result.now }
     {
-        &self.runs
+        self.runs.list()
     }
 
     /// No run. Takes no memory.
@@ -51,7 +52,7 @@ impl Label {
         ensures { result ≡ [] }
     {
         Label {
-            runs: Vec::new(alloc),
+            runs: Numbers::new(alloc),
         }
     }
 
@@ -59,14 +60,14 @@ impl Label {
     pub fn has(&self, run: u32) -> bool
         ensures { result ≡ is_among self.now run }
     {
-        self.runs.iter().any(|r| *r == run)
+        self.runs.has(run)
     }
 
     /// Whether the other has the same runs.
     pub fn same(&self, other: &Label) -> bool
         ensures { IsTrue result ↔ self.now ≡ other.now }
     {
-        self.runs == other.runs
+        self.runs.list() == other.runs.list()
     }
 
     /// The same runs once more.
@@ -74,7 +75,7 @@ impl Label {
         ensures { IfOk result (λ copy. copy ≡ self.now) }
     {
         Ok(Label {
-            runs: self.runs.to_vec(alloc)?,
+            runs: self.runs.copy(alloc)?,
         })
     }
 
@@ -85,11 +86,7 @@ impl Label {
         ensures with { OnOk result (self.new ≡ with_number self.old run) }
         ensures err { OnErr result (self.new ≡ self.old) }
     {
-        let mut at = 0;
-        while at < self.runs.len() && self.runs[at] < run {
-            at += 1;
-        }
-        self.runs.insert(at, run)?;
+        self.runs.insert(run)?;
         Ok(())
     }
 
@@ -97,7 +94,7 @@ impl Label {
     pub fn remove(&mut self, run: u32)
         ensures { self.new ≡ filter (λ r. not (r == run)) self.old }
     {
-        self.runs.retain(|r| *r != run);
+        self.runs.remove(run);
     }
 
     /// Takes all runs out. Takes no memory.

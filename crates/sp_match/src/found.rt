@@ -11,20 +11,7 @@ use std::alloc::Global;
 pub fn places_of(alloc: Global, numbers: &Numbers) -> Result<Places, Memory>
     ensures { IfOk result (λ places. places ≡ numbers.now.list) }
 {
-    let Some(places) = Places::new(alloc, numbers.list())? else {
-        unreachable!()
-    };
-    Ok(places)
-}
-
-// The same numbers as a match has them. Takes no memory.
-fn as_places(numbers: Numbers) -> Places
-    ensures { result ≡ numbers.list }
-{
-    let Some(places) = Places::of(numbers.into_list()) else {
-        unreachable!()
-    };
-    places
+    Ok(Places::of(numbers.copy(alloc)?))
 }
 
 // The events of each name, as a match has them, where those who told of them need them no more.
@@ -33,7 +20,7 @@ fn as_bound_places(alloc: Global, bound: Vec<(u8, Numbers)>) -> Result<Vec<(u8, 
 {
     let mut list = Vec::with_capacity(alloc, bound.len())?;
     for (name, numbers) in bound {
-        list.push((name, as_places(numbers)))?;
+        list.push((name, Places::of(numbers)))?;
     }
     Ok(list)
 }
@@ -93,6 +80,6 @@ pub fn as_match(
         window,
         number,
         bound: Listed::of(as_bound_places(alloc, bound.into_vec())?),
-        used: as_places(used),
+        used: Places::of(used),
     })
 }

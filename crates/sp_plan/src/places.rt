@@ -1,34 +1,21 @@
-ghost use Rattle.std.specs.Prelude.{◌≡◌, List, ℕ, IfOk, IsSome, IsNone, IfSome, IsTrue, ◌+◌, ◌<◌, ◌↔◌};
+ghost use Rattle.std.specs.Prelude.{◌≡◌, List, ℕ, IfOk, IsSome, IsNone, IfSome};
 ghost use Rattle.std.specs.List.Sorted.{IsStrictlyIncreasing};
 
 use crate::Memory;
+use sp_base::Numbers;
 use std::alloc::Global;
 use std::marker::Model;
 
-/// Numbers of events, rising strictly.
+/// Numbers of events, rising strictly. Contracts see their list.
 #[derive(Drop)]
 pub struct Places {
-    list: Vec<u32>,
+    numbers: Numbers,
 }
 
 impl Model for Places {
     ghost Value = { List ℕ };
 
-    ghost view = { λ s. s.list.items };
-
-    ghost invariant = { λ s. IsStrictlyIncreasing s.list.items };
-}
-
-// Whether numbers rise strictly.
-fn rises(list: &[u32]) -> bool
-    ensures { IsTrue result ↔ IsStrictlyIncreasing list.now }
-{
-    for i in 1..list.len() {
-        if list[i - 1] >= list[i] {
-            return false;
-        }
-    }
-    true
+    ghost view = { λ s. s.numbers.list };
 }
 
 impl Places {
@@ -38,23 +25,17 @@ impl Places {
         ensures some { IfOk result (λ places. IsSome places → IsStrictlyIncreasing list.now) }
         ensures none { IfOk result (λ places. IsNone places → ¬ IsStrictlyIncreasing list.now) }
     {
-        if !rises(list) {
-            return Ok(None);
+        match Numbers::from_list(alloc, list)? {
+            Some(numbers) => Ok(Some(Places { numbers })),
+            None => Ok(None),
         }
-        Ok(Some(Places {
-            list: list.to_vec(alloc)?,
-        }))
     }
 
-    /// The vector's numbers, None exactly where they don't rise strictly. Takes no memory.
-    pub fn of(list: Vec<u32>) -> Option<Places>
-        ensures value { IfSome result (λ p. p ≡ list.items) }
-        ensures some { IsSome result ↔ IsStrictlyIncreasing list.items }
+    /// These numbers. Takes no memory.
+    pub fn of(numbers: Numbers) -> Places
+        ensures { result ≡ numbers.list }
     {
-        if !rises(&list) {
-            return None;
-        }
-        Some(Places { list })
+        Places { numbers }
     }
 
     /// Its numbers, rising strictly.
@@ -62,6 +43,6 @@ impl Places {
         ensures list { result.now ≡ self.now }
         ensures rising { IsStrictlyIncreasing result.now }
     {
-        &self.list
+        self.numbers.list()
     }
 }

@@ -1,5 +1,4 @@
-use Rattle.std.proofs.Common.{rules, ◌≢◌, ◌==◌, not, filter, sym, ap, subst, ◌∙◌}
-use Rattle.std.proofs.lemmas.Fn.{filter_same}
+use Rattle.std.proofs.Common.{◌≢◌, ◌==◌, not, filter, sym, ap, subst, ◌∙◌}
 use Rattle.std.proofs.lemmas.List.Kept.{IsStrictlyIncreasing-filter}
 use Rattle.std.proofs.lemmas.List.Elements.{All-filter}
 use Rattle.sp_group.specs.Rising.{IsLabel}
@@ -7,11 +6,11 @@ use Rattle.sp_group.proofs.label.Label.remove.Goals as goal
 
 pub invariant_of-self : goal.invariant_of-self
 invariant_of-self c =
-    subst IsLabel (sym (filter_same _ (λ r. not (r == c.args.run)) _ (λ x b f' k. search rules) _ _ c.retain.ensures.filtered))
+    subst IsLabel (sym c.remove.ensures)
     record {
-      rising = IsStrictlyIncreasing-filter (λ r. not (r == c.args.run)) c.self.inside.runs.items c.self.invariant.rising;
-      given = All-filter (λ r. not (r == c.args.run)) (λ r. r ≢ 0) c.self.inside.runs.items c.self.invariant.given;
+      rising = IsStrictlyIncreasing-filter (λ r. not (r == c.args.run)) c.self.inside.runs.list c.self.invariant.rising;
+      given = All-filter (λ r. not (r == c.args.run)) (λ r. r ≢ 0) c.self.inside.runs.list c.self.invariant.given;
     }
 
 pub returns : goal.returns
-returns c = filter_same _ (λ r. not (r == c.args.run)) _ (λ x b f' k. search rules) _ _ c.retain.ensures.filtered ∙ ap (filter (λ r. not (r == c.args.run))) c.self.view_is
+returns c = c.remove.ensures ∙ ap (filter (λ r. not (r == c.args.run))) c.self.view_is
