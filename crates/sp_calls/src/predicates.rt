@@ -36,6 +36,7 @@ fn push_names(
     requires plan { IsCompiled plan.now }
     requires bound { AllSmall bound.old }
 {
+    // A law: the numbers of an event that fits are small, which predicates ask for.
     fitting_events_are_small();
     let mut number = 0u8;
     for name in plan.names.as_slice() {

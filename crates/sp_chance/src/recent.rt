@@ -20,6 +20,7 @@ pub(crate) struct Recent {
 
 impl Model for Recent {
     ghost use Rattle.std.specs.Prelude.{map, ◌<◌};
+    ghost use Rattle.sp_base.specs.Limits.{renewal};
     ghost use Rattle.sp_chance.specs.Counted.{decoded};
     ghost use Rattle.sp_chance.specs.Recent.{Latest, ring_of};
 

@@ -171,8 +171,8 @@ impl Core {
     }
 
     /// A piece comes home whose job is what is out under its ticket, for a live version, as its caller knows, or
-    /// asks by `is_carried`: what it read is the version's, and the ticket ends. Nothing is compared. After want of memory, which hands the
-    /// piece back, the ticket is still out and the core is as before.
+    /// asks by `is_carried`: what it read is the version's, and the ticket ends. Nothing is compared. After want
+    /// of memory, which hands the piece back, the ticket is still out and the core is as before.
     pub fn come_home(&mut self, alloc: Global, piece: Piece) -> Result<(), Piece>
         requires { CanComeHome self.old piece }
         ensures home { OnOk result (IsHome self.old self.new piece) }

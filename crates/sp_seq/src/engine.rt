@@ -51,6 +51,7 @@ fn closed_window(windows: &Windows, events: &[Event], number: u32) -> Window
     ensures number { result.number ≡ number }
     ensures span { IsSpan windows.now.plan events.now number result.first result.end }
 {
+    // Laws: the closed windows are the first ones, and a window holds consecutive events.
     closed_come_first();
     windows_hold();
     let Some(window) = windows.get(number) else {

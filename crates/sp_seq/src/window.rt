@@ -79,6 +79,8 @@ pub(crate) fn match_window(
         (state matcher.old.plan
         (unconsumed before seats.now.events.now window.first window.end))) }
 {
+    // Laws: the completions told of an event are the matches that it adds, and the events of a window use each
+    // run number once.
     completions_are_matches();
     runs_are_sound();
     matcher.clear();

@@ -45,7 +45,7 @@ fn guess_version(
         (share_of chances.new) id) }
     ensures others { OnOk result (AreKept id (share_of chances.old) (share_of chances.new)) }
 {
-    // They tell what every core keeps.
+    // They tell what every core keeps; and a law: the runs of every version have their groups.
     core.plan();
     core.finished();
     versions_have_groups();
