@@ -3,7 +3,7 @@
 #![tactic(auto)]
 
 mod commas;
-mod laws;
+pub mod law;
 pub mod limits;
 mod listed;
 mod mark;
@@ -13,7 +13,7 @@ mod place;
 mod share;
 
 pub use commas::{push_commas, push_list};
-pub use laws::rising_same;
+pub use law::rising_same;
 pub use listed::{Listed, Text};
 pub use mark::{is_marked, without_mark};
 pub use numbers::Numbers;

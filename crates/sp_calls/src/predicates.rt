@@ -3,7 +3,7 @@ ghost use Rattle.sp_plan.specs.Bounds.{AllSmall, IsSmall, PredWithin};
 ghost use Rattle.sp_plan.specs.Compiled.{IsCompiled};
 
 use crate::text::Answer;
-use sp_plan::{Bound, Event, Name, Plan, Pred, fitting_events_are_small, holds, value};
+use sp_plan::{Bound, Event, Name, Plan, Pred, holds, value};
 use std::alloc::{AllocError, Global};
 
 // Appends whether the name's predicate holds of the event, and what both sides of a comparison come to.
@@ -37,7 +37,7 @@ fn push_names(
     requires bound { AllSmall bound.old }
 {
     // A law: the numbers of an event that fits are small, which predicates ask for.
-    fitting_events_are_small();
+    sp_plan::law::fitting_events_are_small();
     let mut number = 0u8;
     for name in plan.names.as_slice() {
         match events.get(number as usize) {

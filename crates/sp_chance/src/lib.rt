@@ -3,7 +3,7 @@
 
 mod chances;
 mod even;
-mod laws;
+pub mod law;
 mod markov;
 mod matrix;
 mod moves;
@@ -15,7 +15,7 @@ mod steady;
 
 pub use chances::{Chance, Chances};
 pub use even::Even;
-pub use laws::rows_are_whole;
+pub use law::rows_are_whole;
 pub use markov::Markov;
 pub use predictor::Predictor;
 pub use steady::Steady;

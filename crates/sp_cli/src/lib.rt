@@ -2,7 +2,7 @@
 #![tactic(auto)]
 
 mod command;
-mod law;
+pub mod law;
 mod options;
 mod read;
 mod values;

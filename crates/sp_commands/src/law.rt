@@ -3,17 +3,12 @@ ghost use Rattle.sp_commands.specs.Alike.{PlansRunAlike};
 ghost use Rattle.sp_commands.specs.OneOutcome.{OneOutcome};
 ghost use Rattle.sp_commands.specs.Completes.{Completes, DrillCompletes};
 
-use sp_compile::one_truth;
-use sp_cut::rows_stay;
-use sp_load::{one_reading, one_text};
-use sp_sched::one_schedule;
-
 /// Law: plans that stand for one query have one outcome over all bytes, status and text.
 pub fn plans_run_alike()
     ensures { PlansRunAlike }
 {
     // a law: a predicate of a query is true or not
-    one_truth();
+    sp_compile::law::one_truth();
 }
 
 /// Law: words, files that are told and bytes have at most one outcome: one status, one line and one text.
@@ -22,10 +17,10 @@ pub fn one_outcome()
 {
     // laws: what stands at a place, what its text comes to, what its predicates mean, and what a
     // schedule is is one thing each
-    one_text();
-    one_reading();
-    one_truth();
-    one_schedule();
+    sp_load::law::one_text();
+    sp_load::law::one_reading();
+    sp_compile::law::one_truth();
+    sp_sched::law::one_schedule();
 }
 
 /// Law: words that give a command, a text or file within its limit, a query that compiles, a schedule
@@ -36,10 +31,10 @@ pub fn completes()
 {
     // laws: what texts of queries and schedules come to is one thing, and a row stays a row whatever
     // comes behind
-    one_reading();
-    one_schedule();
-    one_truth();
-    rows_stay();
+    sp_load::law::one_reading();
+    sp_sched::law::one_schedule();
+    sp_compile::law::one_truth();
+    sp_cut::law::rows_stay();
 }
 
 /// Law: words that give a drill and an output whose count of faults did not rise give status 0 and the

@@ -4,7 +4,7 @@
 
 mod asked;
 mod ends;
-mod law;
+pub mod law;
 mod output;
 mod scheduled;
 mod windowed;

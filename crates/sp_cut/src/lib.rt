@@ -5,11 +5,11 @@
 mod cut;
 mod ends;
 mod fault;
-mod laws;
+pub mod law;
 mod part;
 mod span;
 
 pub use cut::Cutter;
 pub use fault::{CutFault, Memory};
-pub use laws::{rows_add_up, rows_stay};
+pub use law::{rows_add_up, rows_stay};
 pub use span::Span;

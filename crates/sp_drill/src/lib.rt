@@ -4,8 +4,8 @@
 //! each plan of it is one of these, in `specs/Query.antt`.
 #![tactic(auto)]
 
-mod laws;
+pub mod law;
 mod text;
 
-pub use laws::{drill_query_has_plan, generated_rows_are_read};
+pub use law::{drill_query_has_plan, generated_rows_are_read};
 pub use text::query;

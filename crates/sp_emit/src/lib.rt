@@ -7,7 +7,7 @@
 
 mod bindings;
 mod front;
-mod law;
+pub mod law;
 mod number;
 mod places;
 mod read;

@@ -4,7 +4,7 @@
 #![tactic(auto)]
 
 mod draw;
-mod law;
+pub mod law;
 mod row;
 mod table;
 

@@ -6,7 +6,7 @@ ghost use Rattle.sp_hub.specs.Calls.{posts, collects, takes, puts, fresh_seats, 
 
 use crate::Memory;
 use crate::entry::HubEntry;
-use crate::laws::Locked;
+use crate::locked::Locked;
 use crate::named::Named;
 use crate::naming::Naming;
 use crate::opened::Opened;

@@ -5,12 +5,12 @@
 
 mod entry;
 mod exchange;
-pub mod laws;
+pub mod law;
+pub mod locked;
 mod named;
 mod naming;
 mod opened;
 mod poster;
-mod readings;
 mod seat;
 mod shared;
 mod taken;
@@ -18,11 +18,11 @@ mod tally;
 
 pub use entry::HubEntry;
 pub use exchange::{History, Hub, Unfinished};
+pub use law::{collected_in_order, takes_follow_posts};
 pub use named::Named;
 pub use naming::Naming;
 pub use opened::Opened;
 pub use poster::Poster;
-pub use readings::{collected_in_order, takes_follow_posts};
 pub use seat::Seat;
 use std::alloc::AllocError;
 pub use taken::Taken;

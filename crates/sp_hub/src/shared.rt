@@ -5,7 +5,7 @@ ghost use Rattle.sp_hub.specs.History.{IsLegal, is_call};
 ghost use Rattle.sp_hub.specs.Calls.{after_post, after_put, posts, puts};
 
 use crate::entry::HubEntry;
-use crate::laws::Locked;
+use crate::locked::Locked;
 use crate::named::Named;
 use crate::naming::Naming;
 use crate::poster::Poster;

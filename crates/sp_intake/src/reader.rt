@@ -8,7 +8,7 @@ ghost use Rattle.sp_intake.specs.Following.{ComeNext};
 
 use crate::input::Stop;
 use crate::kept::Kept;
-use sp_cut::{CutFault, Cutter, rows_stay};
+use sp_cut::{CutFault, Cutter};
 use sp_plan::{Event, Memory, Plan};
 use std::alloc::{AllocError, Global};
 use std::sync::Arc;
@@ -123,7 +123,7 @@ impl Reader {
             return Ok(false);
         }
         // a law: what is no row now is none whatever comes behind
-        rows_stay();
+        sp_cut::law::rows_stay();
         match self.cutter.find_row() {
             Ok(None) => {
                 *event = None;

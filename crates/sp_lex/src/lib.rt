@@ -3,7 +3,7 @@
 
 mod bytes;
 mod fault;
-mod law;
+pub mod law;
 mod lexer;
 mod literal;
 mod mark;

@@ -2,7 +2,7 @@
 //! there is none. What refuses a load stands in `specs/Loads.antt`, what refuses a text in `specs/Queries.antt`.
 #![tactic(auto)]
 
-mod law;
+pub mod law;
 mod load;
 mod place;
 mod query;

@@ -7,7 +7,7 @@ mod columns;
 mod definitions;
 mod expression;
 mod fault;
-mod law;
+pub mod law;
 mod list;
 mod parsing;
 mod pattern;

@@ -8,38 +8,27 @@ ghost use Rattle.sp_rules.specs.Returning.{ReadingsAndReturn};
 ghost use Rattle.sp_rules.specs.Schedules.{EverySchedule};
 ghost use Rattle.sp_rules.specs.StayingLent.{LentStays};
 
-use sp_match::{
-    abandonments_are_told, closing_ends_runs, completions_are_matches, handling_is_lawful,
-    moves_are_handling, moves_lead_on, numbers_stay_below, open_has_no_match, runs_are_sound,
-    several_are_lawful,
-};
-use sp_plan::reading_is_state;
-use sp_window::{
-    closed_come_first, finished_windows_stay, good_events, windows_are_kept, windows_are_read,
-    windows_hold,
-};
-
 /// Law: the matcher and the windows of every compiled plan keep what a layer over them relies on.
 pub fn compiled_plans_are_lawful()
     ensures { (q : Plan) → IsCompiled q → Lawful q }
 {
-    runs_are_sound();
-    handling_is_lawful();
-    several_are_lawful();
-    moves_are_handling();
-    moves_lead_on();
-    closing_ends_runs();
-    open_has_no_match();
-    numbers_stay_below();
-    completions_are_matches();
-    abandonments_are_told();
-    reading_is_state();
-    good_events();
-    windows_hold();
-    windows_are_kept();
-    closed_come_first();
-    finished_windows_stay();
-    windows_are_read();
+    sp_match::law::runs_are_sound();
+    sp_match::law::handling_is_lawful();
+    sp_match::law::several_are_lawful();
+    sp_match::law::moves_are_handling();
+    sp_match::law::moves_lead_on();
+    sp_match::law::closing_ends_runs();
+    sp_match::law::open_has_no_match();
+    sp_match::law::numbers_stay_below();
+    sp_match::law::completions_are_matches();
+    sp_match::law::abandonments_are_told();
+    sp_plan::law::reading_is_state();
+    sp_window::law::good_events();
+    sp_window::law::windows_hold();
+    sp_window::law::windows_are_kept();
+    sp_window::law::closed_come_first();
+    sp_window::law::finished_windows_stay();
+    sp_window::law::windows_are_read();
 }
 
 /// Law: in whatever order the steps of the machine are taken, those that are refused among them, what

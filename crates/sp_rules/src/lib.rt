@@ -3,7 +3,7 @@
 //! over every list of steps of the speculative machine, in `specs/Schedules.antt`. No code runs here.
 #![tactic(auto)]
 
-mod law;
+pub mod law;
 
 pub use law::{
     coming_home_adds_matches, compiled_plans_are_lawful, every_schedule, lent_stays,

@@ -13,7 +13,7 @@ use crate::learning::learn;
 use crate::window::{Seats, Window, consume, match_window};
 use sp_match::{Matcher, Moves};
 use sp_plan::{Event, Match, Memory, Plan};
-use sp_window::{Windows, closed_come_first, windows_hold};
+use sp_window::Windows;
 use std::alloc::Global;
 use std::sync::Arc;
 
@@ -52,8 +52,8 @@ fn closed_window(windows: &Windows, events: &[Event], number: u32) -> Window
     ensures span { IsSpan windows.now.plan events.now number result.first result.end }
 {
     // Laws: the closed windows are the first ones, and a window holds consecutive events.
-    closed_come_first();
-    windows_hold();
+    sp_window::law::closed_come_first();
+    sp_window::law::windows_hold();
     let Some(window) = windows.get(number) else {
         unreachable!()
     };

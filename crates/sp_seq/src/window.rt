@@ -10,7 +10,7 @@ ghost use Rattle.sp_seq.specs.Completed.{with_matches};
 ghost use Rattle.sp_seq.specs.Learned.{AllKnown};
 
 use crate::found::add_matches;
-use sp_match::{Known, Matcher, Moves, completions_are_matches, runs_are_sound};
+use sp_match::{Known, Matcher, Moves};
 use sp_plan::{Event, Match, Memory};
 use std::alloc::Global;
 
@@ -81,8 +81,8 @@ pub(crate) fn match_window(
 {
     // Laws: the completions told of an event are the matches that it adds, and the events of a window use each
     // run number once.
-    completions_are_matches();
-    runs_are_sound();
+    sp_match::law::completions_are_matches();
+    sp_match::law::runs_are_sound();
     matcher.clear();
     for i in window.first..window.end {
         if !seats.consumed[i] {

@@ -12,7 +12,6 @@ use sp_chance::{Chances, Predictor};
 use sp_core::Core;
 use sp_match::Matcher;
 use sp_plan::Length;
-use sp_rules::versions_have_groups;
 use sp_version::Version;
 use std::alloc::Global;
 
@@ -48,7 +47,7 @@ fn guess_version(
     // They tell what every core keeps; and a law: the runs of every version have their groups.
     core.plan();
     core.finished();
-    versions_have_groups();
+    sp_rules::law::versions_have_groups();
     let Some(held) = core.tree().get(id) else {
         return Ok(());
     };

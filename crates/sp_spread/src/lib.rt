@@ -5,8 +5,6 @@
 
 ghost use Rattle.sp_spread.specs.Laws.{JournalsStaySpread, ReturnsFollowReadings, TurnsAreLawful};
 
-use sp_rules::compiled_plans_are_lawful;
-
 /// Law: a journal stays spread with each entry that is no lease, and with a lease where the machine was spread
 /// out before it.
 pub fn journals_stay_spread()
@@ -25,5 +23,5 @@ pub fn returns_follow_readings()
 pub fn turns_are_lawful()
     ensures { TurnsAreLawful }
 {
-    compiled_plans_are_lawful();
+    sp_rules::law::compiled_plans_are_lawful();
 }

@@ -2,7 +2,7 @@
 //! its matches; and the least event that it read although it is suppressed.
 #![tactic(auto)]
 
-mod law;
+pub mod law;
 mod search;
 mod version;
 

@@ -3,12 +3,12 @@
 //! windows kept here are those is said by `Stands` in `specs/Standing.antt`.
 #![tactic(auto)]
 
-mod laws;
+pub mod law;
 mod opening;
 mod record;
 mod windows;
 
-pub use laws::{
+pub use law::{
     closed_come_first, finished_windows_stay, good_events, growth, windows_are_few,
     windows_are_kept, windows_are_read, windows_hold,
 };

@@ -1,5 +1,0 @@
-use Rattle.sp_cut.proofs.Growing.{rows_stay}
-use Rattle.sp_cut.proofs.laws.rows_stay.Goals as goal
-
-pub returns : goal.returns
-returns c = rows_stay

@@ -1,5 +1,0 @@
-use Rattle.sp_drill.proofs.OnePlan.{has_plan}
-use Rattle.sp_drill.proofs.laws.drill_query_has_plan.Goals as goal
-
-pub returns : goal.returns
-returns c = has_plan c.one_reading.ensures

@@ -1,5 +1,0 @@
-use Rattle.sp_hub.proofs.InOrder.{nth_take}
-use Rattle.sp_hub.proofs.readings.takes_follow_posts.Goals as goal
-
-pub returns : goal.returns
-returns c = nth_take

@@ -1,5 +1,0 @@
-use Rattle.sp_window.proofs.Numbers.{good_events}
-use Rattle.sp_window.proofs.laws.good_events.Goals as goal
-
-pub returns : goal.returns
-returns c = good_events

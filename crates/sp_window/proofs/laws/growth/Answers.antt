@@ -1,5 +1,0 @@
-use Rattle.sp_window.proofs.Growing.{grows}
-use Rattle.sp_window.proofs.laws.growth.Goals as goal
-
-pub returns : goal.returns
-returns c = grows

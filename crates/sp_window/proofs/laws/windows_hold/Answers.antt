@@ -1,5 +1,0 @@
-use Rattle.sp_window.proofs.Numbers.{windows_hold}
-use Rattle.sp_window.proofs.laws.windows_hold.Goals as goal
-
-pub returns : goal.returns
-returns c = windows_hold
