@@ -8,7 +8,7 @@ use Rattle.sp_plan.specs.declared.event.Event.{Event}
 use Rattle.sp_plan.specs.declared.plan.Plan.{Plan}
 use Rattle.sp_intake.specs.Intake.{TakesNoFurther}
 use Rattle.sp_intake.specs.Reading.{Reading, read, stop_of, stop_or}
-use Rattle.sp_intake.specs.declared.input.Given.{Given}
+use Rattle.sp_intake.specs.declared.input.InputEvents.{InputEvents}
 use Rattle.sp_intake.specs.declared.input.Stop.{Stop}
 use Rattle.sp_intake.specs.declared.input.Stop.TheVariants.{End, Failed, Open}
 use Rattle.sp_intake.specs.declared.input.Failure.{Failure}
@@ -78,7 +78,7 @@ module _ (T : Plan → List Event → Stop → List ℕ) where
       cut_short (IsReading q) old new taken (reading_outcome q (T q) taken new.input.ended) gave refl (no_further_reading q taken no_further) same
 
   -- a reading of a plan, which is another under another name
-  module _ (q p : Plan) (same : p ≡ q) (old new : Outside) (taken : List ℕ) (given : Given) (gave : Gave old.input.left taken new.input.left) (no_further : TakesNoFurther p taken)
+  module _ (q p : Plan) (same : p ≡ q) (old new : Outside) (taken : List ℕ) (given : InputEvents) (gave : Gave old.input.left taken new.input.left) (no_further : TakesNoFurther p taken)
       (events : given.events.items ≡ (read p taken new.input.ended).events) (stop : given.stop ≡ stop_of (read p taken new.input.ended) new.input.ended) where
     events_are : given.events.items ≡ (read q taken new.input.ended).events
     events_are = events ∙ ap (λ (o : Plan). (read o taken new.input.ended).events) same

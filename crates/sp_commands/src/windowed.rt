@@ -15,7 +15,7 @@ ghost use Rattle.sp_commands.specs.Run.{windows_text, IsPlanRun, RunOutcome};
 use crate::ends::{status_of, status_of_refusal};
 use crate::output::write_lines;
 use sp_answer::{Status, Written};
-use sp_intake::{Given, read_input};
+use sp_intake::{InputEvents, read_input};
 use sp_io::{Files, Sink, Source};
 use sp_load::{Place, plan_at};
 use sp_plan::{Memory, Plan};
@@ -33,7 +33,7 @@ pub fn shared(alloc: Global, plan: Plan) -> Result<Arc<Plan>, Memory>
 fn write_windows<K: Sink>(
     alloc: Global,
     plan: &Arc<Plan>,
-    given: &Given,
+    given: &InputEvents,
     out: &mut K,
 ) -> Result<Written, Memory>
     requires compiled { IsCompiled (arc_value plan.now) }

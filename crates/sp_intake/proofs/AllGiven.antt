@@ -7,7 +7,7 @@ use Rattle.sp_io.specs.Outside.{SourceState}
 use Rattle.sp_plan.specs.Events.{AllFit, NeverGoesBack}
 use Rattle.sp_plan.specs.declared.event.Event.{Event}
 use Rattle.sp_plan.specs.declared.plan.Plan.{Plan}
-use Rattle.sp_intake.specs.declared.input.Given.{Given}
+use Rattle.sp_intake.specs.declared.input.InputEvents.{InputEvents}
 use Rattle.sp_intake.specs.declared.input.Stop.{Stop}
 use Rattle.sp_intake.specs.declared.step.Polled.{Polled}
 use Rattle.sp_intake.specs.declared.step.Polled.TheVariants as polled
@@ -16,7 +16,7 @@ use Rattle.sp_intake.specs.ReadAll.{ReadsAll}
 use Rattle.sp_intake.specs.Standing.{Standing, Gives, HasRead, ReadSoFar, ReadsFrom, stop_in, polled_in}
 
 -- memory ran out behind these events
-pub short_all : (old new : Standing) (events : List Event) (result : Result Given AllocError) → IsErr result → Gives old events new → ReadsAll old new result
+pub short_all : (old new : Standing) (events : List Event) (result : Result InputEvents AllocError) → IsErr result → Gives old events new → ReadsAll old new result
 short_all old new events (Ok given) failed gives = absurd (cc failed)
 short_all old new events (Err e) failed gives = record { events = events; gives = gives; given = tt; stop = tt }
 
@@ -26,14 +26,14 @@ none_given old new answer given (inl is) = subst (λ (a : Polled). Gives old (po
 none_given old new answer given (inr is) = subst (λ (a : Polled). Gives old (polled_in a given) new) is
 
 -- what was read to a stop is a reading of the input
-pub reads_input : (q : Plan) (before after : SourceState) (old new : Standing) (result : Result Given AllocError) → ReadsFrom q before old → ReadsAll old new result → after ≡ new.source → ReadsInput q before after result
+pub reads_input : (q : Plan) (before after : SourceState) (old new : Standing) (result : Result InputEvents AllocError) → ReadsFrom q before old → ReadsAll old new result → after ≡ new.source → ReadsInput q before after result
 reads_input q before after old new result from all is =
     subst (λ (s : SourceState). ReadsInput q before s result) (sym is) (by result all.given all.stop)
   where
     far : ReadSoFar q before new.source all.events (stop_in new.state)
     far = from all.events new all.gives
 
-    by : (answer : Result Given AllocError) → IfOk answer (λ given. given.events.items ≡ all.events) → IfOk answer (λ given. stop_in new.state ≡ Some given.stop) → ReadsInput q before new.source answer
+    by : (answer : Result InputEvents AllocError) → IfOk answer (λ given. given.events.items ≡ all.events) → IfOk answer (λ given. stop_in new.state ≡ Some given.stop) → ReadsInput q before new.source answer
     by (Ok given) events stop =
         let has = subst (λ (why : Option Stop). HasRead q before new.source far.taken all.events why) stop far.has in
         record {

@@ -6,7 +6,7 @@ use Rattle.sp_io.specs.Outside.{SourceState, Gave, Rose}
 use Rattle.sp_plan.specs.Events.{AllFit, NeverGoesBack}
 use Rattle.sp_plan.specs.declared.plan.Plan.{Plan}
 use Rattle.sp_intake.specs.Reading.{read, stop_of}
-use Rattle.sp_intake.specs.declared.input.Given.{Given}
+use Rattle.sp_intake.specs.declared.input.InputEvents.{InputEvents}
 use Rattle.sp_intake.specs.declared.input.Stop.TheVariants.{Open}
 
 -- Reading ends with the piece in which it stops: what was taken before the last piece had not stopped it.
@@ -18,7 +18,7 @@ pub record TakesNoFurther (q : Plan) (taken : List ℕ) : Type 0 where
   pub goes_on : (read q front false).stopped ≡ None
 
 -- A reading of the input: the bytes that it took and, where memory did not run out, the events that they give and why it stopped.
-pub record ReadsInput (q : Plan) (old new : SourceState) (result : Result Given AllocError) : Type 0 where
+pub record ReadsInput (q : Plan) (old new : SourceState) (result : Result InputEvents AllocError) : Type 0 where
   pub taken : List ℕ
   pub gave : Gave old.left taken new.left
   pub no_further : TakesNoFurther q taken

@@ -6,7 +6,7 @@ ghost use Rattle.sp_intake.specs.Asked.{standing, IsAsking};
 ghost use Rattle.sp_intake.specs.ReadAll.{ReadsAll};
 
 use crate::events::EventReader;
-use crate::input::{Given, Stop};
+use crate::input::{InputEvents, Stop};
 use crate::step::Polled;
 use sp_base::limits::PIECE_LIMIT;
 use sp_io::Source;
@@ -74,7 +74,7 @@ impl<'a, S: Source> Input<'a, S> {
     }
 
     /// All that it gives. Each event goes from the one room that rows are read into to the list's end.
-    pub(crate) fn read_all(&mut self, alloc: Global) -> Result<Given, Memory>
+    pub(crate) fn read_all(&mut self, alloc: Global) -> Result<InputEvents, Memory>
         ensures same { self.new.source.ghost_name ≡ self.old.source.ghost_name }
         ensures all { ReadsAll (standing (S.state self.old.source.now) self.old.events)
             (standing (S.state self.new.source.now) self.new.events) result }
@@ -91,7 +91,7 @@ impl<'a, S: Source> Input<'a, S> {
                 Polled::Ask => self.ask(),
                 Polled::End | Polled::Stop => {
                     if let Some(stop) = self.stop() {
-                        return Ok(Given { events, stop });
+                        return Ok(InputEvents { events, stop });
                     }
                 }
                 Polled::Memory => return Err(AllocError),

@@ -42,7 +42,7 @@ impl Stop {
 
 /// The events that the rows gave, and why there are no more.
 #[derive(Drop)]
-pub struct Given {
+pub struct InputEvents {
     pub events: Vec<Event>,
     pub stop: Stop,
 }
@@ -53,7 +53,7 @@ pub fn read_input<S: Source>(
     alloc: Global,
     plan: &Arc<Plan>,
     input: &mut S,
-) -> Result<Given, Memory>
+) -> Result<InputEvents, Memory>
     requires compiled { IsCompiled (arc_value plan.now) }
     requires not_ended { (S.state input.old).ended ≡ false }
     ensures { ReadsInput (arc_value plan.now) (S.state input.old) (S.state input.new) result }

@@ -13,4 +13,4 @@ mod step;
 
 pub use events::EventReader;
 pub use giving::Input;
-pub use input::{Failure, Given, Stop, read_input};
+pub use input::{Failure, InputEvents, Stop, read_input};

@@ -11,7 +11,7 @@ use Rattle.sp_plan.specs.declared.event.Value.{Value}
 use Rattle.sp_plan.specs.declared.event.Value.TheVariants.{Number, Symbol}
 use Rattle.sp_rows.specs.declared.fault.RowKind.{RowKind}
 use Rattle.sp_rows.specs.Rows.{Cell, number, text, fault, ColumnAt, is_place, columns_at, cell_in, fault_in, fault_at, number_in, time_in, time_of, with_cell, values_of}
-use Rattle.sp_rows.specs.Given.{fault_of, number_or_zero, value_or_zero, time_among}
+use Rattle.sp_rows.specs.RowValues.{fault_of, number_or_zero, value_or_zero, time_among}
 use Rattle.sp_rows.proofs.PlacedColumns.{column_by}
 
 same_number : (own n : ℕ) → own ≡ n + 0 → eqb own n ≡ true

@@ -9,4 +9,4 @@ pub mod Held
 pub mod Holding
 pub mod Progress
 pub mod Plain
-pub mod Given
+pub mod RowValues

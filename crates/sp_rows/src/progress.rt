@@ -8,7 +8,7 @@ use crate::columns::{Layout, Placed, time_column};
 use crate::fault::{RowError, RowFault, RowKind};
 use crate::split::Fields;
 use crate::texts::Texts;
-use crate::values::{Given, read_values, time_in};
+use crate::values::{RowValues, read_values, time_in};
 use sp_plan::{Event, Memory, Plan, Values};
 use std::alloc::Global;
 
@@ -140,8 +140,8 @@ impl Progress {
         let own = event.insert(Event { time: 0, values });
         match read_values(alloc, cells, layout, &mut self.texts, &mut own.values) {
             Err(_) => Err(RowError::Memory),
-            Ok(Given::Fault(kind, place)) => Err(self.refusal_at(kind, place)),
-            Ok(Given::Whole) => {
+            Ok(RowValues::Fault(kind, place)) => Err(self.refusal_at(kind, place)),
+            Ok(RowValues::Whole) => {
                 let time = time_in(own.values.as_slice(), layout.plan.schema.time);
                 if time < self.last {
                     return Err(self.back_in_time(time, &time_column(layout.plan, layout.places)));

@@ -2,7 +2,7 @@
 ghost use Rattle.std.specs.Prelude.{◌≡◌, [], length, take, IfOk, OnOk};
 ghost use Rattle.sp_rows.specs.Rows as spec;
 ghost use Rattle.sp_rows.specs.Shapes.{cell_shape, fields_in};
-ghost use Rattle.sp_rows.specs.Given.{GivenIs, TimeIs, fault_of, time_among};
+ghost use Rattle.sp_rows.specs.RowValues.{ValuesAre, TimeIs, fault_of, time_among};
 
 use crate::columns::Layout;
 use crate::content::{Content, content_in};
@@ -14,7 +14,7 @@ use std::alloc::Global;
 
 /// What the cells of a row give.
 #[derive(Drop)]
-pub(crate) enum Given {
+pub(crate) enum RowValues {
     /// All its values.
     Whole,
     /// The first fault, column by column in the order of the plan, with the place of its cell from 0.
@@ -53,10 +53,10 @@ pub(crate) fn read_values(
     layout: &Layout<'_>,
     texts: &mut Texts,
     values: &mut Values,
-) -> Result<Given, Memory>
+) -> Result<RowValues, Memory>
     requires { values.old ≡ [] }
     ensures given { IfOk result
-        (λ given. GivenIs
+        (λ given. ValuesAre
         (spec.values_of texts.old (fields_in cells.now)
         (spec.columns_at layout.now.plan.now layout.now.places.now))
         (spec.first_fault (fields_in cells.now)
@@ -70,10 +70,10 @@ pub(crate) fn read_values(
     for column in layout.columns {
         let content = content_in(cells, column);
         if let Some(kind) = push_content(alloc, values, texts, content)? {
-            return Ok(Given::Fault(kind, column.place));
+            return Ok(RowValues::Fault(kind, column.place));
         }
     }
-    Ok(Given::Whole)
+    Ok(RowValues::Whole)
 }
 
 /// The time among the values of a row; 0 where there is none.

@@ -6,7 +6,7 @@ use Rattle.sp_rows.specs.declared.columns.Placed.{Placed}
 use Rattle.sp_rows.specs.declared.fault.RowKind.{RowKind}
 use Rattle.sp_rows.specs.Rows.{columns_at, values_of, with_cell, fault_at, cell_in}
 use Rattle.sp_rows.specs.Shapes.{fields_in, column_of}
-use Rattle.sp_rows.specs.Given.{fault_of}
+use Rattle.sp_rows.specs.RowValues.{fault_of}
 use Rattle.sp_rows.proofs.Walks.{taken_all, gives_none, gives_first}
 use Rattle.sp_rows.proofs.RowValues.{one_more_value, begins_still}
 use Rattle.sp_rows.proofs.PlacedColumns.{made_there, made_past}

@@ -3,8 +3,8 @@ use Rattle.std.specs.Prelude.{◌≡◌, ℕ, ℤ, pos, ◌+◌, List, Option, S
 use Rattle.sp_plan.specs.declared.event.Value.{Value}
 use Rattle.sp_plan.specs.declared.event.Value.TheVariants.{Number, Symbol}
 use Rattle.sp_rows.specs.declared.fault.RowKind.{RowKind}
-use Rattle.sp_rows.specs.declared.values.Given.{Given}
-use Rattle.sp_rows.specs.declared.values.Given.TheVariants.{Whole, Fault}
+use Rattle.sp_rows.specs.declared.values.RowValues.{RowValues}
+use Rattle.sp_rows.specs.declared.values.RowValues.TheVariants.{Whole, Fault}
 use Rattle.sp_rows.specs.Rows.{Cell, number, text, fault}
 
 -- the kind of the fault that a cell gives
@@ -14,9 +14,9 @@ fault_of (text t) = None
 fault_of (fault kind) = Some kind
 
 -- these values and texts, where there is no fault, or this fault
-abbrev pub GivenIs : List Value × List (List ℕ) → Option (RowKind × ℕ) → List Value → List (List ℕ) → Given → Type 0
-GivenIs values found read texts Whole = ((read, texts) ≡ values) × (found ≡ None)
-GivenIs values found read texts (Fault kind place) = found ≡ Some (kind, place + 1)
+abbrev pub ValuesAre : List Value × List (List ℕ) → Option (RowKind × ℕ) → List Value → List (List ℕ) → RowValues → Type 0
+ValuesAre values found read texts Whole = ((read, texts) ≡ values) × (found ≡ None)
+ValuesAre values found read texts (Fault kind place) = found ≡ Some (kind, place + 1)
 
 -- the number that a value is, 0 for a text's
 abbrev pub number_or_zero : Value → ℤ
@@ -33,6 +33,6 @@ time_among values None = pos 0
 time_among values (Some own) = value_or_zero (slice_get values own)
 
 -- the values that are read give this time at this place
-abbrev pub TimeIs : Option ℕ → ℤ → List Value → Given → Type 0
+abbrev pub TimeIs : Option ℕ → ℤ → List Value → RowValues → Type 0
 TimeIs own time read Whole = time_among read own ≡ time
 TimeIs own time read (Fault kind place) = Unit {0}
