@@ -12,7 +12,9 @@ use crate::CompileFault;
 use crate::columns::{columns_fault, schema, time_fault};
 use crate::consume::consume_fault;
 use crate::definitions::definitions;
-use crate::elements::{Named, are_wide, last_fault, names_fault, pattern_names, plan_elements};
+use crate::elements::{
+    PlacedName, are_wide, last_fault, names_fault, pattern_names, plan_elements,
+};
 use crate::fault::{checked, pass};
 use crate::opening::opening;
 use crate::texts::texts;
@@ -22,7 +24,7 @@ use sp_query::{Query, Word};
 use std::alloc::{AllocError, Global};
 
 // The names of the pattern, where columns and elements have no fault.
-fn named(alloc: Global, query: &Query) -> Result<Vec<Named>, CompileFault>
+fn named(alloc: Global, query: &Query) -> Result<Vec<PlacedName>, CompileFault>
     ensures named { IfOk result (λ names. NamesPass query.now names.items) }
     ensures refused { IfErr result (λ fault. Refuses query.now fault) }
 {
@@ -90,7 +92,7 @@ fn joined(
 fn opened(
     alloc: Global,
     query: &Query,
-    names: &[Named],
+    names: &[PlacedName],
     texts: &[Text],
 ) -> Result<Opening, CompileFault>
     requires { NamesPass query.now names.now }
@@ -103,7 +105,7 @@ fn opened(
 }
 
 // The plan of a query whose columns and elements have no fault, or its first fault.
-fn planned(alloc: Global, query: &Query, names: &[Named]) -> Result<Plan, CompileFault>
+fn planned(alloc: Global, query: &Query, names: &[PlacedName]) -> Result<Plan, CompileFault>
     requires { NamesPass query.now names.now }
     ensures plan { IfOk result (λ plan. IsPlanOf plan query.now) }
     ensures refused { IfErr result (λ fault. Refuses query.now fault) }

@@ -8,7 +8,7 @@ ghost use Rattle.sp_compile.specs.Scopes as scopes;
 ghost use Rattle.sp_compile.specs.Stands as stands;
 
 use crate::CompileFault;
-use crate::elements::Named;
+use crate::elements::PlacedName;
 use crate::lookup::given_place;
 use sp_plan::Text;
 use sp_query::{Ident, Query, QueryConsume};
@@ -21,7 +21,7 @@ fn is_among(names: &[Ident], text: &Text) -> bool
 }
 
 // What is wrong with a name behind these: the pattern has none such, or it stands twice.
-fn consumed_fault(names: &[Named], before: &[Ident], name: &Ident) -> Option<CompileFault>
+fn consumed_fault(names: &[PlacedName], before: &[Ident], name: &Ident) -> Option<CompileFault>
     ensures { (query : Query) → names.now ≡ scopes.pattern_names query
         → result ≡ checks.consumed_fault query (map (λ name. name.text) before.now) name.now }
 {
@@ -29,7 +29,7 @@ fn consumed_fault(names: &[Named], before: &[Ident], name: &Ident) -> Option<Com
 }
 
 /// The first fault of the consumed names, from the left.
-pub(crate) fn consume_fault(query: &Query, names: &[Named]) -> Option<CompileFault>
+pub(crate) fn consume_fault(query: &Query, names: &[PlacedName]) -> Option<CompileFault>
     requires { names.now ≡ scopes.pattern_names query.now }
     ensures { result ≡ checks.consume_fault query.now query.now.consume }
 {

@@ -13,7 +13,7 @@ ghost use Rattle.sp_compile.specs.Stands as stands;
 
 use crate::CompileFault;
 use crate::consume::is_consumed;
-use crate::elements::Named;
+use crate::elements::PlacedName;
 use crate::lookup::given_place;
 use crate::predicate::predicate;
 use crate::scope::Scope;
@@ -32,7 +32,7 @@ fn is_defined(before: &[(Ident, Tree)], text: &Text) -> bool
 
 // The place of the name of the pattern that a definition behind these is of.
 fn defined_place(
-    names: &[Named],
+    names: &[PlacedName],
     before: &[(Ident, Tree)],
     name: &Ident,
 ) -> Result<usize, CompileFault>
@@ -60,7 +60,7 @@ fn undefined_name(alloc: Global, query: &Query, name: &Ident) -> Result<Name, Me
 }
 
 // The names of the plan, none of which has a definition so far.
-fn undefined_names(alloc: Global, query: &Query, names: &[Named]) -> Result<Vec<Name>, Memory>
+fn undefined_names(alloc: Global, query: &Query, names: &[PlacedName]) -> Result<Vec<Name>, Memory>
     ensures stand { IfOk result
         (λ planned. (texts : List (List ℕ))
         → StandSoFar query.now texts [] names.now planned.items) }
@@ -77,9 +77,9 @@ fn undefined_names(alloc: Global, query: &Query, names: &[Named]) -> Result<Vec<
 fn defined_pred(
     alloc: Global,
     query: &Query,
-    names: &[Named],
+    names: &[PlacedName],
     texts: &[Text],
-    named: &Named,
+    named: &PlacedName,
     tree: &Tree,
 ) -> Result<Pred, CompileFault>
     requires named { IsNamed query.now }
@@ -113,7 +113,7 @@ fn set_pred(planned: &mut Vec<Name>, place: usize, pred: Pred)
 pub(crate) fn definitions(
     alloc: Global,
     query: &Query,
-    names: &[Named],
+    names: &[PlacedName],
     texts: &[Text],
 ) -> Result<Listed<Name>, CompileFault>
     requires named { IsNamed query.now }

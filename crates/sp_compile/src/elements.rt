@@ -18,12 +18,12 @@ const MOST_NAMES: usize = 32;
 
 /// A name of the pattern, and the number of its element from 0.
 #[derive(Drop)]
-pub(crate) struct Named<'a> {
+pub(crate) struct PlacedName<'a> {
     pub(crate) name: &'a Ident,
     pub(crate) element: usize,
 }
 
-impl<'a> Model for Named<'a> {
+impl<'a> Model for PlacedName<'a> {
     ghost use Rattle.sp_compile.specs.Scopes.{PatternName};
 
     ghost Value = { PatternName };
@@ -45,13 +45,13 @@ pub(crate) fn names_in(element: &QueryElement) -> &[Ident]
 pub(crate) fn pattern_names<'a>(
     alloc: Global,
     elements: &'a [QueryElement],
-) -> Result<Vec<Named<'a>>, AllocError>
+) -> Result<Vec<PlacedName<'a>>, AllocError>
     ensures { IfOk result (λ names. names.items ≡ scopes.placed_names 0 elements.now) }
 {
     let mut names = Vec::new(alloc);
     for (number, element) in elements.iter().enumerate() {
         for name in names_in(element) {
-            names.push(Named {
+            names.push(PlacedName {
                 name,
                 element: number,
             })?;
@@ -61,7 +61,7 @@ pub(crate) fn pattern_names<'a>(
 }
 
 // What is wrong with a name behind these.
-fn name_fault(before: &[Named], name: &Ident) -> Option<CompileFault>
+fn name_fault(before: &[PlacedName], name: &Ident) -> Option<CompileFault>
     ensures { result ≡ checks.name_fault (map (λ name. name.name.text) before.now) name.now }
 {
     if before.len() >= MOST_NAMES {
@@ -74,7 +74,7 @@ fn name_fault(before: &[Named], name: &Ident) -> Option<CompileFault>
 }
 
 /// The first fault of the names, from the left.
-pub(crate) fn names_fault(names: &[Named]) -> Option<CompileFault>
+pub(crate) fn names_fault(names: &[PlacedName]) -> Option<CompileFault>
     ensures { result ≡ checks.names_fault [] names.now }
 {
     for (at, named) in names.iter().enumerate() {

@@ -8,7 +8,7 @@ ghost use Rattle.sp_compile.specs.Naming.{PlaceAnswer};
 ghost use Rattle.sp_compile.specs.Scopes as scopes;
 
 use crate::CompileFault;
-use crate::elements::Named;
+use crate::elements::PlacedName;
 use sp_plan::Text;
 use sp_query::{Ident, QueryColumn};
 
@@ -45,7 +45,7 @@ pub(crate) fn text_number(texts: &[Text], text: &Text) -> usize
 }
 
 /// The place of the first name of the pattern with this text.
-pub(crate) fn name_place(names: &[Named], text: &Text) -> Option<usize>
+pub(crate) fn name_place(names: &[PlacedName], text: &Text) -> Option<usize>
     ensures { result ≡ scopes.name_place names.now text.now }
 {
     names.iter().position(|named| is_called(named.name, text))
@@ -54,7 +54,7 @@ pub(crate) fn name_place(names: &[Named], text: &Text) -> Option<usize>
 /// The place of a name of the pattern that may be given once, or what is wrong: the pattern has no such
 /// name, or it was given before.
 pub(crate) fn given_place(
-    names: &[Named],
+    names: &[PlacedName],
     name: &Ident,
     is_given: bool,
 ) -> Result<usize, CompileFault>

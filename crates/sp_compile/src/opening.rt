@@ -8,7 +8,7 @@ ghost use Rattle.sp_compile.specs.Stages.{OpeningPasses, Misopens};
 ghost use Rattle.sp_compile.specs.Stands as stands;
 
 use crate::CompileFault;
-use crate::elements::Named;
+use crate::elements::PlacedName;
 use crate::fault::pass;
 use crate::predicate::predicate;
 use crate::scope::Scope;
@@ -35,7 +35,7 @@ fn stepped(query: &Query, step: u64, unit: Word, span: Span) -> Result<Opening, 
 fn opening_pred(
     alloc: Global,
     query: &Query,
-    names: &[Named],
+    names: &[PlacedName],
     texts: &[Text],
     tree: &Tree,
 ) -> Result<Pred, CompileFault>
@@ -55,7 +55,7 @@ fn opening_pred(
 pub(crate) fn opening(
     alloc: Global,
     query: &Query,
-    names: &[Named],
+    names: &[PlacedName],
     texts: &[Text],
 ) -> Result<Opening, CompileFault>
     requires named { IsNamed query.now }

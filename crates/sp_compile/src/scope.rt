@@ -1,5 +1,5 @@
 // What a predicate may name.
-use crate::elements::Named;
+use crate::elements::PlacedName;
 use sp_query::QueryColumn;
 use std::marker::Model;
 
@@ -9,7 +9,7 @@ use std::marker::Model;
 #[derive(Drop)]
 pub(crate) struct Scope<'a> {
     pub(crate) columns: &'a [QueryColumn],
-    pub(crate) names: &'a [Named<'a>],
+    pub(crate) names: &'a [PlacedName<'a>],
     pub(crate) here: Option<usize>,
 }
 

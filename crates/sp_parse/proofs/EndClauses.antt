@@ -119,20 +119,20 @@ names_of tokens names = u.Names names
 abbrev AllOrNone : ℕ → List Token → QueryConsume → Type 0
 AllOrNone = λ _. One (kernel all_or_none)
 
-abbrev pub Named : ℕ → List Token → QueryConsume → Type 0
-Named = λ n. Built names_of (Consumed n)
+abbrev pub ConsumedNames : ℕ → List Token → QueryConsume → Type 0
+ConsumedNames = λ n. Built names_of (Consumed n)
 
 abbrev Consumption : ℕ → List Token → QueryConsume → Type 0
-Consumption = λ n. Either (AllOrNone n) (Named n)
+Consumption = λ n. Either (AllOrNone n) (ConsumedNames n)
 
 pub all_or_none_begins : Begins (reads_as (kernel all_or_none)) AllOrNone
 all_or_none_begins = r.one_begins (kernel all_or_none)
 
-pub named_begins : Begins (reads_as (kernel (mark m.LeftRound))) Named
-named_begins = r.built_begins names_of (reads_as (kernel (mark m.LeftRound))) Consumed (f.between_begins m.LeftRound (λ _. ListOf Name) m.RightRound after_list list_some list_out)
+pub consumed_names_begin : Begins (reads_as (kernel (mark m.LeftRound))) ConsumedNames
+consumed_names_begin = r.built_begins names_of (reads_as (kernel (mark m.LeftRound))) Consumed (f.between_begins m.LeftRound (λ _. ListOf Name) m.RightRound after_list list_some list_out)
 
 consumption_some : Some_of Consumption
-consumption_some = f.left_some AllOrNone Named (some_one all_or_none (k.Word w.All) u.All refl)
+consumption_some = f.left_some AllOrNone ConsumedNames (some_one all_or_none (k.Word w.All) u.All refl)
 
 pub consume_begins : Begins (reads_as (kernel (mark m.Consume))) (λ _. Consume)
 consume_begins = f.after_begins m.Consume Consumption never consumption_some
@@ -150,16 +150,16 @@ module _ (room : ℕ) (s : List Token) where
 
   pub consume_names_stop : (m_ : List Token) (x : Stop) → IsOne (mark m.Consume) s tt m_ → is_some (head_as (kernel (mark m.LeftRound)) m_) ≡ true → Stops Consumed never room m_ x → Stops (λ _. Consume) never room s x
   consume_names_stop m_ x i is h = f.after_stops m.Consume Consumption never consumption_some room s m_ x i
-      (f.right_stops AllOrNone Named never (reads_as (kernel all_or_none)) room m_ x all_or_none_begins (other (mark m.LeftRound) all_or_none round_no_word m_ is) (f.built_stops names_of Consumed never room m_ x h))
+      (f.right_stops AllOrNone ConsumedNames never (reads_as (kernel all_or_none)) room m_ x all_or_none_begins (other (mark m.LeftRound) all_or_none round_no_word m_ is) (f.built_stops names_of Consumed never room m_ x h))
 
   pub consume_names_found : (m_ rest : List Token) (names : List Ident) → IsOne (mark m.Consume) s tt m_ → is_some (head_as (kernel (mark m.LeftRound)) m_) ≡ true → Found Consumed never room m_ names rest
       → Found (λ _. Consume) never room s (u.Names names) rest
   consume_names_found m_ rest names i is h = f.after_found m.Consume Consumption never consumption_some room s m_ rest (u.Names names) i
-      (r.right_found AllOrNone Named never (reads_as (kernel all_or_none)) room m_ rest (u.Names names) all_or_none_begins (other (mark m.LeftRound) all_or_none round_no_word m_ is)
+      (r.right_found AllOrNone ConsumedNames never (reads_as (kernel all_or_none)) room m_ rest (u.Names names) all_or_none_begins (other (mark m.LeftRound) all_or_none round_no_word m_ is)
       (r.built_as names_of Consumed never room m_ rest names (u.Names names) (λ front cut. refl) h))
 
   pub consume_word_answers : {Y : Type 0} (m_ : List Token) (view : Y → QueryConsume × List Token) (y : Result Y Stop) → IsOne (mark m.Consume) s tt m_ → is_some (head_as (kernel (mark m.LeftRound)) m_) ≡ false
       → Takes (kernel all_or_none) m_ view y → Answers (λ _. Consume) never room s view y
   consume_word_answers m_ view y i out h = f.after_answers m.Consume Consumption never consumption_some room s m_ view y i
-      (f.left_answers AllOrNone Named never (reads_as (kernel (mark m.LeftRound))) room m_ view y named_begins (r.head_test (kernel (mark m.LeftRound)) m_ ∙ out)
+      (f.left_answers AllOrNone ConsumedNames never (reads_as (kernel (mark m.LeftRound))) room m_ view y consumed_names_begin (r.head_test (kernel (mark m.LeftRound)) m_ ∙ out)
       (f.takes_answers all_or_none (k.Word w.All) u.All refl room m_ view y h))

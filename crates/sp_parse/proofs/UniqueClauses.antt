@@ -129,15 +129,15 @@ opening_agrees n k = after_agree m.From (Either Every (When n)) (Either Every (W
 policy_agrees : Agree Policy Policy never
 policy_agrees = after_agree m.Select (One (kernel policy)) (One (kernel policy)) never (one_agrees (kernel policy))
 
-consumed_agrees : Agree (z.Named 0) (z.Named 0) never
+consumed_agrees : Agree (z.ConsumedNames 0) (z.ConsumedNames 0) never
 consumed_agrees = built_agree (λ tokens names. u.Names names) (z.Consumed 0) (z.Consumed 0) never
     (between_agree m.LeftRound (ListOf Name) (ListOf Name) m.RightRound after_list list_out (list_agree Name Name never (λ t h. refl) name_agrees))
 
 consume_agrees : Agree Consume Consume never
-consume_agrees = after_agree m.Consume (Either (One (kernel all_or_none)) (z.Named 0)) (Either (One (kernel all_or_none)) (z.Named 0)) never
-    (either_agree (One (kernel all_or_none)) (One (kernel all_or_none)) (z.Named 0) (z.Named 0) never (reads_as (kernel all_or_none)) (reads_as (kernel (mark m.LeftRound)))
+consume_agrees = after_agree m.Consume (Either (One (kernel all_or_none)) (z.ConsumedNames 0)) (Either (One (kernel all_or_none)) (z.ConsumedNames 0)) never
+    (either_agree (One (kernel all_or_none)) (One (kernel all_or_none)) (z.ConsumedNames 0) (z.ConsumedNames 0) never (reads_as (kernel all_or_none)) (reads_as (kernel (mark m.LeftRound)))
     (flips (reads_as (kernel (mark m.LeftRound))) (reads_as (kernel all_or_none)) (λ t. z.round_no_word t.kernel))
-    (z.all_or_none_begins 0) (z.all_or_none_begins 0) (z.named_begins 0) (z.named_begins 0) (one_agrees (kernel all_or_none)) consumed_agrees)
+    (z.all_or_none_begins 0) (z.all_or_none_begins 0) (z.consumed_names_begin 0) (z.consumed_names_begin 0) (one_agrees (kernel all_or_none)) consumed_agrees)
 
 -- ---- queries
 

@@ -6,7 +6,7 @@ use std::alloc::Global;
 
 /// A text that was given a name.
 #[derive(Drop)]
-pub(crate) struct Named {
+pub(crate) struct NamedText {
     pub(crate) name: Vec<u8>,
     pub(crate) bytes: Vec<u8>,
 }
@@ -37,7 +37,7 @@ struct Written {
 }
 
 /// What a text stands for.
-pub(crate) fn unescaped(alloc: Global, named: &[Named], text: &str) -> Result<Text, Fault> {
+pub(crate) fn unescaped(alloc: Global, named: &[NamedText], text: &str) -> Result<Text, Fault> {
     let mut so_far = Written {
         bytes: Vec::new(alloc),
         name: Vec::new(alloc),
@@ -61,7 +61,7 @@ pub(crate) fn unescaped(alloc: Global, named: &[Named], text: &str) -> Result<Te
 
 impl Written {
     // Takes the next byte, and answers where the one behind it stands.
-    fn take(&mut self, named: &[Named], byte: u8) -> Result<Place, Fault> {
+    fn take(&mut self, named: &[NamedText], byte: u8) -> Result<Place, Fault> {
         match self.place {
             Place::Plain => self.take_plain(byte),
             Place::Escape => self.take_escape(byte),
@@ -104,7 +104,7 @@ impl Written {
         }
     }
 
-    fn take_name(&mut self, named: &[Named], byte: u8) -> Result<Place, Fault> {
+    fn take_name(&mut self, named: &[NamedText], byte: u8) -> Result<Place, Fault> {
         if byte != b'}' {
             push(&mut self.name, byte)?;
             return Ok(Place::Name);

@@ -1,4 +1,4 @@
-use crate::escapes::{Named, unescaped};
+use crate::escapes::{NamedText, unescaped};
 use crate::fault::Fault;
 use crate::line::{push, put, repeated};
 use crate::row::Row;
@@ -7,7 +7,7 @@ use std::alloc::Global;
 // The rows so far, and the texts that were given names.
 #[derive(Drop)]
 struct Reader {
-    named: Vec<Named>,
+    named: Vec<NamedText>,
     rows: Vec<Row>,
 }
 
@@ -56,7 +56,7 @@ impl Reader {
         let text = unescaped(alloc, self.named.as_slice(), text)?;
         let bytes = text.bytes.repeat(alloc, times as usize)?;
         let name = name.as_bytes().to_vec(alloc)?;
-        push(&mut self.named, Named { name, bytes })
+        push(&mut self.named, NamedText { name, bytes })
     }
 
     // Puts a part into the last row.
