@@ -1,6 +1,6 @@
 // Events bound to names.
 use crate::given::number;
-use crate::text::Answer;
+use crate::text::AnswerText;
 use sp_plan::{Bound, Event, Values};
 use std::alloc::{AllocError, Global};
 
@@ -32,7 +32,7 @@ fn step(alloc: Global, bound: &mut Bound, word: &str) -> Result<(), AllocError> 
 }
 
 // Appends the times of the last events of the names 0 to 3.
-fn push_times(bound: &Bound, out: &mut Answer) {
+fn push_times(bound: &Bound, out: &mut AnswerText) {
     for name in 0..4 {
         match bound.get(name) {
             Some(event) => out.number(" ", event.time as i128),
@@ -46,7 +46,7 @@ fn push_step(
     alloc: Global,
     bound: &mut Bound,
     word: &str,
-    out: &mut Answer,
+    out: &mut AnswerText,
 ) -> Result<(), AllocError> {
     let before = bound.copy(alloc)?;
     let stepped = step(alloc, bound, word);
@@ -64,7 +64,7 @@ fn push_steps(
     alloc: Global,
     bound: &mut Bound,
     words: &[String],
-    out: &mut Answer,
+    out: &mut AnswerText,
 ) -> Result<(), AllocError> {
     for word in words {
         push_step(alloc, bound, word.as_str(), out)?;
@@ -77,7 +77,7 @@ fn push_steps(
 pub(crate) fn bindings(
     alloc: Global,
     words: &[String],
-    out: &mut Answer,
+    out: &mut AnswerText,
 ) -> Result<(), AllocError> {
     let mut bound = Bound::new(alloc);
     let pushed = push_steps(alloc, &mut bound, words, out);

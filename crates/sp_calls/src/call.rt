@@ -19,7 +19,7 @@ use crate::rows::rows;
 use crate::schedule::schedule;
 use crate::sequence::matches;
 use crate::stepped::stepped;
-use crate::text::Answer;
+use crate::text::AnswerText;
 use crate::tokens::tokens;
 use crate::windows::windows;
 use sp_io::MemFiles;
@@ -37,7 +37,7 @@ pub fn answer(
     files: &mut MemFiles,
     input: &[u8],
 ) -> Result<String, AllocError> {
-    let mut out = Answer::new(alloc);
+    let mut out = AnswerText::new(alloc);
     push_answer(alloc, call, words, files, input, &mut out)?;
     out.into_text()
 }
@@ -49,7 +49,7 @@ fn push_answer(
     words: &[String],
     files: &mut MemFiles,
     input: &[u8],
-    out: &mut Answer,
+    out: &mut AnswerText,
 ) -> Result<(), AllocError> {
     match call {
         "tokens" => tokens(alloc, input, out),
@@ -69,7 +69,7 @@ fn answer_of_words(
     call: &str,
     words: &[String],
     input: &[u8],
-    out: &mut Answer,
+    out: &mut AnswerText,
 ) -> Result<(), AllocError> {
     match call {
         "numbers" => numbers(alloc, words, out),
@@ -93,7 +93,7 @@ fn answer_of_plan(
     plan: &Arc<Plan>,
     words: &[String],
     input: &[u8],
-    out: &mut Answer,
+    out: &mut AnswerText,
 ) -> Result<(), AllocError>
     requires { IsCompiled (arc_value plan.now) }
 {
@@ -116,7 +116,7 @@ fn answer_of_events(
     plan: &Arc<Plan>,
     events: &[Event],
     words: &[String],
-    out: &mut Answer,
+    out: &mut AnswerText,
 ) -> Result<(), AllocError>
     requires { IsCompiled (arc_value plan.now) }
 {

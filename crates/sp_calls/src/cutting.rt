@@ -2,13 +2,13 @@
 ghost use Rattle.std.specs.Prelude.{◌≡◌, ◌≤◌, ◌<◌, ◌+◌, false};
 
 use crate::given::number;
-use crate::text::Answer;
+use crate::text::AnswerText;
 use sp_cut::{CutFault, Cutter};
 use std::alloc::{AllocError, Global};
 use std::str;
 
 // Appends a row with a bar behind it, and of a long one its size.
-fn push_row(row: &[u8], out: &mut Answer) {
+fn push_row(row: &[u8], out: &mut AnswerText) {
     if row.len() > 1000 {
         out.number("", row.len() as i128);
         out.text(" bytes|");
@@ -19,13 +19,13 @@ fn push_row(row: &[u8], out: &mut Answer) {
 }
 
 // Appends what is wrong, and the row's number, with a bar behind it.
-fn push_fault(what: &str, row: u32, out: &mut Answer) {
+fn push_fault(what: &str, row: u32, out: &mut AnswerText) {
     out.number(what, row as i128);
     out.text("|");
 }
 
 // Appends the next row, or the fault in its place.
-fn push_next(alloc: Global, cutter: &mut Cutter, out: &mut Answer) -> Result<(), AllocError>
+fn push_next(alloc: Global, cutter: &mut Cutter, out: &mut AnswerText) -> Result<(), AllocError>
     requires { cutter.old.given < 2097153 }
     ensures given { cutter.new.given ≤ cutter.old.given + 1 }
     ensures ended { cutter.new.ended ≡ cutter.old.ended }
@@ -54,7 +54,7 @@ fn push_rows(
     alloc: Global,
     cutter: &mut Cutter,
     pieces: &[&[u8]],
-    out: &mut Answer,
+    out: &mut AnswerText,
 ) -> Result<(), AllocError>
     requires none { cutter.old.given ≡ 0 }
     requires going { cutter.old.ended ≡ false }
@@ -78,7 +78,7 @@ pub(crate) fn cut_rows(
     alloc: Global,
     words: &[String],
     input: &[u8],
-    out: &mut Answer,
+    out: &mut AnswerText,
 ) -> Result<(), AllocError> {
     let size = words.first().map_or(1, |word| number(word.as_str()));
     let pieces = pieces_of(alloc, input, size as usize)?;

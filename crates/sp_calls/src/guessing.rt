@@ -6,7 +6,7 @@ ghost use Rattle.sp_group.specs.Family.{entry_at};
 ghost use Rattle.sp_tree.specs.Grown.{kin, is_open, CanStand};
 
 use crate::given::numbers_of;
-use crate::text::Answer;
+use crate::text::AnswerText;
 use sp_base::Share;
 use sp_chance::Chances;
 use sp_group::Label;
@@ -161,7 +161,7 @@ impl Guesses {
 }
 
 // Appends a line with a number, or with a dash.
-fn push_found(word: &str, found: Option<u64>, out: &mut Answer) {
+fn push_found(word: &str, found: Option<u64>, out: &mut AnswerText) {
     out.text(word);
     match found {
         Some(number) => out.last(" ", number),
@@ -176,7 +176,7 @@ fn push_child(
     word: &str,
     parent: u64,
     runs: &[u32],
-    out: &mut Answer,
+    out: &mut AnswerText,
 ) -> Result<(), AllocError> {
     let id = match Label::new(alloc, runs)? {
         Some(label) => guesses.add_child(alloc, parent, label)?,
@@ -192,7 +192,7 @@ fn push_survival_with(
     word: &str,
     parent: u64,
     runs: &[u32],
-    out: &mut Answer,
+    out: &mut AnswerText,
 ) -> Result<(), AllocError> {
     let survival = match Label::new(alloc, runs)? {
         Some(label) => guesses.survival_with(parent, &label),
@@ -208,7 +208,7 @@ fn push_picked(
     word: &str,
     k: u32,
     ready: &[u32],
-    out: &mut Answer,
+    out: &mut AnswerText,
 ) -> Result<(), AllocError> {
     let ready = ready
         .iter()
@@ -224,7 +224,7 @@ fn push_next(
     guesses: &mut Guesses,
     word: &str,
     parent: u64,
-    out: &mut Answer,
+    out: &mut AnswerText,
 ) -> Result<(), AllocError> {
     out.text(word);
     let Some(label) = guesses.next_label(alloc, parent)? else {
@@ -243,7 +243,7 @@ fn step(
     word: &str,
     what: &str,
     numbers: &[u32],
-    out: &mut Answer,
+    out: &mut AnswerText,
 ) -> Result<(), AllocError> {
     let [first, rest @ ..] = numbers else {
         return Ok(());
@@ -276,7 +276,7 @@ fn push_word(
     alloc: Global,
     guesses: &mut Guesses,
     word: &str,
-    out: &mut Answer,
+    out: &mut AnswerText,
 ) -> Result<(), AllocError> {
     match word.split_once(':') {
         Some((what, text)) => {
@@ -292,7 +292,7 @@ fn push_words(
     alloc: Global,
     guesses: &mut Guesses,
     words: &[String],
-    out: &mut Answer,
+    out: &mut AnswerText,
 ) -> Result<(), AllocError> {
     for word in words {
         push_word(alloc, guesses, word.as_str(), out)?;
@@ -301,7 +301,11 @@ fn push_words(
 }
 
 /// Does what the words say, beginning with no version and no share, and appends what they ask for.
-pub(crate) fn guess(alloc: Global, words: &[String], out: &mut Answer) -> Result<(), AllocError> {
+pub(crate) fn guess(
+    alloc: Global,
+    words: &[String],
+    out: &mut AnswerText,
+) -> Result<(), AllocError> {
     let mut guesses = Guesses::new(alloc)?;
     let pushed = push_words(alloc, &mut guesses, words, out);
     drop(guesses);

@@ -1,5 +1,5 @@
 // What a journal tells of the run that it is of.
-use crate::text::Answer;
+use crate::text::AnswerText;
 use sp_group::{Entry, Step};
 use std::alloc::{AllocError, Global};
 
@@ -38,7 +38,7 @@ impl Counts {
     }
 
     // Appends them as a line.
-    fn push(&self, out: &mut Answer) {
+    fn push(&self, out: &mut AnswerText) {
         out.number("spawned=", i128::from(self.spawned));
         out.number(" rolled=", i128::from(self.rolled));
         out.number(" finished=", i128::from(self.finished));
@@ -62,13 +62,13 @@ pub fn counts_of(alloc: Global, journal: &[Entry]) -> Result<String, AllocError>
     for entry in journal {
         counts.take(entry);
     }
-    let mut out = Answer::new(alloc);
+    let mut out = AnswerText::new(alloc);
     counts.push(&mut out);
     out.into_text()
 }
 
 // Appends a step that makes or leases a version, as it stands in a schedule.
-fn push_step(step: &Step, out: &mut Answer) {
+fn push_step(step: &Step, out: &mut AnswerText) {
     match step {
         Step::Spawn { parent: None, .. } => out.text("spawn root\n"),
         Step::Spawn {
@@ -96,7 +96,7 @@ fn is_back(step: &Step) -> bool {
 /// The versions that were made and leased before the first piece came back, in their order, a line for each such
 /// step as it stands in a schedule.
 pub fn beginning_of(alloc: Global, journal: &[Entry]) -> Result<String, AllocError> {
-    let mut out = Answer::new(alloc);
+    let mut out = AnswerText::new(alloc);
     for entry in journal {
         if is_back(&entry.step) {
             break;

@@ -1,13 +1,18 @@
 // Lines of matches, written and read back.
 use crate::given::{number, numbers_of};
-use crate::text::Answer;
+use crate::text::AnswerText;
 use sp_emit::{match_line, read_match_line};
 use sp_plan::{Listed, Match, Places, Plan};
 use std::alloc::{AllocError, Global};
 use std::str;
 
 // Appends the line of the match of which the text is the line.
-fn push_again(alloc: Global, plan: &Plan, text: &str, out: &mut Answer) -> Result<(), AllocError> {
+fn push_again(
+    alloc: Global,
+    plan: &Plan,
+    text: &str,
+    out: &mut AnswerText,
+) -> Result<(), AllocError> {
     match read_match_line(alloc, plan, text)? {
         Some(found) => {
             out.made(match_line(alloc, plan, &found));
@@ -23,7 +28,7 @@ pub(crate) fn read_line(
     alloc: Global,
     plan: &Plan,
     input: &[u8],
-    out: &mut Answer,
+    out: &mut AnswerText,
 ) -> Result<(), AllocError> {
     push_again(alloc, plan, str::from_utf8(input).unwrap_or(""), out)
 }
@@ -63,7 +68,12 @@ fn built(alloc: Global, words: &[String]) -> Result<Option<Match>, AllocError> {
 }
 
 // Appends the line of a match, and what is read back.
-fn push_both(alloc: Global, plan: &Plan, one: &Match, out: &mut Answer) -> Result<(), AllocError> {
+fn push_both(
+    alloc: Global,
+    plan: &Plan,
+    one: &Match,
+    out: &mut AnswerText,
+) -> Result<(), AllocError> {
     let line = match_line(alloc, plan, one)?;
     out.text(line.as_str());
     push_again(alloc, plan, line.as_str(), out)
@@ -74,7 +84,7 @@ pub(crate) fn written_line(
     alloc: Global,
     plan: &Plan,
     words: &[String],
-    out: &mut Answer,
+    out: &mut AnswerText,
 ) -> Result<(), AllocError> {
     match built(alloc, words)? {
         Some(one) => {

@@ -6,7 +6,7 @@ ghost use Rattle.sp_plan.specs.Compiled.{IsCompiled};
 use crate::given::{long_number, number, numbers_of};
 use crate::spoiling::{with_other_event, with_other_matcher};
 use crate::stepping::{conflict_of, feed_next};
-use crate::text::Answer;
+use crate::text::AnswerText;
 use sp_core::{Core, CoreFault, Emitted, Given};
 use sp_emit::match_line;
 use sp_group::{Label, Refusal};
@@ -24,7 +24,7 @@ struct Bench<'a> {
 }
 
 // Appends the values of a refusal.
-fn push_values(refusal: &Refusal, out: &mut Answer) {
+fn push_values(refusal: &Refusal, out: &mut AnswerText) {
     match *refusal {
         Refusal::AfterEnd => {}
         Refusal::NotLive { version } | Refusal::NoConflict { version } => {
@@ -48,7 +48,7 @@ fn push_values(refusal: &Refusal, out: &mut Answer) {
 }
 
 // Appends that a step was refused.
-fn push_refusal(step: &str, refusal: &Refusal, out: &mut Answer) {
+fn push_refusal(step: &str, refusal: &Refusal, out: &mut AnswerText) {
     out.text(step);
     out.number(" refused ", i128::from(refusal.code()));
     push_values(refusal, out);
@@ -56,7 +56,7 @@ fn push_refusal(step: &str, refusal: &Refusal, out: &mut Answer) {
 }
 
 // Appends that a step was refused, where it was not for want of memory.
-fn push_fault(step: &str, fault: &CoreFault, out: &mut Answer) -> Result<(), AllocError> {
+fn push_fault(step: &str, fault: &CoreFault, out: &mut AnswerText) -> Result<(), AllocError> {
     match fault {
         CoreFault::Refused(refusal) => Ok(push_refusal(step, refusal, out)),
         CoreFault::Memory => Err(AllocError),
@@ -64,7 +64,7 @@ fn push_fault(step: &str, fault: &CoreFault, out: &mut Answer) -> Result<(), All
 }
 
 // Appends what was lent.
-fn push_job(job: &Job, out: &mut Answer) {
+fn push_job(job: &Job, out: &mut AnswerText) {
     out.number("lease ", i128::from(job.ticket));
     out.number(" first=", i128::from(job.first));
     out.number(" count=", job.events.as_slice().len() as i128);
@@ -101,7 +101,7 @@ fn push_emitted(
     alloc: Global,
     plan: &Plan,
     emitted: &Emitted,
-    out: &mut Answer,
+    out: &mut AnswerText,
 ) -> Result<(), AllocError> {
     out.number("finish ", i128::from(emitted.window));
     out.number(" matches=", emitted.matches.len() as i128);
@@ -117,7 +117,7 @@ fn push_emitted(
 
 impl Bench<'_> {
     // The next event, if there is one.
-    fn feed(&mut self, alloc: Global, out: &mut Answer) -> Result<(), AllocError> {
+    fn feed(&mut self, alloc: Global, out: &mut AnswerText) -> Result<(), AllocError> {
         let Some(event) = self.events.get(self.core.events().len()) else {
             return Ok(out.text("feed none\n"));
         };
@@ -129,7 +129,7 @@ impl Bench<'_> {
     }
 
     // The end of input.
-    fn end(&mut self, out: &mut Answer) {
+    fn end(&mut self, out: &mut AnswerText) {
         match self.core.end() {
             Ok(()) => out.text("end\n"),
             Err(refusal) => push_refusal("end", &refusal, out),
@@ -142,7 +142,7 @@ impl Bench<'_> {
         alloc: Global,
         parent: Option<u64>,
         label: &str,
-        out: &mut Answer,
+        out: &mut AnswerText,
     ) -> Result<(), AllocError> {
         let runs = numbers_of(alloc, label)?;
         let Some(label) = Label::new(alloc, &runs)? else {
@@ -160,7 +160,7 @@ impl Bench<'_> {
         alloc: Global,
         version: u64,
         count: u64,
-        out: &mut Answer,
+        out: &mut AnswerText,
     ) -> Result<(), AllocError> {
         if count < 1 || 1024 < count {
             return Ok(out.text("lease of a wrong count\n"));
@@ -176,7 +176,7 @@ impl Bench<'_> {
     }
 
     // The piece of a ticket reads its next event, or the closing.
-    fn read(&mut self, alloc: Global, ticket: u64, out: &mut Answer) -> Result<(), AllocError> {
+    fn read(&mut self, alloc: Global, ticket: u64, out: &mut AnswerText) -> Result<(), AllocError> {
         let Some(place) = place_of(&self.pieces, ticket) else {
             return Ok(push_refusal("event", &Refusal::NoTicket { ticket }, out));
         };
@@ -203,7 +203,7 @@ impl Bench<'_> {
         alloc: Global,
         ticket: u64,
         piece: Piece,
-        out: &mut Answer,
+        out: &mut AnswerText,
     ) -> Result<(), AllocError> {
         let given = self.core.give_back(alloc, piece);
         let came = what_came(&given);
@@ -218,7 +218,7 @@ impl Bench<'_> {
         &mut self,
         alloc: Global,
         ticket: u64,
-        out: &mut Answer,
+        out: &mut AnswerText,
     ) -> Result<(), AllocError> {
         match place_of(&self.pieces, ticket) {
             Some(place) => {
@@ -235,7 +235,7 @@ impl Bench<'_> {
         alloc: Global,
         ticket: u64,
         what: &str,
-        out: &mut Answer,
+        out: &mut AnswerText,
     ) -> Result<(), AllocError> {
         let Some(place) = place_of(&self.pieces, ticket) else {
             return Ok(push_refusal("spoil", &Refusal::NoTicket { ticket }, out));
@@ -253,7 +253,7 @@ impl Bench<'_> {
     }
 
     // A version begins anew.
-    fn roll(&mut self, version: u64, out: &mut Answer) {
+    fn roll(&mut self, version: u64, out: &mut AnswerText) {
         match self.core.roll(version) {
             Ok(id) => {
                 out.number("roll ", i128::from(version));
@@ -264,7 +264,7 @@ impl Bench<'_> {
     }
 
     // The root is finished.
-    fn finish(&mut self, alloc: Global, out: &mut Answer) -> Result<(), AllocError> {
+    fn finish(&mut self, alloc: Global, out: &mut AnswerText) -> Result<(), AllocError> {
         match self.core.finish() {
             Ok(emitted) => {
                 let pushed = push_emitted(alloc, self.core.plan(), &emitted, out);
@@ -276,7 +276,7 @@ impl Bench<'_> {
     }
 
     // The conflict of a version.
-    fn conflict(&self, version: u64, out: &mut Answer) -> Result<(), AllocError> {
+    fn conflict(&self, version: u64, out: &mut AnswerText) -> Result<(), AllocError> {
         match conflict_of(&self.core, version)? {
             Some(event) => out.last("conflict ", u64::from(event)),
             None => out.text("conflict -\n"),
@@ -285,7 +285,7 @@ impl Bench<'_> {
     }
 
     // The versions that can be leased.
-    fn ready(&self, alloc: Global, out: &mut Answer) -> Result<(), AllocError> {
+    fn ready(&self, alloc: Global, out: &mut AnswerText) -> Result<(), AllocError> {
         let ids = self.core.ready(alloc)?;
         out.text(if ids.is_empty() { "ready -" } else { "ready" });
         let mut before = " ";
@@ -298,7 +298,7 @@ impl Bench<'_> {
     }
 
     // Does the step of a line.
-    fn step(&mut self, alloc: Global, line: &str, out: &mut Answer) -> Result<(), AllocError> {
+    fn step(&mut self, alloc: Global, line: &str, out: &mut AnswerText) -> Result<(), AllocError> {
         let (step, values) = line.split_once(' ').unwrap_or((line, ""));
         match step {
             "feed" => self.feed(alloc, out),
@@ -320,7 +320,7 @@ impl Bench<'_> {
         step: &str,
         of: u64,
         value: &str,
-        out: &mut Answer,
+        out: &mut AnswerText,
     ) -> Result<(), AllocError> {
         match step {
             "spawn" => self.spawn(alloc, Some(of), value, out),
@@ -339,7 +339,7 @@ impl Bench<'_> {
         &mut self,
         alloc: Global,
         lines: &[String],
-        out: &mut Answer,
+        out: &mut AnswerText,
     ) -> Result<(), AllocError> {
         for line in lines {
             self.step(alloc, line.as_str(), out)?;
@@ -355,7 +355,7 @@ pub(crate) fn machine(
     plan: &Arc<Plan>,
     events: &[Event],
     words: &[String],
-    out: &mut Answer,
+    out: &mut AnswerText,
 ) -> Result<(), AllocError>
     requires { IsCompiled (arc_value plan.now) }
 {

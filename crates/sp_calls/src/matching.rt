@@ -6,7 +6,7 @@ ghost use Rattle.sp_match.specs.public.Matching.{runs_of};
 ghost use Rattle.sp_plan.specs.Compiled.{IsCompiled};
 ghost use Rattle.sp_plan.specs.Events.{fits};
 
-use crate::text::Answer;
+use crate::text::AnswerText;
 use sp_base::Numbers;
 use sp_emit::match_line;
 use sp_match::{Matcher, Move, Moves, match_of, places_of};
@@ -22,7 +22,7 @@ fn push_match(
     run: u32,
     bound: &[(u8, Numbers)],
     used: &Numbers,
-    out: &mut Answer,
+    out: &mut AnswerText,
 ) -> Result<(), AllocError> {
     let places = places_of(alloc, used)?;
     out.list(" uses ", places.list());
@@ -36,7 +36,12 @@ fn push_match(
 }
 
 // Appends what happened to a run.
-fn push_move(alloc: Global, plan: &Plan, one: &Move, out: &mut Answer) -> Result<(), AllocError> {
+fn push_move(
+    alloc: Global,
+    plan: &Plan,
+    one: &Move,
+    out: &mut AnswerText,
+) -> Result<(), AllocError> {
     match one {
         Move::Opened { run } => push_run(*run, " opens.", out),
         Move::Grown { run, number } => {
@@ -53,13 +58,18 @@ fn push_move(alloc: Global, plan: &Plan, one: &Move, out: &mut Answer) -> Result
 }
 
 // Appends a number, with a blank before it, and a text behind it.
-fn push_run(number: u32, what: &str, out: &mut Answer) {
+fn push_run(number: u32, what: &str, out: &mut AnswerText) {
     out.number(" ", number as i128);
     out.text(what);
 }
 
 // Appends the moves, and what the runs wanted before and after the event.
-fn push_all(alloc: Global, plan: &Plan, moves: &Moves, out: &mut Answer) -> Result<(), AllocError> {
+fn push_all(
+    alloc: Global,
+    plan: &Plan,
+    moves: &Moves,
+    out: &mut AnswerText,
+) -> Result<(), AllocError> {
     for one in &moves.list {
         push_move(alloc, plan, one, out)?;
     }
@@ -71,7 +81,7 @@ fn push_all(alloc: Global, plan: &Plan, moves: &Moves, out: &mut Answer) -> Resu
 
 // The moves as a text.
 fn moves_text(alloc: Global, plan: &Plan, moves: Moves) -> Result<String, AllocError> {
-    let mut text = Answer::new(alloc);
+    let mut text = AnswerText::new(alloc);
     let pushed = push_all(alloc, plan, &moves, &mut text);
     drop(moves);
     pushed?;
@@ -79,7 +89,7 @@ fn moves_text(alloc: Global, plan: &Plan, moves: Moves) -> Result<String, AllocE
 }
 
 // Appends how many events each of the first open runs still wants at least.
-fn push_lefts(matcher: &Matcher, out: &mut Answer) {
+fn push_lefts(matcher: &Matcher, out: &mut AnswerText) {
     let runs = matcher.open_runs();
     for place in 0..runs.len().min(4) {
         out.number(" left ", matcher.left(place as u32) as i128);
@@ -132,7 +142,7 @@ fn push_offer(
     plan: &Plan,
     number: u32,
     event: &Event,
-    out: &mut Answer,
+    out: &mut AnswerText,
 ) -> Result<(), AllocError>
     requires plan { matcher.old.plan ≡ plan.now }
     requires fits { fits plan.now event.now ≡ true }
@@ -153,7 +163,7 @@ fn push_offer(
 }
 
 // Appends what the matcher told, and what its copy told where that is something else or the runs differ.
-fn push_told(told: &str, again: &str, is_same: bool, out: &mut Answer) {
+fn push_told(told: &str, again: &str, is_same: bool, out: &mut AnswerText) {
     out.text(told);
     if !is_same || told != again {
         out.text(" but of a copy");
@@ -167,7 +177,7 @@ fn push_moves(
     matcher: &mut Matcher,
     plan: &Plan,
     events: &[Event],
-    out: &mut Answer,
+    out: &mut AnswerText,
 ) -> Result<(), AllocError>
     requires plan { matcher.old.plan ≡ plan.now }
     requires none { matcher.old.open_runs ≡ [] }
@@ -194,7 +204,7 @@ pub(crate) fn moves(
     alloc: Global,
     plan: &Arc<Plan>,
     events: &[Event],
-    out: &mut Answer,
+    out: &mut AnswerText,
 ) -> Result<(), AllocError>
     requires { IsCompiled (arc_value plan.now) }
 {

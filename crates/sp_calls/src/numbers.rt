@@ -1,6 +1,6 @@
 // Numbers in rising order, and shares of a whole.
 use crate::given::number;
-use crate::text::Answer;
+use crate::text::AnswerText;
 use sp_base::{Numbers, Share};
 use std::alloc::{AllocError, Global};
 
@@ -84,7 +84,7 @@ fn push_step(
     alloc: Global,
     numbers: &mut Numbers,
     word: &str,
-    out: &mut Answer,
+    out: &mut AnswerText,
 ) -> Result<(), AllocError> {
     let told = match word.split_once(':') {
         Some((what, text)) => step(alloc, numbers, what, text)?,
@@ -98,7 +98,11 @@ fn push_step(
 }
 
 /// Does what the words say, beginning with no number, and appends a line for each.
-pub(crate) fn numbers(alloc: Global, words: &[String], out: &mut Answer) -> Result<(), AllocError> {
+pub(crate) fn numbers(
+    alloc: Global,
+    words: &[String],
+    out: &mut AnswerText,
+) -> Result<(), AllocError> {
     let mut numbers = Numbers::new(alloc);
     for word in words {
         push_step(alloc, &mut numbers, word.as_str(), out)?;
@@ -107,7 +111,7 @@ pub(crate) fn numbers(alloc: Global, words: &[String], out: &mut Answer) -> Resu
 }
 
 // Appends both shares, the product, and what is missing to a whole.
-fn push_shares(one: Share, two: Share, out: &mut Answer) {
+fn push_shares(one: Share, two: Share, out: &mut AnswerText) {
     let product = one.times(two);
     out.number("", one.get() as i128);
     out.number(" ", two.get() as i128);
@@ -117,7 +121,7 @@ fn push_shares(one: Share, two: Share, out: &mut Answer) {
 }
 
 /// Appends for each pair of words their shares, the product, and what is missing to a whole.
-pub(crate) fn shares(words: &[String], out: &mut Answer) {
+pub(crate) fn shares(words: &[String], out: &mut AnswerText) {
     for pair in words.chunks(2) {
         if let [one, two] = pair {
             let one = Share::new(number(one.as_str()));

@@ -2,12 +2,12 @@
 ghost use Rattle.sp_plan.specs.Bounds.{AllSmall, IsSmall, PredWithin};
 ghost use Rattle.sp_plan.specs.Compiled.{IsCompiled};
 
-use crate::text::Answer;
+use crate::text::AnswerText;
 use sp_plan::{Bound, Event, Name, Plan, Pred, holds, value};
 use std::alloc::{AllocError, Global};
 
 // Appends whether the name's predicate holds of the event, and what both sides of a comparison come to.
-fn push_name(name: &Name, event: &Event, bound: &Bound, out: &mut Answer)
+fn push_name(name: &Name, event: &Event, bound: &Bound, out: &mut AnswerText)
     requires within { PredWithin name.now.pred }
     requires event { IsSmall event.now }
     requires bound { AllSmall bound.now }
@@ -31,7 +31,7 @@ fn push_names(
     plan: &Plan,
     events: &[Event],
     bound: &mut Bound,
-    out: &mut Answer,
+    out: &mut AnswerText,
 ) -> Result<(), AllocError>
     requires plan { IsCompiled plan.now }
     requires bound { AllSmall bound.old }
@@ -58,7 +58,7 @@ pub(crate) fn predicates(
     alloc: Global,
     plan: &Plan,
     events: &[Event],
-    out: &mut Answer,
+    out: &mut AnswerText,
 ) -> Result<(), AllocError>
     requires { IsCompiled plan.now }
 {

@@ -1,6 +1,6 @@
 // Predictors: what they learn, and what they answer.
 use crate::given::{number, two_numbers};
-use crate::text::Answer;
+use crate::text::AnswerText;
 use sp_chance::{Even, Markov, Predictor, Steady};
 use std::alloc::{AllocError, Global};
 
@@ -24,7 +24,7 @@ fn learn<P: Predictor>(predictor: &mut P, text: &str) {
 }
 
 // Does what a word says, as `learn:3,2*10`, or asks for a chance, as `1,16`.
-fn step<P: Predictor>(predictor: &mut P, word: &str, out: &mut Answer) {
+fn step<P: Predictor>(predictor: &mut P, word: &str, out: &mut AnswerText) {
     match word.split_once(':') {
         Some((_, pairs)) => learn(predictor, pairs),
         None => {
@@ -36,7 +36,7 @@ fn step<P: Predictor>(predictor: &mut P, word: &str, out: &mut Answer) {
 }
 
 // Appends a predictor's name, and then the chances that the words ask for.
-fn steps<P: Predictor>(predictor: &mut P, words: &[String], out: &mut Answer) {
+fn steps<P: Predictor>(predictor: &mut P, words: &[String], out: &mut AnswerText) {
     out.text("name ");
     out.text(predictor.name());
     out.text("\n");
@@ -46,7 +46,7 @@ fn steps<P: Predictor>(predictor: &mut P, words: &[String], out: &mut Answer) {
 }
 
 // The same of the predictor that learns.
-fn learned(alloc: Global, words: &[String], out: &mut Answer) -> Result<(), AllocError> {
+fn learned(alloc: Global, words: &[String], out: &mut AnswerText) -> Result<(), AllocError> {
     let mut markov = Markov::new(alloc)?;
     steps(&mut markov, words, out);
     drop(markov);
@@ -55,7 +55,11 @@ fn learned(alloc: Global, words: &[String], out: &mut Answer) -> Result<(), Allo
 
 /// Appends the name of the predictor that the first word says, `even`, `steady:SHARE` or `markov`, and then
 /// the chances that the other words ask for, which may have it learn between.
-pub(crate) fn predict(alloc: Global, words: &[String], out: &mut Answer) -> Result<(), AllocError> {
+pub(crate) fn predict(
+    alloc: Global,
+    words: &[String],
+    out: &mut AnswerText,
+) -> Result<(), AllocError> {
     let [predictor, words @ ..] = words else {
         return Ok(());
     };

@@ -3,20 +3,20 @@ ghost use Rattle.std.specs.Prelude.{List, ℕ};
 ghost use Rattle.sp_query.specs.Queries.{IsQuery};
 
 use crate::given::{LONGEST, query_of};
-use crate::text::Answer;
+use crate::text::AnswerText;
 use sp_compile::compile;
 use sp_parse::parse;
 use sp_syntax::{Query, print};
 use std::alloc::Global;
 
 // Appends the code and the place of a fault.
-fn push_fault(code: u8, place: u32, out: &mut Answer) {
+fn push_fault(code: u8, place: u32, out: &mut AnswerText) {
     out.number("", code as i128);
     out.number(" at ", place as i128);
 }
 
 // Appends a query as it is printed, or its fault.
-fn push_query(alloc: Global, query: &Query, out: &mut Answer)
+fn push_query(alloc: Global, query: &Query, out: &mut AnswerText)
     requires { (text : List ℕ) × IsQuery text query.now }
 {
     match compile(alloc, query).err() {
@@ -26,7 +26,7 @@ fn push_query(alloc: Global, query: &Query, out: &mut Answer)
 }
 
 // Appends what a text comes to.
-fn push_printed(alloc: Global, text: &str, out: &mut Answer) {
+fn push_printed(alloc: Global, text: &str, out: &mut AnswerText) {
     if text.len() > LONGEST {
         return;
     }
@@ -41,7 +41,7 @@ fn push_printed(alloc: Global, text: &str, out: &mut Answer) {
 }
 
 /// Appends for each word the query as it is printed, or the code and the place of its fault.
-pub(crate) fn printed(alloc: Global, words: &[String], out: &mut Answer) {
+pub(crate) fn printed(alloc: Global, words: &[String], out: &mut AnswerText) {
     for word in words {
         push_printed(alloc, word.as_str(), out);
     }
@@ -66,7 +66,7 @@ fn same_text(one: &Option<Query>, two: &Option<Query>) -> &'static str {
 }
 
 /// Appends whether the queries of the first two words are the same.
-pub(crate) fn same(alloc: Global, words: &[String], out: &mut Answer) {
+pub(crate) fn same(alloc: Global, words: &[String], out: &mut AnswerText) {
     let one = query_of(alloc, words, 0);
     let two = query_of(alloc, words, 1);
     let text = same_text(&one, &two);

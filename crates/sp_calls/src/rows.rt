@@ -3,14 +3,14 @@ ghost use Rattle.std.specs.Prelude.{◌≡◌, ◌≤◌, ◌<◌, ◌+◌, leng
 ghost use Rattle.sp_rows.specs.Progress.{read_of};
 
 use crate::given::lines_of;
-use crate::text::Answer;
+use crate::text::AnswerText;
 use sp_plan::{Event, Plan, Value};
 use sp_rows::{RowError, RowFault, RowKind, Rows};
 use std::alloc::{AllocError, Global};
 use std::sync::Arc;
 
 // Appends an event: its time, and its values, with a sign before the number of a text.
-fn push_event(event: &Event, out: &mut Answer) {
+fn push_event(event: &Event, out: &mut AnswerText) {
     out.number("", event.time as i128);
     out.text(":");
     for value in event.values.as_slice() {
@@ -23,7 +23,7 @@ fn push_event(event: &Event, out: &mut Answer) {
 }
 
 // Appends a fault: its code, row and column, and what else its kind tells.
-fn push_fault(fault: &RowFault, out: &mut Answer) {
+fn push_fault(fault: &RowFault, out: &mut AnswerText) {
     out.number("fault ", fault.kind.code() as i128);
     out.number(" row ", fault.row as i128);
     out.number(" column ", fault.column as i128);
@@ -46,7 +46,7 @@ fn push_answer(
     alloc: Global,
     rows: &mut Rows,
     row: &[u8],
-    out: &mut Answer,
+    out: &mut AnswerText,
 ) -> Result<(), AllocError>
     requires { (read_of rows.old).read < 2097153 }
     ensures { (read_of rows.new).read ≤ (read_of rows.old).read + 1 }
@@ -61,7 +61,7 @@ fn push_answer(
 }
 
 // Appends what the end of the input gives.
-fn push_end(rows: &Rows, out: &mut Answer) {
+fn push_end(rows: &Rows, out: &mut AnswerText) {
     match rows.end() {
         Ok(()) => out.text("end\n"),
         Err(fault) => push_fault(&fault, out),
@@ -73,7 +73,7 @@ fn push_answers(
     alloc: Global,
     rows: &mut Rows,
     lines: &[&[u8]],
-    out: &mut Answer,
+    out: &mut AnswerText,
 ) -> Result<(), AllocError>
     requires { (read_of rows.old).read ≡ 0 }
 {
@@ -92,7 +92,7 @@ pub(crate) fn rows(
     alloc: Global,
     plan: &Arc<Plan>,
     input: &[u8],
-    out: &mut Answer,
+    out: &mut AnswerText,
 ) -> Result<(), AllocError> {
     let lines = lines_of(alloc, input)?;
     let mut rows = Rows::new(alloc, plan.clone()?)?;

@@ -1,5 +1,5 @@
 // Schedules, read and printed.
-use crate::text::Answer;
+use crate::text::AnswerText;
 use sp_sched::{SchedFault, print_schedule, read_schedule};
 use std::alloc::{AllocError, Global};
 
@@ -7,7 +7,7 @@ use std::alloc::{AllocError, Global};
 const LONGEST: usize = 100_000;
 
 /// Appends the steps of a schedule as they are printed, or its first bad line.
-pub(crate) fn schedule(alloc: Global, text: &[u8], out: &mut Answer) {
+pub(crate) fn schedule(alloc: Global, text: &[u8], out: &mut AnswerText) {
     if text.len() > LONGEST {
         return;
     }

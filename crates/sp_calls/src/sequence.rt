@@ -4,14 +4,14 @@ ghost use Rattle.std.specs.Arc.{arc_value};
 ghost use Rattle.sp_plan.specs.Compiled.{IsCompiled};
 ghost use Rattle.sp_plan.specs.Events.{AllFit, NeverGoesBack};
 
-use crate::text::Answer;
+use crate::text::AnswerText;
 use sp_plan::{Event, Match, Plan};
 use sp_seq::plain;
 use std::alloc::{AllocError, Global};
 use std::sync::Arc;
 
 // Appends a match: its window, its own number, the events of each name, and those that it consumes.
-fn push_match(one: &Match, out: &mut Answer) {
+fn push_match(one: &Match, out: &mut AnswerText) {
     out.number("", one.window as i128);
     out.number(" ", one.number as i128);
     out.text(":");
@@ -53,7 +53,7 @@ pub(crate) fn matches(
     plan: &Arc<Plan>,
     events: &[Event],
     ended: bool,
-    out: &mut Answer,
+    out: &mut AnswerText,
 ) -> Result<(), AllocError>
     requires { IsCompiled (arc_value plan.now) }
 {

@@ -4,7 +4,7 @@ ghost use Rattle.sp_plan.specs.Compiled.{IsCompiled};
 
 use crate::given::number;
 use crate::stepping::{conflict_of, fed, feed_next};
-use crate::text::Answer;
+use crate::text::AnswerText;
 use sp_core::{Core, CoreFault};
 use sp_group::Label;
 use sp_piece::{Piece, Stepped};
@@ -133,7 +133,7 @@ pub(crate) fn stepped(
     alloc: Global,
     plan: &Arc<Plan>,
     words: &[String],
-    out: &mut Answer,
+    out: &mut AnswerText,
 ) -> Result<(), AllocError>
     requires { IsCompiled (arc_value plan.now) }
 {

@@ -5,15 +5,15 @@ use std::fmt::Write;
 /// A text that is written piece by piece. Where there was no memory for a piece, there is no text at the
 /// end: the pieces are written without a look at each.
 #[derive(Drop)]
-pub(crate) struct Answer {
+pub(crate) struct AnswerText {
     text: String,
     is_whole: bool,
 }
 
-impl Answer {
+impl AnswerText {
     /// The empty text.
-    pub(crate) fn new(alloc: Global) -> Answer {
-        Answer {
+    pub(crate) fn new(alloc: Global) -> AnswerText {
+        AnswerText {
             text: String::new(alloc),
             is_whole: true,
         }

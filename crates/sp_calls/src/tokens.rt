@@ -1,6 +1,6 @@
 // The tokens of a text, each with its span.
 use crate::given::LONGEST;
-use crate::text::Answer;
+use crate::text::AnswerText;
 use sp_lex::{Kernel, LexFault, Token, lex};
 use std::alloc::{AllocError, Global};
 use std::str;
@@ -28,7 +28,7 @@ fn mark_name(kernel: &Kernel) -> &'static str {
 }
 
 // Appends what a token is.
-fn push_kernel(kernel: &Kernel, out: &mut Answer) {
+fn push_kernel(kernel: &Kernel, out: &mut AnswerText) {
     let (kind, text) = match kernel {
         Kernel::Word(word) => ("word ", word.spelling()),
         Kernel::Name(name) => ("name ", name.as_str()),
@@ -45,7 +45,7 @@ fn push_kernel(kernel: &Kernel, out: &mut Answer) {
 }
 
 // Appends a token.
-fn push_token(token: &Token, out: &mut Answer) {
+fn push_token(token: &Token, out: &mut AnswerText) {
     push_kernel(&token.kernel, out);
     out.number(" ", token.span.from as i128);
     out.number("..", token.span.to as i128);
@@ -53,7 +53,7 @@ fn push_token(token: &Token, out: &mut Answer) {
 }
 
 // Appends why a text has no tokens.
-fn push_fault(fault: LexFault, out: &mut Answer) -> Result<(), AllocError> {
+fn push_fault(fault: LexFault, out: &mut AnswerText) -> Result<(), AllocError> {
     let (why, at) = match fault {
         LexFault::BadCharacter { at } => ("a character that begins no token, at byte ", at),
         LexFault::OpenText { at } => ("a text without its closing quote, from byte ", at),
@@ -66,7 +66,7 @@ fn push_fault(fault: LexFault, out: &mut Answer) -> Result<(), AllocError> {
 }
 
 /// Appends a line for each token of the input, or the fault.
-pub(crate) fn tokens(alloc: Global, input: &[u8], out: &mut Answer) -> Result<(), AllocError> {
+pub(crate) fn tokens(alloc: Global, input: &[u8], out: &mut AnswerText) -> Result<(), AllocError> {
     let text = str::from_utf8(input).unwrap_or("");
     if text.len() > LONGEST {
         return Ok(());

@@ -3,14 +3,14 @@ ghost use Rattle.std.specs.Prelude.{◌≡◌, ◌≤◌, false, length};
 ghost use Rattle.std.specs.Arc.{arc_value};
 ghost use Rattle.sp_plan.specs.Compiled.{IsCompiled};
 
-use crate::text::Answer;
+use crate::text::AnswerText;
 use sp_plan::{Event, Plan};
 use sp_window::{Window, Windows};
 use std::alloc::{AllocError, Global};
 use std::sync::Arc;
 
 // Appends a window: its first event, and its last where it is closed.
-fn push_window(window: Window, out: &mut Answer) {
+fn push_window(window: Window, out: &mut AnswerText) {
     out.number(" ", window.first as i128);
     match window.end {
         Some(end) => out.number("-", end as i128),
@@ -19,7 +19,7 @@ fn push_window(window: Window, out: &mut Answer) {
 }
 
 // Appends how many windows are closed of how many, and where there are few, each of them.
-fn push_windows(windows: &Windows, out: &mut Answer) {
+fn push_windows(windows: &Windows, out: &mut AnswerText) {
     let count = windows.count();
     out.number("", windows.closed() as i128);
     out.number(" of ", count as i128);
@@ -63,7 +63,7 @@ pub(crate) fn windows(
     alloc: Global,
     plan: &Arc<Plan>,
     events: &[Event],
-    out: &mut Answer,
+    out: &mut AnswerText,
 ) -> Result<(), AllocError>
     requires { IsCompiled (arc_value plan.now) }
 {

@@ -17,7 +17,7 @@ ghost use Rattle.sp_top.specs.Report.{ReportsDrill, WhereDone};
 
 use crate::law;
 use crate::run::run_plan;
-use crate::workshop::{Answer, Workshop};
+use crate::workshop::{CommandEnd, Workshop};
 use sp_answer::Status;
 use sp_base::Numbers;
 use sp_chance::Predictor;
@@ -85,7 +85,7 @@ fn run_rows<G: Gate, R: Threads + Wait + Sync>(
     seed: u32,
     speed: &Speed,
     predictor: Box<dyn Predictor>,
-) -> Answer
+) -> CommandEnd
     requires few { events ≤ event_limit }
     requires live { (1 ≤ speed.now.live) × (speed.now.live ≤ live_limit) }
     requires batch { (1 ≤ speed.now.batch) × (speed.now.batch ≤ batch_limit) }
@@ -103,7 +103,7 @@ fn run_rows<G: Gate, R: Threads + Wait + Sync>(
             let Task { plan, mut rows } = task;
             run_plan(shop, plan, speed, predictor, &mut rows, &mut Discard)
         }
-        Err(refusal) => Answer::of(status_of_refusal(refusal)),
+        Err(refusal) => CommandEnd::of(status_of_refusal(refusal)),
     }
 }
 
@@ -147,7 +147,7 @@ fn write_summary<K: Sink>(alloc: Global, core: &Core, out: &mut K) -> Status
 }
 
 // Writes the summary of a run that was done, and answers how that went; what the run ended with stays.
-fn sum_up<K: Sink>(alloc: Global, answer: &mut Answer, out: &mut K)
+fn sum_up<K: Sink>(alloc: Global, answer: &mut CommandEnd, out: &mut K)
     requires { WhereDone CanSum answer.old.status answer.old.ended }
     ensures ended { answer.new.ended ≡ answer.old.ended }
     ensures status { SumsUp answer.old.status answer.old.ended
@@ -167,7 +167,7 @@ pub(crate) fn drill<K: Sink, G: Gate, R: Threads + Wait + Sync>(
     speed: &Speed,
     predictor: Box<dyn Predictor>,
     out: &mut K,
-) -> Answer
+) -> CommandEnd
     requires few { events ≤ event_limit }
     requires live { (1 ≤ speed.now.live) × (speed.now.live ≤ live_limit) }
     requires batch { (1 ≤ speed.now.batch) × (speed.now.batch ≤ batch_limit) }

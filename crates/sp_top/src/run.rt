@@ -21,7 +21,7 @@ ghost use Rattle.sp_commands.specs.Run.{IsPlanRun, RunOutcome};
 use crate::asked::Run;
 use crate::law;
 use crate::lines::Lines;
-use crate::workshop::{Answer, Workshop};
+use crate::workshop::{CommandEnd, Workshop};
 use sp_answer::Status;
 use sp_chance::Predictor;
 use sp_cli::Speed;
@@ -81,7 +81,7 @@ fn drive_core<S: Source, K: Sink, G: Gate, R: Threads + Wait + Sync>(
     predictor: Box<dyn Predictor>,
     input: &mut Input<'_, S>,
     lines: &mut Lines<'_, K>,
-) -> Answer
+) -> CommandEnd
     requires fresh { core ≡ begun core.plan core.bound }
     requires bound { core.bound ≡ speed.now.live }
     requires batch { (1 ≤ speed.now.batch) × (speed.now.batch ≤ batch_limit) }
@@ -114,9 +114,9 @@ fn drive_core<S: Source, K: Sink, G: Gate, R: Threads + Wait + Sync>(
             law::steps_lead_to(&ended.core);
             let status = status_of_end(ended.why, input.stop());
             let ended = Some(ended);
-            Answer { status, ended }
+            CommandEnd { status, ended }
         }
-        Err(_) => Answer::of(Status::Memory),
+        Err(_) => CommandEnd::of(Status::Memory),
     }
 }
 
@@ -128,7 +128,7 @@ pub(crate) fn run_plan<S: Source, K: Sink, G: Gate, R: Threads + Wait + Sync>(
     predictor: Box<dyn Predictor>,
     input: &mut S,
     out: &mut K,
-) -> Answer
+) -> CommandEnd
     requires compiled { IsCompiled plan }
     requires live { (1 ≤ speed.now.live) × (speed.now.live ≤ live_limit) }
     requires batch { (1 ≤ speed.now.batch) × (speed.now.batch ≤ batch_limit) }
@@ -142,7 +142,7 @@ pub(crate) fn run_plan<S: Source, K: Sink, G: Gate, R: Threads + Wait + Sync>(
         (S.state input.old).left (S.state input.new).left) result.status result.ended }
 {
     let Ok(start) = start_of(shop.alloc, plan, speed.live) else {
-        return Answer::of(Status::Memory);
+        return CommandEnd::of(Status::Memory);
     };
     let Start { plan, core, events } = start;
     let mut reading = Input::over(input, events);
@@ -163,7 +163,7 @@ pub(crate) fn run<S: Source, F: Files, K: Sink, G: Gate, R: Threads + Wait + Syn
     input: &mut S,
     files: &mut F,
     out: &mut K,
-) -> Answer
+) -> CommandEnd
     requires live { (1 ≤ asked.speed.now.live) × (asked.speed.now.live ≤ live_limit) }
     requires batch { (1 ≤ asked.speed.now.batch) × (asked.speed.now.batch ≤ batch_limit) }
     requires instances { asked.speed.now.instances ≤ 16 }
@@ -181,6 +181,6 @@ pub(crate) fn run<S: Source, F: Files, K: Sink, G: Gate, R: Threads + Wait + Syn
 {
     match plan_at(shop.alloc, asked.place, files) {
         Ok(plan) => run_plan(shop, plan, asked.speed, predictor, input, out),
-        Err(refusal) => Answer::of(status_of_refusal(refusal)),
+        Err(refusal) => CommandEnd::of(status_of_refusal(refusal)),
     }
 }

@@ -14,7 +14,7 @@ use crate::choosing::choose;
 use crate::drill::drill;
 use crate::law;
 use crate::run::run;
-use crate::workshop::{Answer, Workshop};
+use crate::workshop::{CommandEnd, Workshop};
 use sp_answer::{Status, tell};
 use sp_chance::Predictor;
 use sp_cli::{Command, UsageFault, read_words};
@@ -34,7 +34,7 @@ fn carry_out<S: Source, F: Files, K: Sink, G: Gate, R: Threads + Wait + Sync>(
     files: &mut F,
     out: &mut K,
     predictors: Vec<Box<dyn Predictor>>,
-) -> Answer
+) -> CommandEnd
     requires within { IsWithin (seen command.now) }
     requires not_ended { ReadsInput (seen command.now) → (S.state input.old).ended ≡ false }
     ensures answers { (words : List (List ℕ)) → IsCommand words (seen command.now)
@@ -54,10 +54,10 @@ fn carry_out<S: Source, F: Files, K: Sink, G: Gate, R: Threads + Wait + Sync>(
                 let place = place_of(query);
                 run(shop, Run { place, speed }, predictor, input, files, out)
             }
-            None => Answer::of(Status::Usage),
+            None => CommandEnd::of(Status::Usage),
         },
         Command::Plain { query } => {
-            Answer::of(plain(shop.alloc, place_of(query), input, files, out))
+            CommandEnd::of(plain(shop.alloc, place_of(query), input, files, out))
         }
         Command::Trace {
             query,
@@ -69,7 +69,7 @@ fn carry_out<S: Source, F: Files, K: Sink, G: Gate, R: Threads + Wait + Sync>(
                 schedule: schedule.as_str(),
                 live: *live,
             };
-            Answer::of(trace(shop.alloc, asked, input, files, out))
+            CommandEnd::of(trace(shop.alloc, asked, input, files, out))
         }
         Command::Drill {
             events,
@@ -77,7 +77,7 @@ fn carry_out<S: Source, F: Files, K: Sink, G: Gate, R: Threads + Wait + Sync>(
             speed,
         } => match choose(predictors, &speed.predictor) {
             Some(predictor) => drill(shop, *events, *seed, speed, predictor, out),
-            None => Answer::of(Status::Usage),
+            None => CommandEnd::of(Status::Usage),
         },
     }
 }
@@ -90,7 +90,7 @@ fn answer<S: Source, F: Files, K: Sink, G: Gate, R: Threads + Wait + Sync>(
     files: &mut F,
     out: &mut K,
     predictors: Vec<Box<dyn Predictor>>,
-) -> Answer
+) -> CommandEnd
     requires not_ended { IsUnendedFor (map string_bytes words.now) (S.state input.old) }
     ensures answers { Answers (map (λ one. named one) predictors.items) (map string_bytes words.now)
         (filed (F.held files.old) (F.faults files.old))
@@ -105,8 +105,8 @@ fn answer<S: Source, F: Files, K: Sink, G: Gate, R: Threads + Wait + Sync>(
     law::numbers_are_within();
     match read_words(shop.alloc, words) {
         Ok(command) => carry_out(shop, &command, input, files, out, predictors),
-        Err(UsageFault::Usage) => Answer::of(Status::Usage),
-        Err(UsageFault::Memory) => Answer::of(Status::Memory),
+        Err(UsageFault::Usage) => CommandEnd::of(Status::Usage),
+        Err(UsageFault::Memory) => CommandEnd::of(Status::Memory),
     }
 }
 

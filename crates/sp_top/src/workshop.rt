@@ -19,17 +19,17 @@ pub(crate) struct Workshop<'a, G: Gate, R: Threads + Wait + Sync> {
 
 /// The status of a command, and of a run what it ended with, where there is such an end.
 #[derive(Drop)]
-pub(crate) struct Answer {
+pub(crate) struct CommandEnd {
     pub(crate) status: Status,
     pub(crate) ended: Option<Ended>,
 }
 
-impl Answer {
+impl CommandEnd {
     /// A status alone.
-    pub(crate) fn of(status: Status) -> Answer
+    pub(crate) fn of(status: Status) -> CommandEnd
         ensures { result ≡ record { status = status; ended = None } }
     {
         let ended = None;
-        Answer { status, ended }
+        CommandEnd { status, ended }
     }
 }

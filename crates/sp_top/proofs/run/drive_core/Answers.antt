@@ -10,7 +10,7 @@ use Rattle.sp_split.specs.declared.ended.Went.{Went}
 use Rattle.sp_cli.specs.Commands.{speed_seen}
 use Rattle.sp_top.specs.RunEnds.{status_of_end}
 use Rattle.sp_commands.specs.Run.{IsPlanRun}
-use Rattle.sp_top.specs.declared.workshop.Answer.{Answer}
+use Rattle.sp_top.specs.declared.workshop.CommandEnd.{CommandEnd}
 use Rattle.sp_top.proofs.Driven.{outlet, halts, ended_ran, fell_short}
 use Rattle.sp_top.proofs.Reporting.{reports_plan}
 use Rattle.sp_top.proofs.run.drive_core.Goals as goal
@@ -58,4 +58,4 @@ returns-in-Err-clause-ran g c origin reads =
     let after = g.K.Sink.state c.drive.new.outlet.out.now in
     let ran =
     fell_short c.args.core c.growth.ensures c.requires.compiled origin first last reads (Rose old.events.stops new.events.stops) before after c.args.lines.now.taken c.drive.new.outlet.taken c.in-Err.ensures.short in
-    subst (λ (a : Answer). Ran (IsPlanRun c.args.core.plan) (outside origin before) (outside last.source after) (ending a.status)) (sym c.of.ensures) ran
+    subst (λ (a : CommandEnd). Ran (IsPlanRun c.args.core.plan) (outside origin before) (outside last.source after) (ending a.status)) (sym c.of.ensures) ran

@@ -9,7 +9,7 @@ use Rattle.sp_answer.specs.Outcome.{ending}
 use Rattle.sp_answer.specs.Ran.{Outside, outside, Ran}
 use Rattle.sp_cli.specs.Commands.{speed_seen}
 use Rattle.sp_commands.specs.Run.{windows_text, IsPlanRun}
-use Rattle.sp_top.specs.declared.workshop.Answer.{Answer}
+use Rattle.sp_top.specs.declared.workshop.CommandEnd.{CommandEnd}
 use Rattle.sp_commands.proofs.Running.{unread}
 use Rattle.sp_top.proofs.Driven.{as_run}
 use Rattle.sp_top.proofs.Reporting.{as_report}
@@ -20,7 +20,7 @@ returns-in_default-clause-ran g c =
     let q = c.args.plan in
     let state = g.S.Source.state c.args.input.now in
     let old : Outside = outside state (g.K.Sink.state c.args.out.now) in
-    subst (λ (a : Answer). Ran (IsPlanRun q) old old (ending a.status)) (sym c.of.ensures) (unread windows_text q old old [] (gave_none state.left) (no_further_none q) refl)
+    subst (λ (a : CommandEnd). Ran (IsPlanRun q) old old (ending a.status)) (sym c.of.ensures) (unread windows_text q old old [] (gave_none state.left) (no_further_none q) refl)
 
 pub returns-clause-ran : goal.returns-clause-ran
 returns-clause-ran g c =

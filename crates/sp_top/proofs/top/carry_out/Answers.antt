@@ -10,7 +10,7 @@ use Rattle.sp_commands.specs.Commands.{place_of, files_at, IsCommand}
 use Rattle.sp_commands.specs.Outcome.{Answers}
 use Rattle.sp_commands.specs.Run.{RunOutcome}
 use Rattle.sp_commands.specs.Trace.{TraceOutcome}
-use Rattle.sp_top.specs.declared.workshop.Answer.{Answer}
+use Rattle.sp_top.specs.declared.workshop.CommandEnd.{CommandEnd}
 use Rattle.sp_top.proofs.Answered.{answers, no_call, refused, drilled}
 use Rattle.sp_top.proofs.Chosen.{chosen, not_chosen}
 use Rattle.sp_top.proofs.Reporting.{reports_run, reports_drill}
@@ -52,7 +52,7 @@ returns-in-None-clause-answers g c words is =
     let own : IsCommand words (run query speed) = subst (IsCommand words) (ap seen c.in-Run.is) is in
     let name : c.deref.result.now ≡ string_bytes c.in-Run.speed.predictor = search rules in
     let none : Contains predictors (string_bytes c.in-Run.speed.predictor) → ⊥ = λ at. not_chosen _ _ c.args.predictors.items c.in-None.ensures.first (subst (Contains predictors) (sym name) at) in
-    subst (λ (a : Answer). Answers predictors words before before old old a.status) (sym c.of.ensures)
+    subst (λ (a : CommandEnd). Answers predictors words before before old old a.status) (sym c.of.ensures)
     (refused predictors words (no_call predictors words (run query speed) own none) before old)
 
 pub returns-in-Plain-clause-answers : goal.returns-in-Plain-clause-answers
@@ -65,7 +65,7 @@ returns-in-Plain-clause-answers g c words is =
     let query = source_seen c.in-Plain.query in
     let own : IsCommand words (plain query) = subst (IsCommand words) (ap seen c.in-Plain.is) is in
     let served = subst (λ (p : Place). Served (files_at p) (RunOutcome p) before after old new (ending c.plain.result)) c.place_of.ensures c.plain.ensures in
-    subst (λ (a : Answer). Answers predictors words before after old new a.status) (sym c.of-in-Plain.ensures)
+    subst (λ (a : CommandEnd). Answers predictors words before after old new a.status) (sym c.of-in-Plain.ensures)
     (answers predictors words (plain query) (own, tt) before after old new c.plain.result served)
 
 pub returns-in-Trace-clause-answers : goal.returns-in-Trace-clause-answers
@@ -82,7 +82,7 @@ returns-in-Trace-clause-answers g c words is =
     let name : c.as_str.result.now ≡ schedule = search rules in
     let at_place = subst (λ (p : Place). Served (files_at p ++ c.as_str.result.now ∷ []) (TraceOutcome p c.as_str.result.now live) before after old new (ending c.trace.result)) c.place_of-in-Trace.ensures c.trace.ensures in
     let served = subst (λ (n : List ℕ). Served (files_at (place_of query) ++ n ∷ []) (TraceOutcome (place_of query) n live) before after old new (ending c.trace.result)) name at_place in
-    subst (λ (a : Answer). Answers predictors words before after old new a.status) (sym c.of-in-Trace.ensures)
+    subst (λ (a : CommandEnd). Answers predictors words before after old new a.status) (sym c.of-in-Trace.ensures)
     (answers predictors words (trace query schedule live) (own, tt) before after old new c.trace.result served)
 
 pub returns-in-Some-choose-clause-answers : goal.returns-in-Some-choose-clause-answers
@@ -122,5 +122,5 @@ returns-in-None-choose-clause-answers g c words is =
     let own : IsCommand words (drill events seed speed) = subst (IsCommand words) (ap seen c.in-Drill.is) is in
     let name : c.deref-in-Drill.result.now ≡ string_bytes c.in-Drill.speed.predictor = search rules in
     let none : Contains predictors (string_bytes c.in-Drill.speed.predictor) → ⊥ = λ at. not_chosen _ _ c.args.predictors.items c.in-None-choose.ensures.first (subst (Contains predictors) (sym name) at) in
-    subst (λ (a : Answer). Answers predictors words before before old old a.status) (sym c.of-in-None-choose.ensures)
+    subst (λ (a : CommandEnd). Answers predictors words before before old old a.status) (sym c.of-in-None-choose.ensures)
     (refused predictors words (no_call predictors words (drill events seed speed) own none) before old)
