@@ -54,7 +54,7 @@ impl Predictors {
 
 // The status of the command line's words, by the predictors that they may choose. Nothing stands round the
 // jobs of the instances, and what a run ended with is dropped.
-fn run<R: Threads + Wait + Sync>(
+fn call_spectre<R: Threads + Wait + Sync>(
     threads: &R,
     rt: HostRuntime,
     err: &mut StdSink,
@@ -89,7 +89,7 @@ fn run<R: Threads + Wait + Sync>(
 
 fn main(rt: HostRuntime) -> ExitCode {
     let mut err = StdSink::new(rt, true);
-    match run(&rt, rt, &mut err) {
+    match call_spectre(&rt, rt, &mut err) {
         Ok(status) => ExitCode::from(status),
         Err(_) => {
             let _ = err.write_all(b"memory\n");

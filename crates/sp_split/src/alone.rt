@@ -15,8 +15,8 @@ use sp_core::Core;
 use sp_ports::{Intake, Outlet};
 use std::alloc::Global;
 
-// Runs a core that has done no step, as `drive` says; answers why the run has ended.
-fn run<I: Intake, O: Outlet>(
+// Feeds a core that has done no step and works off what was fed, until the run is over; answers why it is.
+fn feed_and_work<I: Intake, O: Outlet>(
     alloc: Global,
     core: &mut Core,
     batch: u32,
@@ -90,6 +90,6 @@ pub(crate) fn drive_alone<I: Intake, O: Outlet>(
     ensures same_out { (O.plan outlet.new ≡ O.plan outlet.old)
         × (O.token outlet.new ≡ O.token outlet.old) }
 {
-    let why = run(alloc, &mut core, batch, &mut *predictor, intake, outlet)?;
+    let why = feed_and_work(alloc, &mut core, batch, &mut *predictor, intake, outlet)?;
     Ok(Went { core, why })
 }

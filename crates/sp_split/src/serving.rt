@@ -139,7 +139,7 @@ fn help<L: Naming, G: Gate, R: Wait>(
 }
 
 // Feeds and turns until the run is over; answers why it is.
-fn run<I: Intake, O: Outlet, L: Naming, G: Gate, R: Wait>(
+fn feed_and_turn<I: Intake, O: Outlet, L: Naming, G: Gate, R: Wait>(
     office: &Office<'_, L, G, R>,
     desk: &mut Desk<L>,
     intake: &mut I,
@@ -214,7 +214,7 @@ pub(crate) fn serve<I: Intake, O: Outlet, L: Naming, G: Gate, R: Wait>(
         × (O.token outlet.new ≡ O.token outlet.old) }
 {
     let mut desk = desk;
-    let why = run(office, &mut desk, intake, outlet);
+    let why = feed_and_turn(office, &mut desk, intake, outlet);
     office.hub.close(office.rt, &mut desk.by);
     let Desk { splitter, by, seat } = desk;
     let end = match why {

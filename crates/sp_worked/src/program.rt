@@ -30,7 +30,7 @@ impl Caller for Program {
         call: Call,
     ) -> Result<Outcome, AllocError> {
         if call.single.is_empty() {
-            run(threads, alloc, call)
+            call_program(threads, alloc, call)
         } else {
             answered(alloc, call)
         }
@@ -52,7 +52,7 @@ fn answered(alloc: Global, call: Call) -> Result<Outcome, AllocError> {
 }
 
 // What the program leaves, whose runs may choose among these predictors.
-fn run<R: Threads + Wait + Sync>(
+fn call_program<R: Threads + Wait + Sync>(
     threads: &R,
     alloc: Global,
     call: Call,
@@ -64,11 +64,11 @@ fn run<R: Threads + Wait + Sync>(
     predictors.push(Box::new(alloc, Zero)?)?;
     predictors.push(Box::new(alloc, Greatest)?)?;
     predictors.push(Box::new(alloc, Fickle { learned: 0 })?)?;
-    run_by(threads, alloc, call, predictors)
+    call_with(threads, alloc, call, predictors)
 }
 
 // The same with the predictors.
-fn run_by<R: Threads + Wait + Sync>(
+fn call_with<R: Threads + Wait + Sync>(
     threads: &R,
     alloc: Global,
     call: Call,

@@ -10,7 +10,7 @@ use Rattle.sp_split.proofs.Going.{fed_since, fed_as, drove_short, fell_short}
 use Rattle.sp_split.proofs.Over.{drove_over, fed_on, fed_work, going_on, put_on, worked_any}
 use Rattle.sp_split.proofs.Taken.{took_first}
 use Rattle.sp_split.proofs.Turns.{on_ok}
-use Rattle.sp_split.proofs.alone.run.Goals as goal
+use Rattle.sp_split.proofs.alone.feed_and_work.Goals as goal
 
 pub returns-in_err-fed-clause-short : goal.returns-in_err-fed-clause-short
 returns-in_err-fed-clause-short g c =

@@ -6,7 +6,7 @@ use Rattle.sp_splitter.specs.Stages.{IsSpreading}
 use Rattle.sp_split.specs.Serving.{CanTurn}
 use Rattle.sp_split.specs.Stages.{IsFed}
 use Rattle.sp_split.proofs.Going.{Going}
-use Rattle.sp_split.proofs.serving.run.Given as goal
+use Rattle.sp_split.proofs.serving.feed_and_turn.Given as goal
 
 abbrev pub invariant-loop : goal.invariant-loop
 invariant-loop g l = record {

@@ -1,7 +1,7 @@
 use Rattle.std.proofs.Common.{◌≡◌, ◌≤◌, false, []}
 use Rattle.sp_spread.specs.Journaled.{MakesNoChild}
 use Rattle.sp_split.proofs.Going.{Going}
-use Rattle.sp_split.proofs.alone.run.Given as goal
+use Rattle.sp_split.proofs.alone.feed_and_work.Given as goal
 
 abbrev pub invariant-loop : goal.invariant-loop
 invariant-loop g l = record {

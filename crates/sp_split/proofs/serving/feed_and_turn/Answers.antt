@@ -9,7 +9,7 @@ use Rattle.sp_splitter.specs.Stages.{IsSpreading}
 use Rattle.sp_split.proofs.Going.{going_none, fell_short}
 use Rattle.sp_split.proofs.Over.{drove_over, fed_turn, going_on, put_on, went_any}
 use Rattle.sp_split.proofs.Turns.{on_any, fed_later, unended_first, spreading_first, few_first, few_turn, read_first}
-use Rattle.sp_split.proofs.serving.run.Goals as goal
+use Rattle.sp_split.proofs.serving.feed_and_turn.Goals as goal
 
 pub loop-init : goal.loop-init
 loop-init g c =
