@@ -5,7 +5,7 @@ use std::alloc::Global;
 
 /// A worked row: what it shows, a call, and what is to come of it.
 #[derive(Drop)]
-pub(crate) struct Row {
+pub struct Row {
     pub(crate) name: String,
     pub(crate) call: Call,
     pub(crate) expected: Outcome,

@@ -1,6 +1,6 @@
 -- A drill: its plan, its run over generated rows, and its summary.
 use Rattle.std.proofs.Common.{◌⊎◌, ◌≡◌, ◌≤◌, inl, inr, ⊎_elim, ℕ, true, List, [], length, Option, Some, None, Ok, Err, refl, sym, ◌∙◌, ap, subst, arith}
-use Rattle.std.specs.Prelude.{Result, IfErr}
+use Rattle.std.specs.Prelude.{◌≢◌, Result, IfErr}
 use Rattle.sp_base.specs.Limits.{event_limit}
 use Rattle.sp_base.specs.Numbers.{with_numbers}
 use Rattle.sp_cut.specs.Growth.{RowsStay}
@@ -58,6 +58,12 @@ quiet (inr full) = omega (arith, full)
 -- where there is an end and a run was done, it is such a one
 pub end_of : (Is : Ended → Type 0) (s : Status) (o : Option Ended) (e : Ended) → s ≡ Done → o ≡ Some e → WhereDone Is s o → Is e
 end_of Is s o e done some report = subst (λ (x : Option Ended). WhereDone Is Done x) some (subst (λ (t : Status). WhereDone Is t o) done report) refl
+
+-- an end stays what it is where the status stays unless it was done
+pub stays_reported : (Is : Ended → Type 0) (s later : Status) (o : Option Ended) → (s ≡ Done) ⊎ (s ≡ Memory) → (s ≢ Done → later ≡ s) → WhereDone Is s o → WhereDone Is later o
+stays_reported Is s later None either other report = λ is. report (sym (other report) ∙ is)
+stays_reported Is s later (Some e) (inl done) other report = λ _. report done
+stays_reported Is s later (Some e) (inr memory) other report = let same = other (λ is. cc) in λ is. absurd (cc)
 
 module _ (stay : RowsStay) (has : DrillQueryHasPlan) (rows : GeneratedRowsAreRead) (q : Plan) (is : IsPlanFor drill_query q) (events seed : ℕ) (few : events ≤ event_limit) (old new : Outside)
     (told : old.input.left ≡ Some (generated events seed)) (no_read : Rose old.input.faults new.input.faults → ⊥) (no_write : Rose old.out.faults new.out.faults → ⊥)
@@ -147,11 +153,6 @@ module _ (has : DrillQueryHasPlan) (rows : GeneratedRowsAreRead) (events seed : 
             (subst (λ (k : SinkState). Made (λ bytes ended. DrillOutcome events seed) (outside input old) (outside input k) (ending Memory)) (sym none.1)
             (made_unwritten has.plan has.is events seed input old))
 
+    -- and the end that was reported of the run is reported of it
     pub drill_reported : WhereDone (ReportsDrill events seed speed) later ended
-    drill_reported = by either ended report sums
-      where
-        by : (s ≡ Done) ⊎ (s ≡ Memory) → (o : Option Ended) → WhereDone (ReportsDrill events seed speed) s o → SumsUp s o old new later → WhereDone (ReportsDrill events seed speed) later o
-        by (inl done) None report sums = absurd (report done)
-        by (inl done) (Some e) report sums = λ _. report done
-        by (inr memory) None report sums = let none = sums.other (λ is. cc) in λ is. cc
-        by (inr memory) (Some e) report sums = let none = sums.other (λ is. cc) in λ is. cc
+    drill_reported = stays_reported (ReportsDrill events seed speed) s later ended either (λ other. (sums.other other).0) report

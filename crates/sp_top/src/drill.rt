@@ -148,7 +148,7 @@ fn write_summary<K: Sink>(alloc: Global, core: &Core, out: &mut K) -> Status
 
 // Writes the summary of a run that was done, and answers how that went; what the run ended with stays.
 fn sum_up<K: Sink>(alloc: Global, answer: &mut CommandEnd, out: &mut K)
-    requires { WhereDone CanSum answer.old.status answer.old.ended }
+    requires ran { WhereDone CanSum answer.old.status answer.old.ended }
     ensures ended { answer.new.ended ≡ answer.old.ended }
     ensures status { SumsUp answer.old.status answer.old.ended
         (K.state out.old) (K.state out.new) answer.new.status }

@@ -6,7 +6,7 @@ use crate::hostile::{Fickle, Greatest, Zero};
 use sp_calls::{answer, beginning_of, counts_of};
 use sp_chance::{Even, Markov, Predictor, Steady};
 use sp_io::{MemFiles, MemSink, MemSource};
-use sp_sheet::{Call, Caller, Outcome, Told};
+use sp_sheet::{Call, Outcome, Told};
 use sp_split::Ended;
 use sp_top::spectre;
 use std::alloc::{AllocError, Global};
@@ -19,21 +19,16 @@ const ROOM: u32 = 1_000_000;
 // The share that the steady predictor holds for likely, in 65,536ths.
 const STEADY: u32 = 49_152;
 
-/// Makes calls: of the whole program by the top call, and single ones.
-pub(crate) struct Program;
-
-impl Caller for Program {
-    fn outcome<R: Threads + Wait + Sync>(
-        &self,
-        threads: &R,
-        alloc: Global,
-        call: Call,
-    ) -> Result<Outcome, AllocError> {
-        if call.single.is_empty() {
-            call_program(threads, alloc, call)
-        } else {
-            answered(alloc, call)
-        }
+/// What comes of a call: of the whole program by the top call, which may have these threads, or of a single one.
+pub(crate) fn outcome<R: Threads + Wait + Sync>(
+    threads: &R,
+    alloc: Global,
+    call: Call,
+) -> Result<Outcome, AllocError> {
+    if call.single.is_empty() {
+        call_program(threads, alloc, call)
+    } else {
+        answered(alloc, call)
     }
 }
 

@@ -6,8 +6,8 @@ use Rattle.sp_top.specs.Report.{ReportsDrill, WhereDone}
 use Rattle.sp_top.proofs.Drilling.{can_sum, drill_made, drill_reported}
 use Rattle.sp_top.proofs.drill.drill.Goals as goal
 
-pub sum_up-requires : goal.sum_up-requires
-sum_up-requires g c =
+pub sum_up-requires-clause-ran : goal.sum_up-requires-clause-ran
+sum_up-requires-clause-ran g c κs within =
     let ran = c.run_rows-answer in
     can_sum c.drill_query_has_plan.ensures c.generated_rows_are_read.ensures c.args.events c.args.seed c.requires.few (speed_seen c.args.speed.now) ran.result.status ran.result.ended ran.ensures.report
 
