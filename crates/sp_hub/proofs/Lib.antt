@@ -1,4 +1,5 @@
 mod Histories
 mod InOrder
 pub mod Seats
+pub mod Told
 mod Worked

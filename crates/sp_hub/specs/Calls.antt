@@ -1,6 +1,6 @@
 -- What each call on the locked state does.
 use Rattle.std.specs.Prelude.{ℕ, ◌+◌, ◌-◌, Bool, true, false, if◌then◌else◌, List, [], ◌∷◌, ◌++◌, map, Option, Some, None}
-use Rattle.std.specs.List.{count_by, range_with_len}
+use Rattle.std.specs.List.{count_by, filter, range_with_len}
 use Rattle.sp_hub.specs.declared.entry.HubEntry.{HubEntry}
 use Rattle.sp_hub.specs.declared.entry.HubEntry.TheVariants.{Post, Take, Put, Collect, Close}
 use Rattle.sp_hub.specs.declared.taken.Taken.{Taken}
@@ -80,3 +80,7 @@ fresh_poster room = record { last = 0; waiting = 0; room = room; closed = false;
 -- for each seat, by number, how many entries of a kind are its own
 abbrev pub by_seat : (ℕ → HubEntry → Bool) → ℕ → List HubEntry → List ℕ
 by_seat kind count entries = map (λ seat. count_by (kind seat) entries) (range_with_len 0 count)
+
+-- of these seats, the numbers of those whose last answer was that no job will come
+abbrev pub told_over : List Sitting → List ℕ
+told_over seats = map (λ seat. seat.number) (filter (λ seat. seat.over) seats)

@@ -1,8 +1,8 @@
 //! The hub: the locked state with its lock.
-ghost use Rattle.std.specs.Prelude.{◌≡◌, ℕ, ◌+◌, ◌-◌, ◌*◌, ◌<◌, ◌≤◌, ◌^◌, ◌↔◌, true, false, Some, None, IsOk, IfErr, IfOk, if◌then◌else◌, is_ok, [], vec_len, vec_capacity};
+ghost use Rattle.std.specs.Prelude.{◌≡◌, ℕ, ◌+◌, ◌-◌, ◌*◌, ◌<◌, ◌≤◌, ◌^◌, ◌↔◌, true, false, Some, None, IsOk, IfErr, IfOk, if◌then◌else◌, is_ok, [], length, vec_len, vec_capacity};
 ghost use Rattle.std.specs.List.{count_by, sum_by};
 ghost use Rattle.sp_hub.specs.History.{IsLegal, is_call, is_take_by, is_put_by};
-ghost use Rattle.sp_hub.specs.Calls.{posts, collects, takes, puts, fresh_seats, fresh_poster, by_seat};
+ghost use Rattle.sp_hub.specs.Calls.{posts, collects, takes, puts, fresh_seats, fresh_poster, by_seat, told_over};
 
 use crate::Memory;
 use crate::entry::HubEntry;
@@ -19,7 +19,8 @@ use std::alloc::Global;
 use std::marker::Model;
 use std::sync::{Condvar, Mutex, Wait};
 
-/// What a hub did, with the takes and puts of each seat by its number.
+/// What a hub did, with the takes and puts of each seat by its number, and the seats that were told that no job will
+/// come.
 #[derive(Drop)]
 pub struct History {
     /// Each call that changed the state behind the lock, in the order in which the lock was held.
@@ -28,6 +29,8 @@ pub struct History {
     pub takes: Listed<u64>,
     /// How many pieces each seat put, by its number.
     pub puts: Listed<u64>,
+    /// The numbers of the seats whose last answer was that no job will come, in the order in which the seats came back.
+    pub over: Listed<u32>,
 }
 
 /// An exchange that threads share. Contracts see the number of its seats and its room.
@@ -42,6 +45,7 @@ pub struct Hub<J: Named, P: Named, L: Naming> {
     room: u32,
     takes: Vec<u64>,
     puts: Vec<u64>,
+    over: Vec<u32>,
 }
 
 impl<J: Named, P: Named, L: Naming> Model for Hub<J, P, L> {
@@ -52,7 +56,7 @@ impl<J: Named, P: Named, L: Naming> Model for Hub<J, P, L> {
 
     ghost view = { λ h. record { seats = h.seats; room = h.room } };
 
-    ghost invariant = { λ h. (L.parts ≡ h.seats + 1) × (h.takes.items ≡ []) × (h.puts.items ≡ []) × (h.seats ≤ vec_capacity h.takes) × (h.seats ≤ vec_capacity h.puts) };
+    ghost invariant = { λ h. (L.parts ≡ h.seats + 1) × (h.takes.items ≡ []) × (h.puts.items ≡ []) × (h.over.items ≡ []) × (h.seats ≤ vec_capacity h.takes) × (h.seats ≤ vec_capacity h.puts) × (h.seats ≤ vec_capacity h.over) };
 }
 
 /// What `finish` hands back where a seat is missing.
@@ -88,6 +92,7 @@ impl<J: Named, P: Named, L: Naming> Hub<J, P, L> {
         }
         let takes = Vec::with_capacity(alloc, seats as usize)?;
         let puts = Vec::with_capacity(alloc, seats as usize)?;
+        let over = Vec::with_capacity(alloc, seats as usize)?;
         let hub = Hub {
             shared: Mutex::new(Shared::new(Locked::new(alloc, book)?)),
             listed: Condvar::new(),
@@ -96,6 +101,7 @@ impl<J: Named, P: Named, L: Naming> Hub<J, P, L> {
             room,
             takes,
             puts,
+            over,
         };
         Ok((hub, by, made))
     }
@@ -202,6 +208,7 @@ impl<J: Named, P: Named, L: Naming> Hub<J, P, L> {
             (λ h. count_by is_call h.entries ≡ by.calls + sum_by (λ s. s.calls) seats.items) }
         ensures takes { IfOk result (λ h. h.takes ≡ by_seat is_take_by self.seats h.entries) }
         ensures puts { IfOk result (λ h. h.puts ≡ by_seat is_put_by self.seats h.entries) }
+        ensures over { IfOk result (λ h. h.over ≡ told_over seats.items) }
         ensures back { IfErr result (λ u. (u.hub ≡ self) × (u.by ≡ by) × (u.seats ≡ seats)) }
     {
         if seats.len() != self.seats as usize {
@@ -219,7 +226,9 @@ impl<J: Named, P: Named, L: Naming> Hub<J, P, L> {
             room: _,
             takes,
             puts,
+            over,
         } = self;
+        let over = told_of(over, seats.as_slice());
         let mut all = by.into_share();
         for seat in seats {
             all.merge(seat.into_share());
@@ -231,8 +240,22 @@ impl<J: Named, P: Named, L: Naming> Hub<J, P, L> {
             entries: Listed::of(entries),
             takes: Listed::of(takes),
             puts: Listed::of(puts),
+            over: Listed::of(over),
         })
     }
+}
+
+fn told_of<P: Named, L: Naming>(into: Vec<u32>, seats: &[Seat<P, L>]) -> Vec<u32>
+    requires { (into.items ≡ []) × (length seats.now ≤ vec_capacity into) }
+    ensures { result.items ≡ told_over seats.now }
+{
+    let mut into = into;
+    for seat in seats {
+        if seat.is_over() {
+            into.push_reserved(seat.number());
+        }
+    }
+    into
 }
 
 fn takes_by_seat(into: Vec<u64>, entries: &[HubEntry], count: u32) -> Vec<u64>

@@ -1,4 +1,4 @@
-ghost use Rattle.std.specs.Prelude.{◌≡◌, true, None, vec_len, vec_capacity};
+ghost use Rattle.std.specs.Prelude.{◌≡◌, true, None, map, vec_len, vec_capacity};
 ghost use Rattle.std.specs.List.{All};
 ghost use Rattle.sp_instance.specs.Doing.{Worked};
 ghost use Rattle.sp_instance.specs.Seats.{PutAll};
@@ -53,7 +53,7 @@ pub fn work<L: Naming, G: Gate, R: Wait>(
 
 /// An instance for each seat, each on a thread of its own where one can be made, else one after another, until
 /// each is answered that the hub is closed and empty; where there is no seat, nothing is done. No seat is lost,
-/// whatever memory is refused.
+/// whatever memory is refused, and each stands where it stood.
 pub fn work_all<L: Naming + Send + Sync, G: Gate, R: Threads + Wait + Sync>(
     rt: &R,
     alloc: Global,
@@ -64,6 +64,7 @@ pub fn work_all<L: Naming + Send + Sync, G: Gate, R: Threads + Wait + Sync>(
     requires free { All (λ s. s.holding ≡ None) seats.old.items }
     ensures len { vec_len seats.new ≡ vec_len seats.old }
     ensures capacity { vec_capacity seats.new ≡ vec_capacity seats.old }
+    ensures numbers { map (λ s. s.number) seats.new.items ≡ map (λ s. s.number) seats.old.items }
     ensures free { All (λ s. s.holding ≡ None) seats.new.items }
     ensures over { All (λ s. s.over ≡ true) seats.new.items }
 {
@@ -77,7 +78,8 @@ pub fn work_all<L: Naming + Send + Sync, G: Gate, R: Threads + Wait + Sync>(
         count,
         &|_: usize, seat: &mut Seat<Piece, L>|
             requires { seat.old.holding ≡ None }
-            ensures { (seat.new.holding ≡ None) × (seat.new.over ≡ true) }
+            ensures { (seat.new.holding ≡ None) × (seat.new.over ≡ true)
+                × (seat.new.number ≡ seat.old.number) }
         { work(rt, alloc, hub, seat, gate) },
     );
 }

@@ -33,6 +33,7 @@ came_about n c calls h some came wound law = record {
   legal = wound.legal;
   takes = wound.takes ∙ ap (λ (k : ℕ). by_seat is_take_by k h.entries) (sym (seats_are n some));
   puts = wound.puts ∙ ap (λ (k : ℕ). by_seat is_put_by k h.entries) (sym (seats_are n some));
+  over = λ seat some few. wound.over seat some (omega (arith, few));
 }
 
 take_none : (k : ℕ) → ◌≡◌ {A = List HubEntry} (take k []) []
@@ -47,7 +48,7 @@ no_entry_legal = record {
 }
 
 -- without one
-pub came_alone : (c : Running) (h : History) → MakesNoChild c.journal → h ≡ record { entries = []; takes = []; puts = [] } → CameAbout 0 c h
+pub came_alone : (c : Running) (h : History) → MakesNoChild c.journal → h ≡ record { entries = []; takes = []; puts = []; over = [] } → CameAbout 0 c h
 came_alone c h alone none = subst (CameAbout 0 c) (sym none) (record {
   alone = λ _. (alone, refl);
   spread = λ no. absurd (omega (arith, no));
@@ -56,6 +57,7 @@ came_alone c h alone none = subst (CameAbout 0 c) (sym none) (record {
   legal = no_entry_legal;
   takes = refl;
   puts = refl;
+  over = λ seat some few. absurd (omega (arith, some, few));
 })
 
 -- nothing was given

@@ -1,6 +1,6 @@
 -- What a run of a core comes to, from an intake to an outlet.
 use Rattle.std.specs.Prelude.{◌≡◌, ◌≢◌, ◌⊎◌, ℕ, zero, suc, ◌+◌, ◌<◌, ◌≤◌, Bool, true, false, List, [], ◌∷◌, ◌++◌}
-use Rattle.std.specs.List.{count_by}
+use Rattle.std.specs.List.{count_by, Contains}
 use Rattle.sp_io.specs.Outside.{Rose}
 use Rattle.sp_plan.specs.declared.event.Event.{Event}
 use Rattle.sp_plan.specs.declared.found.Match.{Match}
@@ -62,7 +62,8 @@ seats_for (suc n) = suc n + 1
 
 -- How a run came about. Without an instance each version was the root from its beginning, and no hub was used. With instances the journal
 -- has spread its work over one place more than there are, and at the end no more tickets of live versions are out than places; the hub was
--- called at least as often as a piece that was read came home. Its history tells the takes and the puts of each seat.
+-- called at least as often as a piece that was read came home. Its history tells the takes and the puts of each seat; and the seats of the
+-- instances, which are those from 1 on, were each answered last that no job will come.
 pub record CameAbout (instances : ℕ) (c : Running) (h : History) : Type 0 where
   pub alone : instances ≡ 0 → MakesNoChild c.journal × (h.entries ≡ [])
   pub spread : 0 < instances → Spread c.plan c.bound instances c.journal
@@ -71,3 +72,4 @@ pub record CameAbout (instances : ℕ) (c : Running) (h : History) : Type 0 wher
   pub legal : IsLegal h.entries
   pub takes : h.takes ≡ by_seat is_take_by (seats_for instances) h.entries
   pub puts : h.puts ≡ by_seat is_put_by (seats_for instances) h.entries
+  pub over : (seat : ℕ) → 0 < seat → seat ≤ instances → Contains h.over seat

@@ -1,10 +1,10 @@
 -- What a splitter does between an intake and an outlet.
-use Rattle.std.specs.Prelude.{◌≡◌, ℕ, ◌+◌, ◌≤◌, Bool, false, List, None, Ok, Err, IfOk, OnErr}
+use Rattle.std.specs.Prelude.{◌≡◌, ℕ, ◌+◌, ◌<◌, ◌≤◌, Bool, false, List, None, Ok, Err, IfOk, OnErr}
 use Rattle.std.specs.declared.result.Result.{Result}
 use Rattle.sp_plan.specs.declared.event.Event.{Event}
 use Rattle.sp_plan.specs.declared.found.Match.{Match}
 use Rattle.sp_plan.specs.declared.plan.Plan.{Plan}
-use Rattle.std.specs.List.{count_by}
+use Rattle.std.specs.List.{count_by, Contains}
 use Rattle.sp_base.specs.Limits.{batch_limit}
 use Rattle.sp_hub.specs.Calls.{by_seat}
 use Rattle.sp_hub.specs.History.{is_call, is_put_by, is_take_by, IsLegal}
@@ -52,12 +52,14 @@ pub record CameBy (n : ℕ) (c : Running) (calls : ℕ) : Type 0 where
   pub few : out_count c.machine ≤ n + 1
   pub read : readings_entered c.journal ≤ calls
 
--- What a hub of so many seats did, as its history tells it, where its poster made at least so many calls.
+-- What a hub of so many seats did, as its history tells it, where its poster made at least so many calls: each seat but that of number 0 was
+-- answered last that no job will come.
 pub record WoundUp (seats calls : ℕ) (h : History) : Type 0 where
   pub legal : IsLegal h.entries
   pub called : calls ≤ count_by is_call h.entries
   pub takes : h.takes ≡ by_seat is_take_by seats h.entries
   pub puts : h.puts ≡ by_seat is_put_by seats h.entries
+  pub over : (seat : ℕ) → 0 < seat → seat < seats → Contains h.over seat
 
 -- A splitter served n instances, and ended so, with so many calls of its poster.
 pub record Serves {E : Type 0} (gave : List Event → Type 0) (ended : Bool) (stopped : Type 0) (n : ℕ) (c : Running) (old new : OutletState) (end : Result went.Went E) (calls : ℕ) : Type 0 where

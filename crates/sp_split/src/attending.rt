@@ -1,5 +1,5 @@
 // Instances at a hub, each at a seat of its own.
-ghost use Rattle.std.specs.Prelude.{◌≡◌, true, None, length, vec_capacity};
+ghost use Rattle.std.specs.Prelude.{◌≡◌, true, None, length, map, vec_capacity};
 ghost use Rattle.std.specs.List.{All};
 
 use sp_hub::{Hub, Naming, Seat};
@@ -43,7 +43,7 @@ impl<L: Naming> Crew<L> {
 
 /// An instance for each of the seats, each on a thread of its own where one can be made, else one after another,
 /// until each is answered that the hub is closed and empty; without a seat nothing is done. No seat is lost,
-/// whatever memory is refused.
+/// whatever memory is refused, and each stands where it stood.
 pub(crate) fn attend_all<L: Naming + Send + Sync, G: Gate, R: Threads + Wait + Sync>(
     rt: &R,
     alloc: Global,
@@ -54,6 +54,7 @@ pub(crate) fn attend_all<L: Naming + Send + Sync, G: Gate, R: Threads + Wait + S
     requires free { All (λ s. s.holding ≡ None) crew.old.seats }
     ensures len { length crew.new.seats ≡ length crew.old.seats }
     ensures room { crew.new.room ≡ crew.old.room }
+    ensures numbers { map (λ s. s.number) crew.new.seats ≡ map (λ s. s.number) crew.old.seats }
     ensures over { All (λ s. s.over ≡ true) crew.new.seats }
 {
     work_all(rt, alloc, hub, &mut crew.seats, gate);

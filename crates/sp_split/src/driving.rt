@@ -102,12 +102,13 @@ fn drive_lone<I: Intake, O: Outlet>(
 
 // What no hub did.
 fn no_history(alloc: Global) -> History
-    ensures { result ≡ record { entries = []; takes = []; puts = [] } }
+    ensures { result ≡ record { entries = []; takes = []; puts = []; over = [] } }
 {
     History {
         entries: Listed::of(Vec::new(alloc)),
         takes: Listed::of(Vec::new(alloc)),
         puts: Listed::of(Vec::new(alloc)),
+        over: Listed::of(Vec::new(alloc)),
     }
 }
 

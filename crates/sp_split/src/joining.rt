@@ -1,6 +1,6 @@
 // A splitter and its instances side by side, at a hub of their own.
-ghost use Rattle.std.specs.Prelude.{◌≡◌, ◌≤◌, ◌<◌, ◌+◌, [], true, None, List, length, vec_len, vec_capacity};
-ghost use Rattle.std.specs.List.{All};
+ghost use Rattle.std.specs.Prelude.{◌≡◌, ◌≤◌, ◌<◌, ◌+◌, [], true, None, List, drop, length, map, vec_len, vec_capacity};
+ghost use Rattle.std.specs.List.{All, range_with_len};
 ghost use Rattle.std.specs.Thread.{IsSync};
 ghost use Rattle.sp_base.specs.Limits.{batch_limit};
 ghost use Rattle.sp_io.specs.Outside.{Rose};
@@ -34,6 +34,7 @@ fn part<L: Naming>(seats: Vec<Seat<Piece, L>>) -> (Seat<Piece, L>, Vec<Seat<Piec
     requires free { All (λ s. s.holding ≡ None) seats.items }
     ensures mine { result.0.holding ≡ None }
     ensures others { All (λ s. s.holding ≡ None) result.1.items }
+    ensures rest { result.1.items ≡ drop 1 seats.items }
     ensures len { vec_len result.1 + 1 ≡ vec_len seats }
     ensures room { vec_len result.1 < vec_capacity result.1 }
 {
@@ -54,6 +55,7 @@ fn beside<L: Naming + Send + Sync, I: Intake, O: Outlet, G: Gate, R: Threads + W
         desk.splitter.kept.items desk.by desk.seat (I.plan ways.intake) (O.plan ways.outlet) }
     ensures len { length result.0.seats ≡ length crew.seats }
     ensures room { result.0.room ≡ crew.room }
+    ensures numbers { map (λ s. s.number) result.0.seats ≡ map (λ s. s.number) crew.seats }
     ensures over { All (λ s. s.over ≡ true) result.0.seats }
     ensures served { Serves (λ events. I.gave ways.intake events result.2.intake)
         (I.ended result.2.intake)
@@ -78,6 +80,7 @@ fn beside<L: Naming + Send + Sync, I: Intake, O: Outlet, G: Gate, R: Threads + W
         || -> Crew<L>
             requires { IsSync R.row × All (λ s. s.holding ≡ None) crew.seats }
             ensures { (length result.seats ≡ length crew.seats) × (result.room ≡ crew.room)
+                × (map (λ s. s.number) result.seats ≡ map (λ s. s.number) crew.seats)
                 × All (λ s. s.over ≡ true) result.seats }
         {
             let mut crew = crew;
@@ -105,7 +108,7 @@ fn beside<L: Naming + Send + Sync, I: Intake, O: Outlet, G: Gate, R: Threads + W
     (crew, served, ways)
 }
 
-// What the hub did, once all its seats are back.
+// What the hub did, once all its seats are back, those of the instances and the splitter's own.
 fn wind_up<L: Naming>(
     hub: Hub<Job, Piece, L>,
     by: Poster<Piece, L>,
@@ -114,6 +117,8 @@ fn wind_up<L: Naming>(
 ) -> History
     requires whole { vec_len others + 1 ≡ hub.seats }
     requires room { vec_len others < vec_capacity others }
+    requires numbers { map (λ s. s.number) others.items ≡ range_with_len 1 (vec_len others) }
+    requires over { All (λ s. s.over ≡ true) others.items }
     ensures { WoundUp hub.seats by.calls result }
 {
     let mut seats = others;

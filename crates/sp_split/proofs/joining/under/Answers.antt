@@ -1,12 +1,13 @@
 use denote.Param.Send.{sendable}
-use Rattle.std.proofs.Common.{◌≡◌, ◌∙◌, ◌+◌, ℕ, List, None, length, sym, ap, subst, arith}
-use Rattle.std.specs.List.{All}
+use Rattle.std.proofs.Common.{◌≡◌, ◌∙◌, ◌+◌, ◌-◌, ℕ, true, List, None, drop, length, map, vec_len, sym, ap, subst, arith}
+use Rattle.std.specs.List.{All, range_with_len}
 use Rattle.std.proofs.lemmas.List.FromFn.{length-map-range_with_len}
 use Rattle.sp_io.specs.Outside.{Rose}
 use Rattle.sp_plan.specs.declared.event.Event.{Event}
 use Rattle.sp_hub.specs.State.{Extent, Sitting}
 use Rattle.sp_hub.specs.Calls.{fresh_seat}
 use Rattle.sp_hub.proofs.Seats.{all_free}
+use Rattle.sp_hub.proofs.Told.{behind_first}
 use Rattle.sp_piece.proofs.Crossing.{job_sent, piece_sent}
 use Rattle.sp_split.specs.Crews.{Crewed}
 use Rattle.sp_split.specs.Serving.{Ends, WoundUp}
@@ -69,6 +70,26 @@ wind_up-history-requires-clause-room g c =
     let back_room = c.into_seats.ensures.room in
     let kept = c.into_seats.result.ok in
     omega arith
+
+pub wind_up-history-requires-clause-numbers : goal.wind_up-history-requires-clause-numbers
+wind_up-history-requires-clause-numbers g c =
+    let numbers = λ (l : List Sitting). map (λ (s : Sitting). s.number) l in
+    let are = ap length c.in-Ok.ensures.seats in
+    let made = length-map-range_with_len fresh_seat 0 c.args.opened.seats in
+    let held = c.in-Ok.made.2.ok in
+    let fewer = c.part-seat.ensures.len in
+    let others = c.part-seat.result.1.ok in
+    let same = c.beside-crew.ensures.len in
+    let crew = ap (λ (x : Crewed). length x.seats) c.of-crew.ensures in
+    let back = ap length c.into_seats.ensures.seats in
+    let kept = c.into_seats.result.ok in
+    let count : c.args.opened.seats - 1 ≡ vec_len c.into_seats.result = omega arith in
+    ap numbers c.into_seats.ensures.seats ∙ c.beside-crew.ensures.numbers ∙ ap (λ (x : Crewed). numbers x.seats) c.of-crew.ensures
+    ∙ ap numbers c.part-seat.ensures.rest ∙ ap (λ (l : List Sitting). numbers (drop 1 l)) c.in-Ok.ensures.seats
+    ∙ behind_first c.args.opened.seats ∙ ap (range_with_len 1) count
+
+pub wind_up-history-requires-clause-over : goal.wind_up-history-requires-clause-over
+wind_up-history-requires-clause-over g c = subst (All (λ (s : Sitting). s.over ≡ true)) (sym c.into_seats.ensures.seats) c.beside-crew.ensures.over
 
 pub returns-clause-ends : goal.returns-clause-ends
 returns-clause-ends g c =

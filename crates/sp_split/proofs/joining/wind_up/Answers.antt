@@ -1,5 +1,8 @@
 use denote.Param.Send.{sendable}
-use Rattle.std.proofs.Common.{arith}
+use Rattle.std.proofs.Common.{◌∙◌, ℕ, List, vec_len, sym, ap, subst, arith}
+use Rattle.std.specs.List.{Contains}
+use Rattle.sp_hub.specs.Calls.{told_over}
+use Rattle.sp_hub.proofs.Told.{each_told}
 use Rattle.sp_piece.proofs.Crossing.{job_sent, piece_sent}
 use Rattle.sp_split.proofs.joining.wind_up.Goals as goal
 
@@ -15,4 +18,7 @@ returns g c = record {
   called = let counted = c.in-Ok.ensures.counted in omega arith;
   takes = c.in-Ok.ensures.takes;
   puts = c.in-Ok.ensures.puts;
+  over = λ seat some few.
+      let told = each_told c.args.others.items c.args.mine (vec_len c.args.others) c.requires.over c.requires.numbers seat some (let whole = c.requires.whole in omega (arith, whole, few)) in
+      subst (λ (l : List ℕ). Contains l seat) (sym (c.in-Ok.ensures.over ∙ ap told_over c.push_reserved.ensures.items)) told;
 }
