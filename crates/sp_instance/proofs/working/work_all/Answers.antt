@@ -1,6 +1,10 @@
 -- The closure that each instance runs captures four references; the hub may be shared since its jobs and pieces may cross.
 use denote.Param.Send.{IsSync}
 use denote.Param.{param}
+use Rattle.std.proofs.Common.{◌≡◌, ◌∙◌, ℕ, ◌<◌, ◌++◌, List, length, get_or, take, drop, map, sym, ap, rules, arith}
+use Rattle.std.proofs.lemmas.List.{take_at}
+use Rattle.sp_hub.specs.State.{Sitting}
+use Rattle.sp_hub.proofs.Told.{same_numbers}
 use Rattle.std.proofs.alloc.Global.TheSendSync as global
 use Rattle.sp_hub.proofs.exchange.Hub.TheSendSync as hub
 use Rattle.sp_hub.specs.contracts.exchange.Hub as hub_row
@@ -26,3 +30,13 @@ for_each_mut-requires-sync-F g c κs within =
         λ q. tt,
       );
     }
+
+pub returns-clause-numbers : goal.returns-clause-numbers
+returns-clause-numbers g c =
+    let first : List Sitting = c.args.seats.now.items in
+    let last : List Sitting = c.for_each_mut.new.s in
+    let held = c.args.seats.now.ok in
+    let long : length last ≡ length first = search rules in
+    let whole : take c.args.seats.now.len (last ++ drop (length last) first) ≡ last = take_at last (drop (length last) first) c.args.seats.now.len (search rules) in
+    let each : (k : ℕ) (d : Sitting) → k < length first → (get_or last k d).number ≡ (get_or first k d).number = λ k d below. search rules in
+    ap (λ (l : List Sitting). map (λ (s : Sitting). s.number) l) whole ∙ same_numbers first last long each
