@@ -28,12 +28,12 @@ use std::thread::Threads;
 /// comes only where the intake reached the end of its input, `Stopped` only where its count of stops rose,
 /// `Refused` only where the outlet's count of faults did; the windows that are closed are finished for the first
 /// two, and all their matches were taken. After want of memory the outlet took the first matches of what the
-/// events given come to.
+/// events given come to. The history of the hub names the seats of the instances, which are those from 1 on, as told at
+/// the end that no job will come.
 ///
-/// Besides, and no clause says so: an instance has a thread of its own where one can be made, does each job inside
-/// the gate, and works until the hub is closed and no job is left; at most `batch` events, 1 to 1,024, are fed
-/// between two turns; with instances a lease is for at most so many; and it is this predictor that is asked and
-/// taught.
+/// Besides, and no clause says so: an instance has a thread of its own where one can be made, and does each job inside
+/// the gate; at most `batch` events, 1 to 1,024, are fed between two turns; with instances a lease is for at most so
+/// many; and it is this predictor that is asked and taught.
 pub fn drive<I: Intake, O: Outlet, G: Gate, R: Threads + Wait + Sync>(
     rt: &R,
     alloc: Global,

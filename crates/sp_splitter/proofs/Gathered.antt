@@ -5,6 +5,7 @@ use Rattle.std.proofs.lemmas.List.Folds.{flat_map-map}
 use Rattle.sp_chance.specs.Taught.{TaughtOn}
 use Rattle.sp_chance.proofs.Teaching.{taught_none, taught_then}
 use Rattle.sp_match.specs.declared.moves.Moves.{Moves}
+use Rattle.sp_match.specs.public.Matching.{runs_of}
 use Rattle.sp_hub.specs.Calls.{collects}
 use Rattle.sp_hub.specs.State.{Posting}
 use Rattle.sp_group.specs.declared.step.Step.TheVariants as s
@@ -104,7 +105,10 @@ brings_all_then a b c first second third piece all one is =
 
 -- the moves of a piece tell what its reading tells
 pub told_of : (p : Pieced) (moves : List Moves) → Tells p moves → AreTold p (wanted_of moves)
-told_of p moves tells s stands = sym (flat_map-map (λ (a : Account). a.wanted) seen_moves moves) ∙ ap (λ (a : Account). a.wanted) (tells s stands)
+told_of p moves tells = record {
+  some = (runs_of p.job.before, record { open_is = refl; started_is = refl });
+  told = λ s stands. sym (flat_map-map (λ (a : Account). a.wanted) seen_moves moves) ∙ ap (λ (a : Account). a.wanted) (tells s stands);
+}
 
 -- of a version that is live
 pub lesson_live : (o : Option Version) (p : Pieced) (pairs : List (ℕ × ℕ)) → is_some o ≡ true → AreTold p pairs → IsLesson o p pairs

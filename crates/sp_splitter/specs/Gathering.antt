@@ -17,9 +17,11 @@ use Rattle.sp_core.specs.Running.{Running}
 abbrev pub wanted_of : List Moves → List (ℕ × ℕ)
 wanted_of moves = flat_map (λ entry. entry.wanted.items) moves
 
--- These pairs are what the reading of a piece tells of the events that runs wanted, from any runs for which its job's matcher stands.
-abbrev pub AreTold : Pieced → List (ℕ × ℕ) → Type 0
-AreTold p pairs = (s : State) → Stands p.job.before s → pairs ≡ (joined (accounts_to (loan p.job) s p.read p.closed)).wanted
+-- These pairs are what the reading of a piece tells of the events that runs wanted, from any runs for which its job's matcher stands; and
+-- there are runs for which it stands.
+pub record AreTold (p : Pieced) (pairs : List (ℕ × ℕ)) : Type 0 where
+  pub some : (s : State) × Stands p.job.before s
+  pub told : (s : State) → Stands p.job.before s → pairs ≡ (joined (accounts_to (loan p.job) s p.read p.closed)).wanted
 
 -- What is learned of a piece is what its reading tells, where its version is live, and else nothing.
 abbrev pub IsLesson : Option Version → Pieced → List (ℕ × ℕ) → Type 0
