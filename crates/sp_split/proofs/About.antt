@@ -29,6 +29,7 @@ came_about n c calls h some came wound law = record {
   alone = λ none. absurd (omega (arith, some, none));
   spread = λ _. came.spread;
   few = λ _. came.few;
+  never = λ _. came.never;
   calls = λ _. let low = law c.journal in let read = came.read in let enough = wound.called in omega arith;
   legal = wound.legal;
   takes = wound.takes ∙ ap (λ (k : ℕ). by_seat is_take_by k h.entries) (sym (seats_are n some));
@@ -53,6 +54,7 @@ came_alone c h alone none = subst (CameAbout 0 c) (sym none) (record {
   alone = λ _. (alone, refl);
   spread = λ no. absurd (omega (arith, no));
   few = λ no. absurd (omega (arith, no));
+  never = λ no. absurd (omega (arith, no));
   calls = λ no. absurd (omega (arith, no));
   legal = no_entry_legal;
   takes = refl;
@@ -72,11 +74,13 @@ fell_at_once gave ended q s given = record {
 }
 
 -- what was served, with what the hub did
-pub ends_with : {E : Type 0} (gave : List Event → Type 0) (ended : Bool) (stopped : Type 0) (n : ℕ) (c : Running) (old new : OutletState) (end : Result went.Went E) (calls : ℕ) (history : History)
-    → Serves gave ended stopped n c old new end calls → 0 < n → WoundUp (n + 1) calls history → ReturnsFollowReadings → Ends gave ended stopped n c old new (ending history end)
-ends_with gave ended stopped n c old new (Ok w) calls history served some wound law = record {
+pub ends_with : {E : Type 0} (gave : List Event → Type 0) (ended : Bool) (stopped : Type 0) (n batch : ℕ) (c : Running) (old new : OutletState) (end : Result went.Went E) (calls : ℕ) (history : History)
+    → Serves gave ended stopped n batch c old new end calls → 0 < n → WoundUp (n + 1) calls history → ReturnsFollowReadings
+    → Ends gave ended stopped n batch c old new (ending history end)
+ends_with gave ended stopped n batch c old new (Ok w) calls history served some wound law = record {
   drove = served.drove;
   about = came_about n w.core calls history some served.came wound law;
+  asked = served.asked;
   short = tt;
 }
-ends_with gave ended stopped n c old new (Err e) calls history served some wound law = record { drove = tt; about = tt; short = served.short }
+ends_with gave ended stopped n batch c old new (Err e) calls history served some wound law = record { drove = tt; about = tt; asked = tt; short = served.short }

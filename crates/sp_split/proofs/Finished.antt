@@ -1,5 +1,5 @@
 -- The root of a core that stands alone, and its finish.
-use Rattle.std.proofs.Common.{◌≡◌, ℕ, Bool, true, false, cond, List, [], ◌++◌, Some, None, Option, is_some, refl, sym, ◌∙◌, ap, subst}
+use Rattle.std.proofs.Common.{◌≡◌, ℕ, Bool, true, false, cond, List, [], ◌++◌, Some, None, Option, is_some, refl, sym, ◌∙◌, ap, subst, arith}
 use Rattle.std.proofs.lemmas.Option.{same_Some, none-some}
 use Rattle.sp_plan.specs.declared.found.Match.{Match}
 use Rattle.sp_plan.specs.declared.plan.Plan.{Plan}
@@ -58,7 +58,7 @@ finished old new e done emitted none = one (machine.root_in old.machine.versions
         let w = settled_with q (popped q m v) (machine.root_in (popped q m v).versions) in
         let into : new.machine ≡ finished_one q m (Some v) = ap (λ (c : Running). c.machine) done.1 ∙ after in
         record {
-          on = worked_step old new s.Finish done.1 refl refl (subst (SameInput m) (sym after) (record { events = w.input.events; ended = w.input.ended }));
+          on = worked_step old new s.Finish done.1 refl refl (omega arith) (subst (SameInput m) (sym after) (record { events = w.input.events; ended = w.input.ended }));
           none_out = ap (λ (n : Machine). n.tickets) into ∙ w.out ∙ none;
           emitted = ap (λ (n : Machine). n.emitted) into ∙ w.emitted ∙ ap (λ (l : List Match). m.emitted ++ l) out;
           idle = λ no. cc;

@@ -6,6 +6,7 @@ pub mod Lone
 pub mod About
 pub mod Both
 pub mod Behind
+pub mod FedThen
 pub mod Finished
 pub mod Added
 pub mod Going

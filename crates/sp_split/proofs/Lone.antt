@@ -1,9 +1,10 @@
 -- The only ticket that is out is read, and comes home.
-use Rattle.std.proofs.Common.{◌≡◌, ℕ, zero, suc, Bool, true, false, cond, not, ◌==◌, List, [], ◌∷◌, ◌++◌, Some, None, Option, refl, sym, ◌∙◌, ap, subst, arith, append_assoc}
+use Rattle.std.proofs.Common.{◌≡◌, ◌≤◌, ℕ, zero, suc, Bool, true, false, cond, not, ◌==◌, List, [], ◌∷◌, ◌++◌, Some, None, Option, refl, sym, ◌∙◌, ap, subst, arith, append_assoc}
 use Rattle.std.proofs.lemmas.Bool.Decides.{nat_tests}
 use Rattle.std.proofs.lemmas.List.{append-nil}
 use Rattle.std.proofs.lemmas.List.Elements.{All-cons}
 use Rattle.std.proofs.lemmas.Option.{same_Some, none-some}
+use Rattle.sp_base.specs.Limits.{batch_limit}
 use Rattle.sp_plan.specs.declared.found.Match.{Match}
 use Rattle.sp_plan.specs.declared.plan.Plan.{Plan}
 use Rattle.sp_group.specs.declared.refusal.Refusal.{Refusal}
@@ -23,8 +24,9 @@ use Rattle.sp_core.specs.Running.{Running, IsDone, after, once}
 use Rattle.sp_core.specs.declared.given.Given.TheVariants as g
 use Rattle.sp_split.specs.declared.turning.Turn.TheVariants as t
 use Rattle.sp_spread.specs.Journaled.{fed, makes_child, MakesNoChild}
+use Rattle.sp_spread.specs.Limiting.{AsksAtMost, asked_by}
 use Rattle.sp_split.specs.Stages.{CutOff, IsOutAlone, Turned}
-use Rattle.sp_split.proofs.Steps.{SameInput, worked_by, worked_more, worked_step, no_child_once}
+use Rattle.sp_split.proofs.Steps.{SameInput, asked_once, worked_by, worked_more, worked_step, no_child_once}
 
 -- the machine has the input of another, has emitted the same, and these tickets are out
 pub record With (m n : Machine) (tickets : List Ticket) : Type 0 where
@@ -86,6 +88,12 @@ return_makes_none : (n times : ℕ) → MakesNoChild (reading_entries n times ++
 return_makes_none n zero = no_child_once (s.Return n) refl
 return_makes_none n (suc k) = All-cons (λ (e : Entry). makes_child e.step ≡ false) (record { step = s.Event n; times = suc k }) (once (s.Return n) ∷ []) refl (no_child_once (s.Return n) refl)
 
+return_asks_none : (n times : ℕ) → AsksAtMost batch_limit (reading_entries n times ++ once (s.Return n) ∷ [])
+return_asks_none n zero = asked_once (s.Return n) (omega arith)
+return_asks_none n (suc k) =
+    All-cons (λ (e : Entry). asked_by e.step ≤ batch_limit) (record { step = s.Event n; times = suc k }) (once (s.Return n) ∷ []) (omega arith)
+    (asked_once (s.Return n) (omega arith))
+
 is_own : (ticket t : Ticket) (n : ℕ) (b : Bool) → cond {A = Option Ticket} b (Some ticket) None ≡ Some t → b ≡ true
 is_own ticket t n true is = refl
 is_own ticket t n false is = absurd (none-some t is)
@@ -101,7 +109,8 @@ is_home old new p out given =
     let w : With old.machine new.machine [] = subst (λ (c : Running). With old.machine c.machine []) (sym is) done in
     record {
       on = worked_by old new (reading_entries n times ++ once (s.Return n) ∷ []) (ap (λ (c : Running). c.plan) is) (ap (λ (c : Running). c.bound) is)
-          (ap (λ (c : Running). c.journal) is ∙ append_assoc old.journal (reading_entries n times) (once (s.Return n) ∷ [])) (return_feeds_none n times) (return_makes_none n times) w.input;
+          (ap (λ (c : Running). c.journal) is ∙ append_assoc old.journal (reading_entries n times) (once (s.Return n) ∷ [])) (return_feeds_none n times) (return_makes_none n times)
+          (return_asks_none n times) w.input;
       none_out = w.out;
       emitted = w.emitted ∙ sym (append-nil old.machine.emitted);
       idle = λ no. cc;
@@ -125,10 +134,10 @@ module _ (old new : Running) (root batch : ℕ) (done : IsDone (s.Lease root bat
   emitted_leased None = refl
   emitted_leased (Some v) = refl
 
-  -- nothing was emitted by a lease
-  pub leased_cut_off : CutOff old new
-  leased_cut_off = record {
-    on = worked_step old new (s.Lease root batch) done.1 refl refl (input_leased (version_at old.machine.versions root));
+  -- nothing was emitted by a lease for no more events than any may ask for
+  pub leased_cut_off : batch ≤ batch_limit → CutOff old new
+  leased_cut_off most = record {
+    on = worked_step old new (s.Lease root batch) done.1 refl refl most (input_leased (version_at old.machine.versions root));
     emitted = ap (λ (c : Running). c.machine.emitted) done.1 ∙ emitted_leased (version_at old.machine.versions root);
   }
 

@@ -32,30 +32,30 @@ pub record AfterTurn {T : Type 0} (gave : List Event → Type 0) (first last : R
 
 module _ {T : Type 0} (gave : List Event → Type 0) (first c d : Running) (old s t : OutletState) (going : Going gave first c old s) where
   -- a turn with instances
-  after_turn : (n : ℕ) (put : Result T OutFault) → OnOk put (WentWith n c d (λ ms. Took c.plan ms s t)) → (put ≡ Err o.Failed → WentWith n c d (λ ms. FailedWithin c.plan ms s t))
-      → (put ≡ Err o.Memory → WentWith n c d (λ ms. TookFirst c.plan ms s t)) → (put ≡ Err o.Failed → Rose s.faults t.faults) → (put ≢ Err o.Failed → t.faults ≡ s.faults)
+  after_turn : (n batch : ℕ) (put : Result T OutFault) → OnOk put (WentWith n batch c d (λ ms. Took c.plan ms s t)) → (put ≡ Err o.Failed → WentWith n batch c d (λ ms. FailedWithin c.plan ms s t))
+      → (put ≡ Err o.Memory → WentWith n batch c d (λ ms. TookFirst c.plan ms s t)) → (put ≡ Err o.Failed → Rose s.faults t.faults) → (put ≢ Err o.Failed → t.faults ≡ s.faults)
       → AfterTurn gave first d old t put
-  after_turn n (Ok x) done failed short rose quiet = record {
-    run = ran_turn gave n first c d old s t going done.went;
-    took = took_turn gave n first c d old s t going done;
+  after_turn n batch (Ok x) done failed short rose quiet = record {
+    run = ran_turn gave n batch first c d old s t going done.went;
+    took = took_turn gave n batch first c d old s t going done;
     failed = λ no. absurd (cc no);
     short = λ no. absurd (cc no);
     rose = λ no. absurd (cc no);
     no_fault = λ other. quiet other ∙ going.no_fault;
   }
-  after_turn n (Err o.Failed) done failed short rose quiet = record {
-    run = ran_turn gave n first c d old s t going (failed refl).went;
+  after_turn n batch (Err o.Failed) done failed short rose quiet = record {
+    run = ran_turn gave n batch first c d old s t going (failed refl).went;
     took = tt;
-    failed = λ _. failed_turn gave n first c d old s t going (failed refl);
+    failed = λ _. failed_turn gave n batch first c d old s t going (failed refl);
     short = λ no. absurd (cc no);
     rose = λ _. rose_from old.faults s.faults t.faults going.no_fault (rose refl);
     no_fault = λ other. absurd (other refl);
   }
-  after_turn n (Err o.Memory) done failed short rose quiet = record {
-    run = ran_turn gave n first c d old s t going (short refl).went;
+  after_turn n batch (Err o.Memory) done failed short rose quiet = record {
+    run = ran_turn gave n batch first c d old s t going (short refl).went;
     took = tt;
     failed = λ no. absurd (cc no);
-    short = λ _. short_turn gave n first c d old s t going (short refl);
+    short = λ _. short_turn gave n batch first c d old s t going (short refl);
     rose = λ no. absurd (cc no);
     no_fault = λ other. quiet other ∙ going.no_fault;
   }
@@ -90,8 +90,8 @@ module _ {T : Type 0} (gave : List Event → Type 0) (first c d : Running) (old 
 
 -- the core was fed before the turn
 module _ {T : Type 0} (gave later : List Event → Type 0) (first c mid d : Running) (old s t : OutletState) (going : Going gave first c old s) (on : FedOn c mid) (given : later mid.machine.events) where
-  pub fed_turn : (n : ℕ) (put : Result T OutFault) → OnOk put (WentWith n mid d (λ ms. Took mid.plan ms s t)) → (put ≡ Err o.Failed → WentWith n mid d (λ ms. FailedWithin mid.plan ms s t))
-      → (put ≡ Err o.Memory → WentWith n mid d (λ ms. TookFirst mid.plan ms s t)) → (put ≡ Err o.Failed → Rose s.faults t.faults) → (put ≢ Err o.Failed → t.faults ≡ s.faults)
+  pub fed_turn : (n batch : ℕ) (put : Result T OutFault) → OnOk put (WentWith n batch mid d (λ ms. Took mid.plan ms s t)) → (put ≡ Err o.Failed → WentWith n batch mid d (λ ms. FailedWithin mid.plan ms s t))
+      → (put ≡ Err o.Memory → WentWith n batch mid d (λ ms. TookFirst mid.plan ms s t)) → (put ≡ Err o.Failed → Rose s.faults t.faults) → (put ≢ Err o.Failed → t.faults ≡ s.faults)
       → AfterTurn later first d old t put
   fed_turn = after_turn later first mid d old s t (going_fed gave later first c mid old s going on given)
 
@@ -100,11 +100,11 @@ module _ {T : Type 0} (gave later : List Event → Type 0) (first c mid d : Runn
   fed_work = after_work later first mid d old s t (going_fed gave later first c mid old s going on given)
 
 -- what the core did, however its matches were put
-pub went_any : {T : Type 0} (put : Result T OutFault) (n : ℕ) (c d : Running) (took failed short : List Match → Type 0) → OnOk put (WentWith n c d took) → (put ≡ Err o.Failed → WentWith n c d failed)
-    → (put ≡ Err o.Memory → WentWith n c d short) → Went n c d
-went_any (Ok x) n c d took failed short a b e = a.went
-went_any (Err o.Failed) n c d took failed short a b e = (b refl).went
-went_any (Err o.Memory) n c d took failed short a b e = (e refl).went
+pub went_any : {T : Type 0} (put : Result T OutFault) (n batch : ℕ) (c d : Running) (took failed short : List Match → Type 0) → OnOk put (WentWith n batch c d took) → (put ≡ Err o.Failed → WentWith n batch c d failed)
+    → (put ≡ Err o.Memory → WentWith n batch c d short) → Went n batch c d
+went_any (Ok x) n batch c d took failed short a b e = a.went
+went_any (Err o.Failed) n batch c d took failed short a b e = (b refl).went
+went_any (Err o.Memory) n batch c d took failed short a b e = (e refl).went
 
 pub worked_any : {T : Type 0} (put : Result T OutFault) (c d : Running) (s t : OutletState) → OnOk put (WorkedOff c d s t false) → (put ≡ Err o.Failed → WorkedUntilRefused c d s t)
     → (put ≡ Err o.Memory → WorkedUntilShort c d s t) → WorkedOn c d

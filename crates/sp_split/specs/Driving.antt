@@ -1,6 +1,7 @@
 -- What a run of a core comes to, from an intake to an outlet.
 use Rattle.std.specs.Prelude.{◌≡◌, ◌≢◌, ◌⊎◌, ℕ, zero, suc, ◌+◌, ◌<◌, ◌≤◌, Bool, true, false, List, [], ◌∷◌, ◌++◌}
 use Rattle.std.specs.List.{count_by, Contains}
+use Rattle.sp_base.specs.Limits.{batch_limit}
 use Rattle.sp_io.specs.Outside.{Rose}
 use Rattle.sp_plan.specs.declared.event.Event.{Event}
 use Rattle.sp_plan.specs.declared.found.Match.{Match}
@@ -16,6 +17,7 @@ use Rattle.sp_ports.specs.Taking.{OutletState, Took, TookFirst, FailedAt}
 use Rattle.sp_split.specs.declared.ended.Went.{Went}
 use Rattle.sp_split.specs.declared.ended.Why.TheVariants as why
 use Rattle.sp_spread.specs.Journaled.{fed, returns_read, MakesNoChild}
+use Rattle.sp_spread.specs.Limiting.{NeverMore}
 
 -- Of a list of matches an outlet failed at one, and took those before it.
 pub record FailedWithin (q : Plan) (matches : List Match) (old new : OutletState) : Type 0 where
@@ -55,6 +57,12 @@ pub record FellShort (gave : List Event → Type 0) (ended : Bool) (q : Plan) (o
   pub took : TookFirst q (whole q events input_ended).matches old new
   pub no_fault : new.faults ≡ old.faults
 
+-- How many events a lease of a run asks for at most: with instances a batch; without one, where each version is a root that stands alone, as
+-- many as any lease may.
+abbrev pub most_asked : ℕ → ℕ → ℕ
+most_asked zero batch = batch_limit
+most_asked (suc n) batch = batch
+
 -- how many seats a run has at its hub: one for each instance and one of the splitter's own; without an instance it has no hub
 abbrev pub seats_for : ℕ → ℕ
 seats_for zero = 0
@@ -68,6 +76,8 @@ pub record CameAbout (instances : ℕ) (c : Running) (h : History) : Type 0 wher
   pub alone : instances ≡ 0 → MakesNoChild c.journal × (h.entries ≡ [])
   pub spread : 0 < instances → Spread c.plan c.bound instances c.journal
   pub few : 0 < instances → out_count c.machine ≤ instances + 1
+  -- nor were more out in any state that the journal passes
+  pub never : 0 < instances → NeverMore c.plan c.bound instances c.journal
   pub calls : 0 < instances → returns_read c.journal ≤ count_by is_call h.entries
   pub legal : IsLegal h.entries
   pub takes : h.takes ≡ by_seat is_take_by (seats_for instances) h.entries

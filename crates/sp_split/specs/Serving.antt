@@ -15,20 +15,23 @@ use Rattle.sp_group.specs.Steps.{Spread, out_count}
 use Rattle.sp_core.specs.Running.{Running, begun}
 use Rattle.sp_ports.specs.Taking.{OutletState}
 use Rattle.sp_spread.specs.Journaled.{readings_entered}
+use Rattle.sp_spread.specs.Limiting.{AsksAtMost, NeverMore}
 use Rattle.sp_splitter.specs.Splitting.{IsBelowKept}
-use Rattle.sp_splitter.specs.Stages.{Goes, Went}
+use Rattle.sp_splitter.specs.Stages.{Goes, StaysWithin, Went}
 use Rattle.sp_split.specs.declared.ended.Ended as ended_as
 use Rattle.sp_split.specs.declared.ended.Went as went
 use Rattle.sp_split.specs.Driving.{CameAbout, Drove, FellShort}
 use Rattle.sp_split.specs.Stages.{FedOn}
 
--- The core was fed, and no more: as many tickets are out, nothing that was read came home, and the journal is as spread as before.
+-- The core was fed, and no more: as many tickets are out, nothing that was read came home, and the journal is as spread as before, and goes
+-- beyond nothing that it kept to before.
 pub record Filled (old new : Running) : Type 0 where
   pub on : FedOn old new
   pub next_ticket : new.machine.next_ticket ≡ old.machine.next_ticket
   pub out : out_count new.machine ≡ out_count old.machine
   pub read : readings_entered new.journal ≡ readings_entered old.journal
   pub goes : (n : ℕ) → Goes n old new
+  pub within : (n batch : ℕ) → StaysWithin n batch old new
 
 -- A splitter may take a turn: it has at most 16 instances; it leases for 1 to 1,024 events; its poster has not closed the hub, and has room for one ticket more than
 -- there are instances; and the ticket that was posted last is below those of the jobs that are kept.
@@ -40,9 +43,9 @@ pub record CanTurn (instances batch : ℕ) (kept : List Job) (next_ticket : ℕ)
   pub unclosed : by.closed ≡ false
   pub last : IsBelowKept by.last kept next_ticket
 
--- A turn for n instances, and of the matches that it emitted this is so.
-pub record WentWith (n : ℕ) (old new : Running) (fact : List Match → Type 0) : Type 0 where
-  pub went : Went n old new
+-- A turn for n instances and a batch, and of the matches that it emitted this is so.
+pub record WentWith (n batch : ℕ) (old new : Running) (fact : List Match → Type 0) : Type 0 where
+  pub went : Went n batch old new
   pub so : fact went.more
 
 -- How a run with n instances came about: its journal is spread, no more tickets are out than there may be, and the poster made a call
@@ -50,6 +53,8 @@ pub record WentWith (n : ℕ) (old new : Running) (fact : List Match → Type 0)
 pub record CameBy (n : ℕ) (c : Running) (calls : ℕ) : Type 0 where
   pub spread : Spread c.plan c.bound n c.journal
   pub few : out_count c.machine ≤ n + 1
+  -- nor were more out at any time
+  pub never : NeverMore c.plan c.bound n c.journal
   pub read : readings_entered c.journal ≤ calls
 
 -- What a hub of so many seats did, as its history tells it, where its poster made at least so many calls: each seat but that of number 0 was
@@ -61,10 +66,11 @@ pub record WoundUp (seats calls : ℕ) (h : History) : Type 0 where
   pub puts : h.puts ≡ by_seat is_put_by seats h.entries
   pub over : (seat : ℕ) → 0 < seat → seat < seats → Contains h.over seat
 
--- A splitter served n instances, and ended so, with so many calls of its poster.
-pub record Serves {E : Type 0} (gave : List Event → Type 0) (ended : Bool) (stopped : Type 0) (n : ℕ) (c : Running) (old new : OutletState) (end : Result went.Went E) (calls : ℕ) : Type 0 where
+-- A splitter served n instances by a batch, and ended so, with so many calls of its poster.
+pub record Serves {E : Type 0} (gave : List Event → Type 0) (ended : Bool) (stopped : Type 0) (n batch : ℕ) (c : Running) (old new : OutletState) (end : Result went.Went E) (calls : ℕ) : Type 0 where
   pub drove : IfOk end (λ went. Drove gave ended stopped c old new went)
   pub came : IfOk end (λ went. CameBy n went.core calls)
+  pub asked : IfOk end (λ went. AsksAtMost batch went.core.journal)
   pub short : OnErr end (FellShort gave ended c.plan old new)
 
 -- A splitter may begin to serve: its core has done no step, its seat holds nothing, and the ways in and out are those of its plan.
@@ -75,10 +81,11 @@ pub record MayServe (c : Running) (instances batch : ℕ) (kept : List Job) (by 
   pub intake_plan : intake ≡ c.plan
   pub outlet_plan : outlet ≡ c.plan
 
--- A run with n instances ended so, with what its hub did.
-pub record Ends {E : Type 0} (gave : List Event → Type 0) (ended : Bool) (stopped : Type 0) (n : ℕ) (c : Running) (old new : OutletState) (end : Result ended_as.Ended E) : Type 0 where
+-- A run with n instances, of which no lease asked for more events than so many, ended so, with what its hub did.
+pub record Ends {E : Type 0} (gave : List Event → Type 0) (ended : Bool) (stopped : Type 0) (n most : ℕ) (c : Running) (old new : OutletState) (end : Result ended_as.Ended E) : Type 0 where
   pub drove : IfOk end (λ e. Drove gave ended stopped c old new (record { core = e.core; why = e.why }))
   pub about : IfOk end (λ e. CameAbout n e.core e.history)
+  pub asked : IfOk end (λ e. AsksAtMost most e.core.journal)
   pub short : OnErr end (FellShort gave ended c.plan old new)
 
 -- how a run ended, with what its hub did

@@ -13,15 +13,18 @@ use Rattle.sp_split.specs.declared.feeding.Fed.TheVariants as f
 use Rattle.sp_split.specs.declared.turning.Turn.{Turn}
 use Rattle.sp_split.specs.declared.turning.Turn.TheVariants as t
 use Rattle.sp_split.specs.Driving.{FailedWithin}
+use Rattle.sp_base.specs.Limits.{batch_limit}
 use Rattle.sp_spread.specs.Journaled.{fed, MakesNoChild}
+use Rattle.sp_spread.specs.Limiting.{AsksAtMost}
 
--- The core took steps: its plan and bound are the same, what stands in the journal as fed are still its events, and no version was made
--- below another one.
+-- The core took steps: its plan and bound are the same, what stands in the journal as fed are still its events, no version was made below
+-- another one, and no lease asked for more events than any may.
 pub record WentOn (old new : Running) : Type 0 where
   pub plan : new.plan ≡ old.plan
   pub bound : new.bound ≡ old.bound
   pub fed_are : fed old.journal ≡ old.machine.events → fed new.journal ≡ new.machine.events
   pub alone : MakesNoChild old.journal → MakesNoChild new.journal
+  pub asked : AsksAtMost batch_limit old.journal → AsksAtMost batch_limit new.journal
 
 -- The core was fed, and no more.
 pub record FedOn (old new : Running) : Type 0 where

@@ -4,6 +4,7 @@ ghost use Rattle.sp_base.specs.Limits.{batch_limit};
 ghost use Rattle.sp_io.specs.Outside.{Rose};
 ghost use Rattle.sp_core.specs.Running.{begun};
 ghost use Rattle.sp_spread.specs.Journaled.{MakesNoChild};
+ghost use Rattle.sp_spread.specs.Limiting.{AsksAtMost};
 ghost use Rattle.sp_split.specs.Driving.{Drove, FellShort};
 
 use crate::feeding::feed;
@@ -35,6 +36,7 @@ fn feed_and_work<I: Intake, O: Outlet>(
         (O.state outlet.new)
         (record { core = core.new; why = why })) }
     ensures alone { IfOk result (λ why. MakesNoChild core.new.journal) }
+    ensures asked { IfOk result (λ why. AsksAtMost batch_limit core.new.journal) }
     ensures short { OnErr result
         (FellShort (λ events. I.gave intake.old events intake.new) (I.ended intake.new)
         core.old.plan (O.state outlet.old) (O.state outlet.new)) }
@@ -82,6 +84,7 @@ pub(crate) fn drive_alone<I: Intake, O: Outlet>(
         (Rose (I.stops intake.old) (I.stops intake.new)) core (O.state outlet.old)
         (O.state outlet.new)) }
     ensures alone { IfOk result (λ end. MakesNoChild end.core.journal) }
+    ensures asked { IfOk result (λ end. AsksAtMost batch_limit end.core.journal) }
     ensures short { OnErr result
         (FellShort (λ events. I.gave intake.old events intake.new) (I.ended intake.new)
         core.plan (O.state outlet.old) (O.state outlet.new)) }

@@ -3,7 +3,8 @@ ghost use Rattle.std.specs.Prelude.{◌≡◌, ◌≤◌, ◌<◌, [], IfOk, OnE
 ghost use Rattle.sp_base.specs.Limits.{batch_limit};
 ghost use Rattle.sp_io.specs.Outside.{Rose};
 ghost use Rattle.sp_core.specs.Running.{begun};
-ghost use Rattle.sp_split.specs.Driving.{CameAbout, Drove, FellShort};
+ghost use Rattle.sp_spread.specs.Limiting.{AsksAtMost};
+ghost use Rattle.sp_split.specs.Driving.{CameAbout, Drove, FellShort, most_asked};
 ghost use Rattle.sp_split.specs.Serving.{Ends};
 
 use crate::alone::drive_alone;
@@ -32,8 +33,8 @@ use std::thread::Threads;
 /// the end that no job will come.
 ///
 /// Besides, and no clause says so: an instance has a thread of its own where one can be made, and does each job inside
-/// the gate; at most `batch` events, 1 to 1,024, are fed between two turns; with instances a lease is for at most so
-/// many; and it is this predictor that is asked and taught.
+/// the gate; at most `batch` events, 1 to 1,024, are fed between two turns; and it is this predictor that is asked and
+/// taught.
 pub fn drive<I: Intake, O: Outlet, G: Gate, R: Threads + Wait + Sync>(
     rt: &R,
     alloc: Global,
@@ -57,6 +58,7 @@ pub fn drive<I: Intake, O: Outlet, G: Gate, R: Threads + Wait + Sync>(
         (O.state outlet.new)
         (record { core = end.core; why = end.why })) }
     ensures about { IfOk result (λ end. CameAbout instances end.core end.history) }
+    ensures asked { IfOk result (λ end. AsksAtMost (most_asked instances batch) end.core.journal) }
     ensures short { OnErr result
         (FellShort (λ events. I.gave intake.old events intake.new) (I.ended intake.new)
         core.plan (O.state outlet.old) (O.state outlet.new)) }
@@ -88,7 +90,7 @@ fn drive_lone<I: Intake, O: Outlet>(
     requires intake_plan { I.plan intake.old ≡ core.plan }
     requires outlet_plan { O.plan outlet.old ≡ core.plan }
     ensures ends { Ends (λ events. I.gave intake.old events intake.new) (I.ended intake.new)
-        (Rose (I.stops intake.old) (I.stops intake.new)) 0 core (O.state outlet.old)
+        (Rose (I.stops intake.old) (I.stops intake.new)) 0 batch_limit core (O.state outlet.old)
         (O.state outlet.new) result }
     ensures same { (I.plan intake.new ≡ I.plan intake.old)
         × (I.token intake.new ≡ I.token intake.old) }
@@ -128,8 +130,8 @@ fn drive_shared<I: Intake, O: Outlet, G: Gate, R: Threads + Wait + Sync>(
     requires intake_plan { I.plan intake.old ≡ splitter.core.plan }
     requires outlet_plan { O.plan outlet.old ≡ splitter.core.plan }
     ensures ends { Ends (λ events. I.gave intake.old events intake.new) (I.ended intake.new)
-        (Rose (I.stops intake.old) (I.stops intake.new)) splitter.instances splitter.core
-        (O.state outlet.old) (O.state outlet.new) result }
+        (Rose (I.stops intake.old) (I.stops intake.new)) splitter.instances splitter.batch
+        splitter.core (O.state outlet.old) (O.state outlet.new) result }
     ensures same { (I.plan intake.new ≡ I.plan intake.old)
         × (I.token intake.new ≡ I.token intake.old) }
     ensures same_out { (O.plan outlet.new ≡ O.plan outlet.old)

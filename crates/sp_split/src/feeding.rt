@@ -54,6 +54,7 @@ fn feed_next<I: Intake>(alloc: Global, core: &mut Core, intake: &mut I) -> Resul
 
 /// Feeds the next events, at most `batch`, of an input that has not ended. After want of memory the core is
 /// fed the first events that were given, and at most one more was given and is lost.
+#[tactic(auto, using(crate::proofs::FedThen::fed_then))]
 pub(crate) fn feed<I: Intake>(
     alloc: Global,
     core: &mut Core,

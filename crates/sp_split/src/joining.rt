@@ -60,7 +60,7 @@ fn beside<L: Naming + Send + Sync, I: Intake, O: Outlet, G: Gate, R: Threads + W
     ensures served { Serves (λ events. I.gave ways.intake events result.2.intake)
         (I.ended result.2.intake)
         (Rose (I.stops ways.intake) (I.stops result.2.intake))
-        desk.splitter.instances desk.splitter.core
+        desk.splitter.instances desk.splitter.batch desk.splitter.core
         (O.state ways.outlet) (O.state result.2.outlet) result.1.end result.1.by.calls }
     ensures same { (I.plan result.2.intake ≡ I.plan ways.intake)
         × (I.token result.2.intake ≡ I.token ways.intake) }
@@ -93,8 +93,8 @@ fn beside<L: Naming + Send + Sync, I: Intake, O: Outlet, G: Gate, R: Threads + W
                 (I.plan ways.intake) (O.plan ways.outlet) }
             ensures served { Serves (λ events. I.gave ways.intake events result.1.intake)
                 (I.ended result.1.intake) (Rose (I.stops ways.intake) (I.stops result.1.intake))
-                desk.splitter.instances desk.splitter.core (O.state ways.outlet)
-                (O.state result.1.outlet) result.0.end result.0.by.calls }
+                desk.splitter.instances desk.splitter.batch desk.splitter.core
+                (O.state ways.outlet) (O.state result.1.outlet) result.0.end result.0.by.calls }
             ensures same { (I.plan result.1.intake ≡ I.plan ways.intake)
                 × (I.token result.1.intake ≡ I.token ways.intake) }
             ensures same_out { (O.plan result.1.outlet ≡ O.plan ways.outlet)
@@ -156,8 +156,8 @@ pub(crate) fn under<
     requires outlet_plan { O.plan ways.outlet ≡ splitter.core.plan }
     ensures ends { Ends (λ events. I.gave ways.intake events result.1.intake)
         (I.ended result.1.intake)
-        (Rose (I.stops ways.intake) (I.stops result.1.intake)) splitter.instances splitter.core
-        (O.state ways.outlet) (O.state result.1.outlet) result.0 }
+        (Rose (I.stops ways.intake) (I.stops result.1.intake)) splitter.instances splitter.batch
+        splitter.core (O.state ways.outlet) (O.state result.1.outlet) result.0 }
     ensures same { (I.plan result.1.intake ≡ I.plan ways.intake)
         × (I.token result.1.intake ≡ I.token ways.intake) }
     ensures same_out { (O.plan result.1.outlet ≡ O.plan ways.outlet)

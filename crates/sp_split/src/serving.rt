@@ -4,6 +4,7 @@ ghost use Rattle.sp_io.specs.Outside.{Rose};
 ghost use Rattle.sp_ports.specs.Taking.{Took, TookFirst};
 ghost use Rattle.sp_ports.specs.declared.outlet.OutFault.TheVariants as o;
 ghost use Rattle.sp_core.specs.Running.{begun};
+ghost use Rattle.sp_spread.specs.Limiting.{AsksAtMost};
 ghost use Rattle.sp_splitter.specs.Stages.{Goes, ReadByCalls};
 ghost use Rattle.sp_split.specs.Driving.{Drove, FailedWithin, FellShort};
 ghost use Rattle.sp_split.specs.Serving.{CameBy, CanTurn, Serves, WentWith};
@@ -54,20 +55,20 @@ fn turn_once<L: Naming, O: Outlet, R: Wait>(
         desk.old.splitter.kept.items
         desk.old.splitter.core.machine.next_ticket desk.old.by }
     requires plan { O.plan outlet.old ≡ desk.old.splitter.core.plan }
-    ensures done { OnOk result (WentWith desk.old.splitter.instances desk.old.splitter.core
-        desk.new.splitter.core
+    ensures done { OnOk result (WentWith desk.old.splitter.instances desk.old.splitter.batch
+        desk.old.splitter.core desk.new.splitter.core
         (λ matches. Took desk.old.splitter.core.plan matches (O.state outlet.old)
         (O.state outlet.new))) }
     ensures failed { result ≡ Err o.Failed
-        → WentWith desk.old.splitter.instances desk.old.splitter.core
-        desk.new.splitter.core
+        → WentWith desk.old.splitter.instances desk.old.splitter.batch
+        desk.old.splitter.core desk.new.splitter.core
         (λ matches. FailedWithin desk.old.splitter.core.plan matches
         (O.state outlet.old) (O.state outlet.new)) }
     ensures rose { result ≡ Err o.Failed
         → Rose (O.state outlet.old).faults (O.state outlet.new).faults }
     ensures short { result ≡ Err o.Memory
-        → WentWith desk.old.splitter.instances desk.old.splitter.core
-        desk.new.splitter.core
+        → WentWith desk.old.splitter.instances desk.old.splitter.batch
+        desk.old.splitter.core desk.new.splitter.core
         (λ matches. TookFirst desk.old.splitter.core.plan matches
         (O.state outlet.old) (O.state outlet.new)) }
     ensures no_fault { result ≢ Err o.Failed
@@ -81,6 +82,7 @@ fn turn_once<L: Naming, O: Outlet, R: Wait>(
     ensures open { desk.new.by.closed ≡ false }
     ensures rest { (desk.new.splitter.instances ≡ desk.old.splitter.instances)
         × (desk.new.seat ≡ desk.old.seat) }
+    ensures batch { desk.new.splitter.batch ≡ desk.old.splitter.batch }
     ensures same { (O.plan outlet.new ≡ O.plan outlet.old)
         × (O.token outlet.new ≡ O.token outlet.old) }
 {
@@ -159,6 +161,7 @@ fn feed_and_turn<I: Intake, O: Outlet, L: Naming, G: Gate, R: Wait>(
         (O.state outlet.new) (record { core = desk.new.splitter.core; why = why })) }
     ensures came { OnOk result (CameBy desk.old.splitter.instances desk.new.splitter.core
         desk.new.by.calls) }
+    ensures asked { OnOk result (AsksAtMost desk.old.splitter.batch desk.new.splitter.core.journal) }
     ensures short { OnErr result
         (FellShort (λ events. I.gave intake.old events intake.new) (I.ended intake.new)
         desk.old.splitter.core.plan (O.state outlet.old) (O.state outlet.new)) }
@@ -206,8 +209,8 @@ pub(crate) fn serve<I: Intake, O: Outlet, L: Naming, G: Gate, R: Wait>(
     requires intake_plan { I.plan intake.old ≡ desk.splitter.core.plan }
     requires outlet_plan { O.plan outlet.old ≡ desk.splitter.core.plan }
     ensures served { Serves (λ events. I.gave intake.old events intake.new) (I.ended intake.new)
-        (Rose (I.stops intake.old) (I.stops intake.new)) desk.splitter.instances desk.splitter.core
-        (O.state outlet.old) (O.state outlet.new) result.end result.by.calls }
+        (Rose (I.stops intake.old) (I.stops intake.new)) desk.splitter.instances desk.splitter.batch
+        desk.splitter.core (O.state outlet.old) (O.state outlet.new) result.end result.by.calls }
     ensures same { (I.plan intake.new ≡ I.plan intake.old)
         × (I.token intake.new ≡ I.token intake.old) }
     ensures same_out { (O.plan outlet.new ≡ O.plan outlet.old)

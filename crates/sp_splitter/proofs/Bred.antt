@@ -78,7 +78,7 @@ busy_more c d p label known then done =
 
 pub record Bred (shares : ℕ → ℕ → ℕ) (instances : ℕ) (first here : Running) (busy : ℕ) : Type 0 where
   pub known : Known here
-  pub went : (n : ℕ) → Went n first here
+  pub went : (n batch : ℕ) → Went n batch first here
   pub goes : (n : ℕ) → Goes n first here
   pub emitted : NoneEmitted first here
   pub read : NoneRead first here
@@ -91,7 +91,7 @@ pub bred_first : (shares : ℕ → ℕ → ℕ) (instances : ℕ) (c : Running) 
     → Bred shares instances c c busy
 bred_first shares instances c busy known settled is = record {
   known = known;
-  went = λ n. went_none n c c refl;
+  went = λ n batch. went_none n batch c c refl;
   goes = λ n. goes_none n c c refl;
   emitted = refl;
   read = refl;
@@ -110,7 +110,7 @@ bred_more shares instances a c d busy here known low born =
     let few : busy_count c.plan c.bound c.machine < instances + 1 = let is = here.busy_is in omega arith in
     record {
       known = known;
-      went = λ n. went_then n a c d (here.goes n) (here.went n) (went_spawn n (Some p) label c d here.known born.labelled done);
+      went = λ n batch. went_then n batch a c d (here.goes n) (here.went n batch) (went_spawn n batch (Some p) label c d here.known born.labelled done);
       goes = λ n. goes_then n a c d (here.goes n) (goes_spawn n (Some p) label c d here.known done);
       emitted = none_emitted_spawn (Some p) label c d done ∙ here.emitted;
       read = none_read_spawn (Some p) label c d done ∙ here.read;
@@ -168,7 +168,7 @@ wide_spread shares instances c (inr (inr bare)) = inr (inr (all_have_children sh
 
 -- enough children were made, or no more could be
 pub record Ended (shares : ℕ → ℕ → ℕ) (instances : ℕ) (a c : Running) : Type 0 where
-  pub went : (n : ℕ) → Went n a c
+  pub went : (n batch : ℕ) → Went n batch a c
   pub goes : (n : ℕ) → Goes n a c
   pub emitted : NoneEmitted a c
   pub read : NoneRead a c

@@ -29,7 +29,7 @@ use Rattle.sp_splitter.specs.Keeping.{Clears}
 use Rattle.sp_splitter.specs.Lending.{returned_all}
 use Rattle.sp_splitter.specs.Splitting.{RiseBetween, IsBelowKept}
 use Rattle.sp_splitter.specs.Stages.{Went}
-use Rattle.sp_splitter.proofs.Stepping.{back_done, goes_back, goes_then}
+use Rattle.sp_splitter.proofs.Stepping.{back_done, goes_back, goes_then, went_back, within_itself, within_then}
 use Rattle.sp_splitter.proofs.Untouched.{kept_itself, kept_then, kept_stale, stale_effect, stale_refusal, went_kept}
 
 none_without : (n k : ℕ) (ts : List Ticket) → ticket_at ts k ≡ None → ticket_at (without n ts) k ≡ None
@@ -51,6 +51,7 @@ clears_itself c = record {
   keeps = kept_itself c;
   none_more = λ n none. none;
   goes = λ n spreading. spreading;
+  within = λ n batch. within_itself n batch c;
   out = refl;
   next_ticket = refl;
   back = [];
@@ -71,6 +72,7 @@ clears_then a b c first then = record {
   keeps = kept_then a b c first.keeps then.keeps;
   none_more = λ n none. then.none_more n (first.none_more n none);
   goes = λ n. goes_then n a b c (first.goes n) (then.goes n);
+  within = λ n batch. within_then n batch a b c (λ few. subst (λ (z : ℕ). z ≤ n + 1) (sym first.out) few) (first.within n batch) (then.within n batch);
   out = then.out ∙ first.out;
   next_ticket = then.next_ticket ∙ first.next_ticket;
   back = first.back ++ then.back;
@@ -87,6 +89,7 @@ clears_stale n old new known stale is = record {
   keeps = kept_stale n old new known stale is;
   none_more = λ k none. ap (λ (ts : List Ticket). ticket_at ts k) (stale_tickets n old new stale is) ∙ none_without n k old.machine.tickets none;
   goes = λ m. goes_back m n old new known (stale_refusal old n stale, is);
+  within = λ m batch. (went_back m batch n old new known (stale_refusal old n stale, is)).within;
   out = ap (λ (z : Running). out_count z.machine) is ∙ known.lawful.out.by_stale n stale;
   next_ticket = ap (λ (z : Running). z.machine.next_ticket) is ∙ ap (λ (z : Machine). z.next_ticket) (stale_effect old.plan old.machine n stale);
   back = n ∷ [];
@@ -147,8 +150,9 @@ next_back n old new done =
     ap (λ (z : Running). z.machine.next_ticket) done.1 ∙ next_returned old.plan old.machine n (ticket_at old.machine.tickets n)
 
 -- a stage that clears went well
-pub went_clears : (n : ℕ) (old new : Running) → Clears old new → Went n old new
-went_clears n old new clears = went_kept n old new clears.keeps (λ spreading. (clears.goes n spreading).spread) (λ few. subst (λ (z : ℕ). z ≤ n + 1) (sym clears.out) few)
+pub went_clears : (n batch : ℕ) (old new : Running) → Clears old new → Went n batch old new
+went_clears n batch old new clears = went_kept n batch old new clears.keeps (λ spreading. (clears.goes n spreading).spread) (λ few. subst (λ (z : ℕ). z ≤ n + 1) (sym clears.out) few)
+    (clears.within n batch)
 
 dropped_at : {X : Type 0} (n : ℕ) (ys : List X) → n < length ys → drop n (remove ys n) ≡ drop (suc n) ys
 dropped_at zero [] below = absurd (omega arith)

@@ -49,7 +49,7 @@ root_told c t root v is at got =
 
 pub finished_one : (old new : Running) (e : Emitted) → Known old → IsDone s.Finish old new → IsEmitted old e → AreCalm old.plan old.machine → FinishedOne old new e
 finished_one old new e known done is calm = record {
-  went = λ n. went_finish n old new e known is done;
+  went = λ n batch. went_finish n batch old new e known is done;
   goes = λ n. goes_finish n old new known done;
   told = is;
   done = done;
@@ -59,8 +59,8 @@ finished_one old new e known done is calm = record {
 }
 
 -- one more was finished, behind others
-pub went_on : (a b c : Running) (e : Emitted) → ((n : ℕ) → Went n a b) → ((n : ℕ) → Goes n a b) → FinishedOne b c e → (n : ℕ) → Went n a c
-went_on a b c e went goes more n = went_then n a b c (goes n) (went n) (more.went n)
+pub went_on : (a b c : Running) (e : Emitted) → ((n batch : ℕ) → Went n batch a b) → ((n : ℕ) → Goes n a b) → FinishedOne b c e → (n batch : ℕ) → Went n batch a c
+went_on a b c e went goes more n batch = went_then n batch a b c (goes n) (went n batch) (more.went n batch)
 
 -- what windows emit, one after another
 pub matches_more : (all after : List Emitted) (e : Emitted) (first second third : List Match) → after ≡ all ++ e ∷ []

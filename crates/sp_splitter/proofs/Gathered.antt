@@ -25,7 +25,7 @@ use Rattle.sp_splitter.proofs.Stepping.{back_done, goes_back, goes_homecoming, g
 
 -- a piece was given back, or nothing was done
 pub record Brings (old new : Running) : Type 0 where
-  pub went : (n : ℕ) → Went n old new
+  pub went : (n batch : ℕ) → Went n batch old new
   pub goes : (n : ℕ) → Goes n old new
   pub emitted : NoneEmitted old new
   pub read : readings_entered new.journal ≤ readings_entered old.journal + 1
@@ -34,7 +34,7 @@ pub brings_none : (old new : Running) → new ≡ old → Brings old new
 brings_none old new same =
     let read : readings_entered new.journal ≡ readings_entered old.journal = ap (λ (z : Running). readings_entered z.journal) same in
     record {
-      went = λ n. went_none n old new same;
+      went = λ n batch. went_none n batch old new same;
       goes = λ n. goes_none n old new same;
       emitted = ap (λ (z : Running). z.machine.emitted) same;
       read = omega arith;
@@ -44,7 +44,7 @@ brings_back : (number : ℕ) (old new : Running) → Known old → IsDone (s.Ret
 brings_back number old new known done =
     let read = none_read_back number old new done in
     record {
-      went = λ n. went_back n number old new known done;
+      went = λ n batch. went_back n batch number old new known done;
       goes = λ n. goes_back n number old new known done;
       emitted = none_emitted_back number old new done;
       read = omega arith;
@@ -52,7 +52,7 @@ brings_back number old new known done =
 
 brings_home : (number times : ℕ) (old new : Running) → Known old → new ≡ after_return old number times → Brings old new
 brings_home number times old new known is = record {
-  went = λ n. went_homecoming n number times old new known is;
+  went = λ n batch. went_homecoming n batch number times old new known is;
   goes = λ n. goes_homecoming n number times old new known is;
   emitted = none_emitted_homecoming number times old new is;
   read = one_read number times old new is;
@@ -67,7 +67,7 @@ brings_given old new p (g.Differs lent back) known (t, v, out, carries, was, is,
 
 -- pieces were collected and given back, one after another
 pub record BringsAll (old new : Running) (before after : Posting) : Type 0 where
-  pub went : (n : ℕ) → Went n old new
+  pub went : (n batch : ℕ) → Went n batch old new
   pub goes : (n : ℕ) → Goes n old new
   pub emitted : NoneEmitted old new
   pub read : ReadByCalls old new before after
@@ -75,7 +75,7 @@ pub record BringsAll (old new : Running) (before after : Posting) : Type 0 where
 
 pub brings_all_none : (c : Running) (by : Posting) → BringsAll c c by by
 brings_all_none c by = record {
-  went = λ n. went_none n c c refl;
+  went = λ n batch. went_none n batch c c refl;
   goes = λ n. goes_none n c c refl;
   emitted = refl;
   read = omega arith;
@@ -90,7 +90,7 @@ brings_all_then a b c first second third piece all one is =
     let read = all.read in
     let more = one.read in
     record {
-      went = λ n. went_then n a b c (all.goes n) (all.went n) (one.went n);
+      went = λ n batch. went_then n batch a b c (all.goes n) (all.went n batch) (one.went n batch);
       goes = λ n. goes_then n a b c (all.goes n) (one.goes n);
       emitted = one.emitted ∙ all.emitted;
       read = omega arith;

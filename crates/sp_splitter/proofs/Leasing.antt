@@ -29,7 +29,7 @@ use Rattle.sp_splitter.specs.Knowing.{Known}
 use Rattle.sp_splitter.specs.Keeping.{AreApart, Lends}
 use Rattle.sp_splitter.specs.Lending.{asked, leased_all}
 use Rattle.sp_splitter.specs.Splitting.{RiseBetween, IsBelowKept}
-use Rattle.sp_splitter.proofs.Stepping.{out_lease, spread_lease}
+use Rattle.sp_splitter.proofs.Stepping.{asked_once, never_once, out_lease, spread_lease}
 use Rattle.sp_splitter.proofs.Untouched.{kept_itself, kept_then, kept_lease, spread_out_kept}
 
 and_true : (b : Bool) → (b && true) ≡ b
@@ -42,6 +42,8 @@ lends_itself batch c = record {
   keeps = kept_itself c;
   spread = λ n out spread. spread;
   out = omega arith;
+  never = λ n few never. never;
+  asked = λ asked. asked;
   left = λ id. sym (and_true (is_among (ready_numbers c.plan c.bound c.machine) id));
   are = refl;
 }
@@ -78,8 +80,8 @@ same_either m n = grind (arith, nat_tests)
 
 -- one lease more
 pub lends_more : (batch id : ℕ) (done : List ℕ) (old mid new : Running) → Known mid → Lends batch done old mid → IsDone (s.Lease id (asked batch mid id)) mid new
-    → Lends batch (done ++ id ∷ []) old new
-lends_more batch id done old mid new known lends is =
+    → asked batch mid id ≤ batch → Lends batch (done ++ id ∷ []) old new
+lends_more batch id done old mid new known lends is most =
     let count = asked batch mid id in
     let keeps = kept_lease id count mid new known is in
     let law = known.lawful.busy.by_lease id count is.0 in
@@ -92,6 +94,8 @@ lends_more batch id done old mid new known lends is =
       keeps = kept_then old mid new lends.keeps keeps;
       spread = λ n out spread. spread_lease n id count mid new known is (spread_out_kept n old mid lends.keeps out) (lends.spread n out spread);
       out = omega arith;
+      never = λ n few never. never_once n (s.Lease id count) mid new known is (omega arith) few (lends.never n (omega arith) never);
+      asked = λ before. asked_once batch (s.Lease id count) mid new is most (lends.asked before);
       left = λ x. ap (λ (ns : List ℕ). is_among ns x) ready ∙ among_filter (λ other. not (other == id)) (ready_numbers mid.plan mid.bound mid.machine) x
           ∙ (λ i. lends.left x i && not (same_either x id i)) ∙ both_left (is_among (ready_numbers old.plan old.bound old.machine) x) (is_among done x) (id == x)
           ∙ ap (λ (b : Bool). is_among (ready_numbers old.plan old.bound old.machine) x && not b) (sym (among_more done id x));

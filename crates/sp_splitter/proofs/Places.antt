@@ -148,10 +148,11 @@ picked_few shares n c ids (tree, is, picked) =
 
 -- leases for which there are places went well
 pub went_lends : (n batch : ℕ) (ids : List ℕ) (old new : Running) → IsSpreadOut old.plan old.bound n old.machine → length ids ≤ n + 1 - out_count old.machine
-    → Lends batch ids old new → Went n old new
+    → Lends batch ids old new → Went n batch old new
 went_lends n batch ids old new out places lends =
     let grown : out_count new.machine ≡ out_count old.machine + length ids = lends.out in
-    went_kept n old new lends.keeps (λ spreading. lends.spread n out spreading.spread) (λ few. omega arith)
+    went_kept n batch old new lends.keeps (λ spreading. lends.spread n out spreading.spread) (λ few. omega arith)
+    (record { never = λ few never. lends.never n (omega arith) never; asked = lends.asked })
 
 none_among : (ns : List ℕ) → ((n : ℕ) → is_among ns n ≡ false) → ns ≡ []
 none_among [] none = refl
@@ -230,7 +231,7 @@ pub kept_part : (batch : ℕ) (ids : List ℕ) (old new : Running) → LendsSoFa
 kept_part batch ids old new (count, lends) = lends.keeps
 
 pub went_part : (n batch : ℕ) (ids : List ℕ) (old new : Running) → IsSpreadOut old.plan old.bound n old.machine → length ids ≤ n + 1 - out_count old.machine
-    → LendsSoFar batch ids old new → Went n old new
+    → LendsSoFar batch ids old new → Went n batch old new
 went_part n batch ids old new out places (count, lends) =
     went_lends n batch (take count ids) old new out (omega (arith, length-take count ids)) lends
 

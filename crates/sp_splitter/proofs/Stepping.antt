@@ -1,7 +1,9 @@
 -- What the steps of a stage keep, one after another: for each kind of step, whether it went well (`Went`, `Goes`), what it emits and reads.
 use Rattle.std.proofs.Common.{◌≡◌, ℕ, zero, suc, ◌+◌, ◌≤◌, Bool, true, false, cond, List, [], ◌∷◌, ◌++◌, Option, None, Some, is_some, refl, sym, ap, subst, ◌∙◌, append_assoc, arith}
+use Rattle.std.specs.Prelude.{replicate}
 use Rattle.std.proofs.lemmas.Grind.{flat_map-append}
 use Rattle.std.proofs.lemmas.List.{append-nil}
+use Rattle.std.proofs.lemmas.List.Elements.{All-append, All-cons, All-nil, All-push}
 use Rattle.std.proofs.lemmas.List.Sums.{fold-append, sum_by-append, sum_by_push}
 use Rattle.std.proofs.Math.Nat.{le_trans}
 use Rattle.sp_plan.specs.declared.found.Match.{Match}
@@ -12,10 +14,10 @@ use Rattle.sp_group.specs.declared.step.Entry.{Entry}
 use Rattle.sp_group.specs.declared.step.Step.{Step}
 use Rattle.sp_group.specs.declared.step.Step.TheVariants as s
 use Rattle.sp_group.specs.Rising.{IsLabel}
-use Rattle.sp_group.specs.Machine.{Machine, Ticket, Version, conflict, version_at, ticket_at, root_in}
+use Rattle.sp_group.specs.Machine.{Machine, Ticket, Version, conflict, opening, version_at, ticket_at, root_in}
 use Rattle.sp_group.specs.Refusing.{refusal, return_refusal}
 use Rattle.sp_group.specs.Effects.{any_spawned, child_spawned, event_read, effect, finished_one, home, leased, new_matches, popped, returned, rolled, settled}
-use Rattle.sp_group.specs.Steps.{Finished, IsSpreadOut, Spread, finish_answer, is_lease, out_count, replay, step, steps, unless_refused}
+use Rattle.sp_group.specs.Steps.{Finished, IsSpreadOut, Spread, after_entry, finish_answer, is_lease, out_count, replay, step, steps, unless_refused}
 use Rattle.sp_rules.specs.Returning.{reads, reads_and_return}
 use Rattle.sp_rules.specs.Schedules.{FitsStep, Reached}
 use Rattle.sp_core.specs.declared.emitted.Emitted.{Emitted}
@@ -24,9 +26,10 @@ use Rattle.sp_core.specs.Returning.{after_return, reading_entries}
 use Rattle.sp_core.specs.Running.{IsDone, Running, after, once, refused}
 use Rattle.sp_spread.specs.Journaled.{fed, fed_by, is_reading, readings_entered}
 use Rattle.sp_spread.specs.Laws.{JournalsStaySpread, TurnsAreLawful}
+use Rattle.sp_spread.specs.Limiting.{AsksAtMost, NeverMore, asked_by}
 use Rattle.sp_spread.specs.Spreading.{Spreading}
 use Rattle.sp_splitter.specs.Knowing.{Known}
-use Rattle.sp_splitter.specs.Stages.{Goes, IsSpreading, NoneEmitted, NoneRead, Went}
+use Rattle.sp_splitter.specs.Stages.{Goes, IsSpreading, NoneEmitted, NoneRead, StaysWithin, Went}
 
 -- what is known of a core, of what its look-ups and the laws say
 pub known_of : TurnsAreLawful → JournalsStaySpread → (c : Running) → IsCompiled c.plan → Reached c.plan c.bound c.machine
@@ -39,9 +42,13 @@ known_of lawful stays c compiled reached replays = record {
   stays = stays;
 }
 
+-- where nothing came into the journal
+pub within_itself : (n batch : ℕ) (c : Running) → StaysWithin n batch c c
+within_itself n batch c = record { never = λ few never. never; asked = λ asked. asked }
+
 -- where nothing was done
-pub went_none : (n : ℕ) (old new : Running) → new ≡ old → Went n old new
-went_none n old new same = subst (λ (z : Running). Went n old z) (sym same) (record {
+pub went_none : (n batch : ℕ) (old new : Running) → new ≡ old → Went n batch old new
+went_none n batch old new same = subst (λ (z : Running). Went n batch old z) (sym same) (record {
   plan = refl;
   bound = refl;
   events = refl;
@@ -51,6 +58,7 @@ went_none n old new same = subst (λ (z : Running). Went n old z) (sym same) (re
   emitted = sym (append-nil old.machine.emitted);
   spread = λ spreading. spreading.spread;
   few = λ few. few;
+  within = within_itself n batch old;
   tickets = omega arith;
 })
 
@@ -61,8 +69,15 @@ goes_none n old new same = subst (λ (z : Running). Goes n old z) (sym same) (λ
 pub goes_then : (n : ℕ) (a b c : Running) → Goes n a b → Goes n b c → Goes n a c
 goes_then n a b c first then spreading = then (first spreading)
 
-pub went_then : (n : ℕ) (a b c : Running) → Goes n a b → Went n a b → Went n b c → Went n a c
-went_then n a b c goes first then = record {
+pub within_then : (n batch : ℕ) (a b c : Running) → (out_count a.machine ≤ n + 1 → out_count b.machine ≤ n + 1) → StaysWithin n batch a b
+    → StaysWithin n batch b c → StaysWithin n batch a c
+within_then n batch a b c few first then = record {
+  never = λ before never. then.never (few before) (first.never before never);
+  asked = λ asked. then.asked (first.asked asked);
+}
+
+pub went_then : (n batch : ℕ) (a b c : Running) → Goes n a b → Went n batch a b → Went n batch b c → Went n batch a c
+went_then n batch a b c goes first then = record {
   plan = then.plan ∙ first.plan;
   bound = then.bound ∙ first.bound;
   events = then.events ∙ first.events;
@@ -72,6 +87,7 @@ went_then n a b c goes first then = record {
   emitted = then.emitted ∙ ap (λ (z : List Match). z ++ then.more) first.emitted ∙ append_assoc a.machine.emitted first.more then.more;
   spread = λ spreading. then.spread (goes spreading);
   few = λ few. then.few (first.few few);
+  within = within_then n batch a b c first.few first.within then.within;
   tickets = le_trans first.tickets then.tickets;
 }
 
@@ -147,11 +163,53 @@ next_steps q bound m [] = omega arith
 next_steps q bound m (x ∷ xs) =
     le_trans (next_unless (refusal q bound m x) m (effect q m x) (next_after q m x)) (next_steps q bound (step q bound m x) xs)
 
+-- the states of an entry whose step is done once
+once_few : (q : Plan) (bound n : ℕ) (m : Machine) (x : Step) → out_count m ≤ n + 1 → out_count (step q bound m x) ≤ n + 1 → (times : ℕ) → times ≤ 1
+    → out_count (steps q bound m (replicate times x)) ≤ n + 1
+once_few q bound n m x before after zero low = before
+once_few q bound n m x before after (suc zero) low = after
+once_few q bound n m x before after (suc (suc times)) low = absurd (omega arith)
+
+-- one step, where more tickets than may be are out neither before it nor behind it
+pub never_once : (n : ℕ) (x : Step) (old new : Running) → Known old → IsDone x old new → out_count old.machine ≤ n + 1 → out_count new.machine ≤ n + 1
+    → NeverMore old.plan old.bound n old.journal → NeverMore new.plan new.bound n new.journal
+never_once n x old new known done before after never =
+    let stays = known.stays old.plan old.bound n old.machine old.journal known.replays in
+    let machine : new.machine ≡ effect old.plan old.machine x = ap (λ (z : Running). z.machine) done.1 in
+    let behind : out_count (step old.plan old.bound old.machine x) ≤ n + 1 =
+    subst (λ (z : Machine). out_count z ≤ n + 1) (machine ∙ sym (step_done old x done.0)) after in
+    subst (λ (z : Running). NeverMore z.plan z.bound n z.journal) (sym done.1)
+    (stays.never_more (once x) (once_few old.plan old.bound n old.machine x before behind) never)
+
+-- one step that asks for no more than a batch
+pub asked_once : (batch : ℕ) (x : Step) (old new : Running) → IsDone x old new → asked_by x ≤ batch → AsksAtMost batch old.journal → AsksAtMost batch new.journal
+asked_once batch x old new done most asked =
+    subst (λ (z : Running). AsksAtMost batch z.journal) (sym done.1) (All-push (λ (e : Entry). asked_by e.step ≤ batch) old.journal (once x) asked most)
+
+-- what is no lease asks for nothing
+none_asked : (batch : ℕ) (x : Step) → is_lease x ≡ false → asked_by x ≤ batch
+none_asked batch (s.Feed e) other = omega arith
+none_asked batch s.End other = omega arith
+none_asked batch (s.Spawn parent label) other = omega arith
+none_asked batch (s.Lease id n) other = absurd (cc)
+none_asked batch (s.Event n) other = omega arith
+none_asked batch (s.Return n) other = omega arith
+none_asked batch (s.Roll id) other = omega arith
+none_asked batch s.Finish other = omega arith
+
+-- one step that is no lease, behind which no more tickets are out
+pub within_once : (n batch : ℕ) (x : Step) (old new : Running) → Known old → IsDone x old new → is_lease x ≡ false
+    → out_count new.machine ≤ out_count old.machine → StaysWithin n batch old new
+within_once n batch x old new known done lease less = record {
+  never = λ few never. never_once n x old new known done few (le_trans less few) never;
+  asked = λ asked. asked_once batch x old new done (none_asked batch x lease) asked;
+}
+
 -- one step that is no lease and feeds nothing
-pub went_step : (n : ℕ) (x : Step) (more : List Match) (old new : Running) → Known old → FitsStep old.plan old.bound old.machine x → IsDone x old new
+pub went_step : (n batch : ℕ) (x : Step) (more : List Match) (old new : Running) → Known old → FitsStep old.plan old.bound old.machine x → IsDone x old new
     → is_lease x ≡ false → fed_by x ≡ [] → new.machine.events ≡ old.machine.events → new.machine.ended ≡ old.machine.ended
-    → new.machine.emitted ≡ old.machine.emitted ++ more → Went n old new
-went_step n x more old new known fits done lease none events ended emitted =
+    → new.machine.emitted ≡ old.machine.emitted ++ more → Went n batch old new
+went_step n batch x more old new known fits done lease none events ended emitted =
     let q = old.plan in
     let stays = known.stays q old.bound n old.machine old.journal known.replays in
     let journal : new.journal ≡ old.journal ++ once x ∷ [] = ap (λ (z : Running). z.journal) done.1 in
@@ -171,6 +229,7 @@ went_step n x more old new known fits done lease none events ended emitted =
       emitted = emitted;
       spread = λ spreading. subst (λ (z : Running). Spread z.plan z.bound n z.journal) (sym done.1) (stays.by_other new.machine (once x) lease spreading).spread;
       few = λ few. omega arith;
+      within = within_once n batch x old new known done lease less;
       tickets = next_done x old new done;
     }
 
@@ -245,10 +304,10 @@ leaves_come_home q bound m n times =
     (leaves_unless (refusal q bound read (s.Return n)) read (effect q read (s.Return n)) (leaves_returned q read n (ticket_at read.tickets n))))
 
 -- a step that is no lease, feeds nothing and emits nothing
-pub went_quiet : (n : ℕ) (x : Step) (old new : Running) → Known old → FitsStep old.plan old.bound old.machine x → IsDone x old new
-    → is_lease x ≡ false → fed_by x ≡ [] → Leaves old.machine new.machine → Went n old new
-went_quiet n x old new known fits done lease none leaves =
-    went_step n x [] old new known fits done lease none leaves.events leaves.ended (leaves.emitted ∙ sym (append-nil old.machine.emitted))
+pub went_quiet : (n batch : ℕ) (x : Step) (old new : Running) → Known old → FitsStep old.plan old.bound old.machine x → IsDone x old new
+    → is_lease x ≡ false → fed_by x ≡ [] → Leaves old.machine new.machine → Went n batch old new
+went_quiet n batch x old new known fits done lease none leaves =
+    went_step n batch x [] old new known fits done lease none leaves.events leaves.ended (leaves.emitted ∙ sym (append-nil old.machine.emitted))
 
 leaves_done : (x : Step) (old new : Running) → IsDone x old new → Leaves old.machine (effect old.plan old.machine x) → Leaves old.machine new.machine
 leaves_done x old new done leaves = subst (λ (z : Running). Leaves old.machine z.machine) (sym done.1) leaves
@@ -257,8 +316,8 @@ leaves_done x old new done leaves = subst (λ (z : Running). Leaves old.machine 
 pub leaves_roll : (id : ℕ) (old new : Running) → IsDone (s.Roll id) old new → Leaves old.machine new.machine
 leaves_roll id old new done = leaves_done (s.Roll id) old new done (leaves_rolled old.machine (version_at old.machine.versions id))
 
-pub went_roll : (n id : ℕ) (old new : Running) → Known old → IsDone (s.Roll id) old new → Went n old new
-went_roll n id old new known done = went_quiet n (s.Roll id) old new known tt done refl refl (leaves_roll id old new done)
+pub went_roll : (n batch id : ℕ) (old new : Running) → Known old → IsDone (s.Roll id) old new → Went n batch old new
+went_roll n batch id old new known done = went_quiet n batch (s.Roll id) old new known tt done refl refl (leaves_roll id old new done)
 
 pub goes_roll : (n id : ℕ) (old new : Running) → Known old → IsDone (s.Roll id) old new → Goes n old new
 goes_roll n id old new known done = goes_step n (s.Roll id) old new known done refl
@@ -273,10 +332,10 @@ none_read_roll id old new done = none_read_step (s.Roll id) old new done refl
 pub leaves_spawn : (parent : Option ℕ) (label : List ℕ) (old new : Running) → IsDone (s.Spawn parent label) old new → Leaves old.machine new.machine
 leaves_spawn parent label old new done = leaves_done (s.Spawn parent label) old new done (leaves_spawned old.machine parent label)
 
-pub went_spawn : (n : ℕ) (parent : Option ℕ) (label : List ℕ) (old new : Running) → Known old → IsLabel label
-    → IsDone (s.Spawn parent label) old new → Went n old new
-went_spawn n parent label old new known is_label done =
-    went_quiet n (s.Spawn parent label) old new known is_label done refl refl (leaves_spawn parent label old new done)
+pub went_spawn : (n batch : ℕ) (parent : Option ℕ) (label : List ℕ) (old new : Running) → Known old → IsLabel label
+    → IsDone (s.Spawn parent label) old new → Went n batch old new
+went_spawn n batch parent label old new known is_label done =
+    went_quiet n batch (s.Spawn parent label) old new known is_label done refl refl (leaves_spawn parent label old new done)
 
 pub goes_spawn : (n : ℕ) (parent : Option ℕ) (label : List ℕ) (old new : Running) → Known old → IsDone (s.Spawn parent label) old new → Goes n old new
 goes_spawn n parent label old new known done = goes_step n (s.Spawn parent label) old new known done refl
@@ -296,8 +355,8 @@ pub leaves_back : (number : ℕ) (old new : Running) → IsDone (s.Return number
 leaves_back number old new done =
     leaves_done (s.Return number) old new done (leaves_returned old.plan old.machine number (ticket_at old.machine.tickets number))
 
-pub went_back : (n number : ℕ) (old new : Running) → Known old → IsDone (s.Return number) old new → Went n old new
-went_back n number old new known done = went_quiet n (s.Return number) old new known tt done refl refl (leaves_back number old new done)
+pub went_back : (n batch number : ℕ) (old new : Running) → Known old → IsDone (s.Return number) old new → Went n batch old new
+went_back n batch number old new known done = went_quiet n batch (s.Return number) old new known tt done refl refl (leaves_back number old new done)
 
 pub goes_back : (n number : ℕ) (old new : Running) → Known old → IsDone (s.Return number) old new → Goes n old new
 goes_back n number old new known done = goes_step n (s.Return number) old new known done refl
@@ -335,10 +394,10 @@ emits_finish old new e is done =
     subst (λ (z : Running). Emits old.machine z.machine e.matches.items) (sym done.1)
     (emits_finished old.plan old.machine (root_in old.machine.versions) e.window e.matches.items e.root is)
 
-pub went_finish : (n : ℕ) (old new : Running) (e : Emitted) → Known old → IsEmitted old e → IsDone s.Finish old new → Went n old new
-went_finish n old new e known is done =
+pub went_finish : (n batch : ℕ) (old new : Running) (e : Emitted) → Known old → IsEmitted old e → IsDone s.Finish old new → Went n batch old new
+went_finish n batch old new e known is done =
     let all = emits_finish old new e is done in
-    went_step n s.Finish e.matches.items old new known tt done refl refl all.events all.ended all.emitted
+    went_step n batch s.Finish e.matches.items old new known tt done refl refl all.events all.ended all.emitted
 
 pub goes_finish : (n : ℕ) (old new : Running) → Known old → IsDone s.Finish old new → Goes n old new
 goes_finish n old new known done = goes_step n s.Finish old new known done refl
@@ -346,7 +405,7 @@ goes_finish n old new known done = goes_step n s.Finish old new known done refl
 pub none_read_finish : (old new : Running) → IsDone s.Finish old new → NoneRead old new
 none_read_finish old new done = none_read_step s.Finish old new done refl
 
--- a lease, where the machine is spread out and fewer tickets of live versions are out than may be
+-- a lease, where the machine is spread out
 pub leaves_lease : (id count : ℕ) (old new : Running) → IsDone (s.Lease id count) old new → Leaves old.machine new.machine
 leaves_lease id count old new done =
     leaves_done (s.Lease id count) old new done (leaves_leased old.plan old.machine count (version_at old.machine.versions id))
@@ -360,24 +419,6 @@ spread_lease n id count old new known done out spread =
 pub out_lease : (id count : ℕ) (old new : Running) → Known old → IsDone (s.Lease id count) old new → out_count new.machine ≡ out_count old.machine + 1
 out_lease id count old new known done =
     ap (λ (z : Running). out_count z.machine) done.1 ∙ known.lawful.out.by_lease id count done.0
-
-pub went_lease : (n id count : ℕ) (old new : Running) → Known old → IsDone (s.Lease id count) old new
-    → IsSpreadOut old.plan old.bound n old.machine → out_count old.machine ≤ n → Went n old new
-went_lease n id count old new known done out few =
-    let leaves = leaves_lease id count old new done in
-    let grown = out_lease id count old new known done in
-    record {
-      plan = ap (λ (z : Running). z.plan) done.1;
-      bound = ap (λ (z : Running). z.bound) done.1;
-      events = leaves.events;
-      ended = leaves.ended;
-      fed_are = ap (λ (z : Running). fed z.journal) done.1 ∙ fed_more old.journal (s.Lease id count) refl;
-      more = [];
-      emitted = leaves.emitted ∙ sym (append-nil old.machine.emitted);
-      spread = λ spreading. spread_lease n id count old new known done out spreading.spread;
-      few = λ before. omega arith;
-      tickets = next_done (s.Lease id count) old new done;
-    }
 
 pub none_emitted_lease : (id count : ℕ) (old new : Running) → IsDone (s.Lease id count) old new → NoneEmitted old new
 none_emitted_lease id count old new done = (leaves_lease id count old new done).emitted
@@ -417,12 +458,58 @@ goes_homecoming n number times old new known is spreading =
     subst (λ (z : Plan). Spreading z new.bound n new.machine new.journal) (sym (ap (λ (z : Running). z.plan) is))
     (subst (λ (z : ℕ). Spreading old.plan z n new.machine new.journal) (sym (ap (λ (z : Running). z.bound) is)) here)
 
+-- nor are more tickets out in any state that it passes with them
+never_with : (n number times : ℕ) (c : Running) → Known c → out_count c.machine ≤ n + 1 → NeverMore c.plan c.bound n c.journal
+    → NeverMore c.plan c.bound n (c.journal ++ home_entries number times)
+never_with n number zero c known few never =
+    let stays = known.stays c.plan c.bound n c.machine c.journal known.replays in
+    let less : out_count (step c.plan c.bound c.machine (s.Return number)) ≤ out_count c.machine = known.lawful.out.by_home number zero in
+    stays.never_more (once (s.Return number)) (once_few c.plan c.bound n c.machine (s.Return number) few (le_trans less few)) never
+never_with n number (suc times) c known few never =
+    let q = c.plan in
+    let readings : Entry = record { step = s.Event number; times = suc times } in
+    let read = c.journal ++ readings ∷ [] in
+    let mid : Machine = steps q c.bound c.machine (reads number (suc times)) in
+    let leads : replay q c.bound read ≡ mid =
+    fold-append (after_entry q c.bound) opening c.journal (readings ∷ []) ∙ ap (λ (z : Machine). after_entry q c.bound z readings) known.replays in
+    let first : NeverMore q c.bound n read =
+    (known.stays q c.bound n c.machine c.journal known.replays).never_more readings (λ k low. le_trans (known.lawful.out.by_reads number k) few) never in
+    let less : out_count (step q c.bound mid (s.Return number)) ≤ out_count c.machine =
+    subst (λ (z : Machine). out_count z ≤ out_count c.machine) (fold-append (step q c.bound) c.machine (reads number (suc times)) (s.Return number ∷ []))
+    (known.lawful.out.by_home number (suc times)) in
+    subst (λ (z : List Entry). NeverMore q c.bound n z) (append_assoc c.journal (readings ∷ []) (once (s.Return number) ∷ []))
+    ((known.stays q c.bound n mid read leads).never_more (once (s.Return number))
+    (once_few q c.bound n mid (s.Return number) (le_trans (known.lawful.out.by_reads number (suc times)) few) (le_trans less few)) first)
+
+return_asks_none : (batch number : ℕ) → AsksAtMost batch (once (s.Return number) ∷ [])
+return_asks_none batch number =
+    All-cons (λ (e : Entry). asked_by e.step ≤ batch) (once (s.Return number)) [] (omega arith) (All-nil (λ (e : Entry). asked_by e.step ≤ batch))
+
+none_asked_home : (batch number times : ℕ) → AsksAtMost batch (home_entries number times)
+none_asked_home batch number zero = return_asks_none batch number
+none_asked_home batch number (suc times) =
+    All-cons (λ (e : Entry). asked_by e.step ≤ batch) (record { step = s.Event number; times = suc times }) (once (s.Return number) ∷ []) (omega arith)
+    (return_asks_none batch number)
+
+within_homecoming : (n batch number times : ℕ) (old new : Running) → Known old → new ≡ after_return old number times → StaysWithin n batch old new
+within_homecoming n batch number times old new known is =
+    let journal = sym (journal_homecoming number times old new is) in
+    record {
+      never = λ few never.
+          subst (λ (z : Plan). NeverMore z new.bound n new.journal) (sym (ap (λ (z : Running). z.plan) is))
+          (subst (λ (z : ℕ). NeverMore old.plan z n new.journal) (sym (ap (λ (z : Running). z.bound) is))
+          (subst (λ (z : List Entry). NeverMore old.plan old.bound n z) journal (never_with n number times old known few never)));
+      asked = λ asked.
+          subst (AsksAtMost batch) journal
+          (All-append (λ (e : Entry). asked_by e.step ≤ batch) old.journal (home_entries number times) asked (none_asked_home batch number times));
+    }
+
 none_fed : (number times : ℕ) → fed (home_entries number times) ≡ []
 none_fed number zero = refl
 none_fed number (suc times) = refl
 
-pub went_homecoming : (n number times : ℕ) (old new : Running) → Known old → new ≡ after_return old number times → Went n old new
-went_homecoming n number times old new known is =
+pub went_homecoming : (n batch number times : ℕ) (old new : Running) → Known old → new ≡ after_return old number times → Went n batch old new
+went_homecoming n batch number times old new known is =
     let leaves = leaves_homecoming number times old new is in
     let fewer : out_count new.machine ≤ out_count old.machine =
     subst (λ (z : Running). out_count z.machine ≤ out_count old.machine) (sym is) (known.lawful.out.by_home number times) in
@@ -438,6 +525,7 @@ went_homecoming n number times old new known is =
       emitted = leaves.emitted ∙ sym (append-nil old.machine.emitted);
       spread = λ spreading. (goes_homecoming n number times old new known is spreading).spread;
       few = λ few. omega arith;
+      within = within_homecoming n batch number times old new known is;
       tickets = subst (λ (z : Running). old.machine.next_ticket ≤ z.machine.next_ticket) (sym is)
           (next_steps old.plan old.bound old.machine (reads_and_return number times));
     }

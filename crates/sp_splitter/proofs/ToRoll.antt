@@ -162,7 +162,7 @@ refused_loses c id r is other v at hit = (λ same. two same, at, hit)
 
 pub quiet_none : (old new : Running) → new ≡ old → Quiet old new
 quiet_none old new same = record {
-  went = λ n. went_none n old new same;
+  went = λ n batch. went_none n batch old new same;
   goes = λ n. goes_none n old new same;
   emitted = ap (λ (c : Running). c.machine.emitted) same;
   read = ap (λ (c : Running). readings_entered c.journal) same;
@@ -170,7 +170,7 @@ quiet_none old new same = record {
 
 pub quiet_then : (a b c : Running) → Quiet a b → Quiet b c → Quiet a c
 quiet_then a b c first second = record {
-  went = λ n. went_then n a b c (first.goes n) (first.went n) (second.went n);
+  went = λ n batch. went_then n batch a b c (first.goes n) (first.went n batch) (second.went n batch);
   goes = λ n. goes_then n a b c (first.goes n) (second.goes n);
   emitted = second.emitted ∙ first.emitted;
   read = second.read ∙ first.read;
@@ -178,7 +178,7 @@ quiet_then a b c first second = record {
 
 pub quiet_roll : (id : ℕ) (old new : Running) → Known old → IsDone (s.Roll id) old new → Quiet old new
 quiet_roll id old new known done = record {
-  went = λ n. went_roll n id old new known done;
+  went = λ n batch. went_roll n batch id old new known done;
   goes = λ n. goes_roll n id old new known done;
   emitted = none_emitted_roll id old new done;
   read = none_read_roll id old new done;

@@ -25,7 +25,7 @@ use Rattle.sp_spread.specs.Laws.{IsStale}
 use Rattle.sp_splitter.specs.Breeding.{IsWide}
 use Rattle.sp_splitter.specs.Knowing.{Known}
 use Rattle.sp_splitter.specs.Keeping.{KeepsVersions}
-use Rattle.sp_splitter.specs.Stages.{IsSpreading, Went}
+use Rattle.sp_splitter.specs.Stages.{IsSpreading, StaysWithin, Went}
 use Rattle.sp_splitter.proofs.Stepping.{fed_more, leaves_leased, none_read_step}
 
 -- nothing was done
@@ -131,9 +131,9 @@ pub kept_stale : (n : ℕ) (old new : Running) → Known old → IsStale old.mac
 kept_stale n old new known stale is = subst (λ (z : Running). KeepsVersions old z) (sym is) (kept_after_stale n old known stale)
 
 -- such a stage went well
-pub went_kept : (n : ℕ) (old new : Running) → KeepsVersions old new → (IsSpreading n old → Spread new.plan new.bound n new.journal)
-    → (out_count old.machine ≤ n + 1 → out_count new.machine ≤ n + 1) → Went n old new
-went_kept n old new kept spread few = record {
+pub went_kept : (n batch : ℕ) (old new : Running) → KeepsVersions old new → (IsSpreading n old → Spread new.plan new.bound n new.journal)
+    → (out_count old.machine ≤ n + 1 → out_count new.machine ≤ n + 1) → StaysWithin n batch old new → Went n batch old new
+went_kept n batch old new kept spread few within = record {
   plan = kept.plan;
   bound = kept.bound;
   events = kept.events;
@@ -143,6 +143,7 @@ went_kept n old new kept spread few = record {
   emitted = kept.emitted ∙ sym (append-nil old.machine.emitted);
   spread = spread;
   few = few;
+  within = within;
   tickets = kept.tickets;
 }
 

@@ -15,7 +15,7 @@ pub data Finishes (old : Running) : Running → List Emitted → Type 0 where
 
 -- A window was finished, and emitted its matches. No public clause cites this.
 pub record FinishedOne (old new : Running) (finished : Emitted) : Type 0 where
-  pub went : (n : ℕ) → Went n old new
+  pub went : (n batch : ℕ) → Went n batch old new
   pub goes : (n : ℕ) → Goes n old new
   pub told : IsEmitted old finished
   pub done : IsDone s.Finish old new

@@ -10,8 +10,9 @@ use Rattle.sp_spread.specs.Calm.{AreCalm}
 use Rattle.sp_spread.specs.Counting.{busy_count}
 use Rattle.sp_spread.specs.Journaled.{fed, readings_entered}
 use Rattle.sp_spread.specs.Laws.{ready_numbers}
+use Rattle.sp_spread.specs.Limiting.{AsksAtMost, NeverMore}
 use Rattle.sp_splitter.specs.Lending.{leased_all, returned_all}
-use Rattle.sp_splitter.specs.Stages.{Goes}
+use Rattle.sp_splitter.specs.Stages.{Goes, StaysWithin}
 
 -- No version changed, only tickets went out or ended; nothing that was read came home; the versions in conflict are none more, and as many
 -- are busy.
@@ -35,6 +36,7 @@ pub record Clears (old new : Running) : Type 0 where
   pub keeps : KeepsVersions old new
   pub none_more : (n : ℕ) → ticket_at old.machine.tickets n ≡ None → ticket_at new.machine.tickets n ≡ None
   pub goes : (n : ℕ) → Goes n old new
+  pub within : (n batch : ℕ) → StaysWithin n batch old new
   pub out : out_count new.machine ≡ out_count old.machine
   pub next_ticket : new.machine.next_ticket ≡ old.machine.next_ticket
   pub back : List ℕ
@@ -53,6 +55,8 @@ pub record Lends (batch : ℕ) (ids : List ℕ) (old new : Running) : Type 0 whe
   pub keeps : KeepsVersions old new
   pub spread : (n : ℕ) → IsSpreadOut old.plan old.bound n old.machine → Spread old.plan old.bound n old.journal → Spread new.plan new.bound n new.journal
   pub out : out_count new.machine ≡ out_count old.machine + length ids
+  pub never : (n : ℕ) → out_count new.machine ≤ n + 1 → NeverMore old.plan old.bound n old.journal → NeverMore new.plan new.bound n new.journal
+  pub asked : AsksAtMost batch old.journal → AsksAtMost batch new.journal
   pub left : (id : ℕ) → is_among (ready_numbers new.plan new.bound new.machine) id
       ≡ (is_among (ready_numbers old.plan old.bound old.machine) id && not (is_among ids id))
   pub are : new ≡ leased_all batch ids old

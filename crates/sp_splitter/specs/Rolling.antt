@@ -49,7 +49,7 @@ place_cmp one other = ordering_then (nat_cmp one.0 other.0) (nat_cmp one.1 other
 
 -- steps that emit nothing and bring home nothing that was read, for any number of instances
 pub record Quiet (old new : Running) : Type 0 where
-  pub went : (n : ℕ) → Went n old new
+  pub went : (n batch : ℕ) → Went n batch old new
   pub goes : (n : ℕ) → Goes n old new
   pub emitted : NoneEmitted old new
   pub read : NoneRead old new

@@ -8,6 +8,7 @@ use Rattle.sp_group.specs.Steps.{Spread, is_lease, out_count}
 use Rattle.sp_core.specs.declared.emitted.Emitted.{Emitted}
 use Rattle.sp_core.specs.Running.{Running}
 use Rattle.sp_spread.specs.Journaled.{MakesNoChild, fed, readings_entered}
+use Rattle.sp_spread.specs.Limiting.{AsksAtMost, NeverMore}
 use Rattle.sp_spread.specs.Spreading.{Spreading}
 
 -- the journal of a core has spread its work, and where it ends in a lease all that can be out is out
@@ -18,9 +19,15 @@ IsSpreading n c = Spreading c.plan c.bound n c.machine c.journal
 abbrev pub Goes : ℕ → Running → Running → Type 0
 Goes n old new = IsSpreading n old → IsSpreading n new
 
--- A stage, for n instances: nothing was fed, and matches may have been emitted; the journal is spread; no more tickets are out for live
--- versions than there may be; and no ticket's number is given twice.
-pub record Went (n : ℕ) (old new : Running) : Type 0 where
+-- With what came into the journal of a core there is still no state that it passes in which more tickets are out than may be for n instances,
+-- and no lease that asks for more events than a batch.
+pub record StaysWithin (n batch : ℕ) (old new : Running) : Type 0 where
+  pub never : out_count old.machine ≤ n + 1 → NeverMore old.plan old.bound n old.journal → NeverMore new.plan new.bound n new.journal
+  pub asked : AsksAtMost batch old.journal → AsksAtMost batch new.journal
+
+-- A stage, for n instances and a batch: nothing was fed, and matches may have been emitted; the journal is spread; no more tickets are out
+-- for live versions than there may be, and were at no time, and none is for more events than a batch; and no ticket's number is given twice.
+pub record Went (n batch : ℕ) (old new : Running) : Type 0 where
   pub plan : new.plan ≡ old.plan
   pub bound : new.bound ≡ old.bound
   pub events : new.machine.events ≡ old.machine.events
@@ -30,6 +37,7 @@ pub record Went (n : ℕ) (old new : Running) : Type 0 where
   pub emitted : new.machine.emitted ≡ old.machine.emitted ++ more
   pub spread : IsSpreading n old → Spread new.plan new.bound n new.journal
   pub few : out_count old.machine ≤ n + 1 → out_count new.machine ≤ n + 1
+  pub within : StaysWithin n batch old new
   pub tickets : old.machine.next_ticket ≤ new.machine.next_ticket
 
 -- No entry that came into the journal makes a child, and none leases.

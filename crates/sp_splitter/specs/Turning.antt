@@ -74,7 +74,7 @@ pub record Turned (o : Outlook) (old new : Running) (finished : List Emitted) : 
   pub planted : Running
   pub tidied : TidiedUp home planted finished
   pub sends_none : SendsNone old planted
-  pub went : Went o.instances old planted
+  pub went : Went o.instances o.batch old planted
   pub finished_then : planted.machine.emitted ≡ old.machine.emitted ++ matches_of finished
   pub settled_then : Settled planted.plan planted.machine
   -- then work was sent out

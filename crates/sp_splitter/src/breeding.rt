@@ -41,7 +41,7 @@ pub(crate) fn breed(
     instances: u32,
 ) -> Result<(), Memory>
     requires settled { Settled core.old.plan core.old.machine }
-    ensures went { (n : ℕ) → Went n core.old core.new }
+    ensures went { (n batch : ℕ) → Went n batch core.old core.new }
     ensures goes { OnOk result ((n : ℕ) → Goes n core.old core.new) }
     ensures emitted { NoneEmitted core.old core.new }
     ensures read { NoneRead core.old core.new }

@@ -17,9 +17,10 @@ use std::alloc::{AllocError, Global};
 use std::collections::VecDeque;
 
 // Gives back, unread, a job whose version is gone.
+#[tactic(auto, using(crate::proofs::Stepping::went_none))]
 fn give_back_unread(alloc: Global, core: &mut Core, job: Job) -> Result<(), Memory>
     requires gone { version_at core.old.machine.versions job.version ≡ None }
-    ensures went { (n : ℕ) → Went n core.old core.new }
+    ensures went { (n batch : ℕ) → Went n batch core.old core.new }
     ensures emitted { NoneEmitted core.old core.new }
     ensures read { NoneRead core.old core.new }
     ensures next { core.new.machine.next_ticket ≡ core.old.machine.next_ticket }
@@ -45,7 +46,7 @@ pub(crate) fn drop_stale(
     kept: &mut VecDeque<Job>,
 ) -> Result<(), Memory>
     requires settled { Settled core.old.plan core.old.machine }
-    ensures went { (n : ℕ) → Went n core.old core.new }
+    ensures went { (n batch : ℕ) → Went n batch core.old core.new }
     ensures goes { OnOk result ((n : ℕ) → Goes n core.old core.new) }
     ensures emitted { NoneEmitted core.old core.new }
     ensures read { NoneRead core.old core.new }

@@ -40,7 +40,7 @@ fn finish_root(core: &mut Core) -> Emitted
 /// Finishes windows while the root is done, and answers what each of them emits.
 pub(crate) fn finish_all(alloc: Global, core: &mut Core) -> Result<Vec<Emitted>, Memory>
     requires calm { AreCalm core.old.plan core.old.machine }
-    ensures went { (n : ℕ) → Went n core.old core.new }
+    ensures went { (n batch : ℕ) → Went n batch core.old core.new }
     ensures goes { OnOk result ((n : ℕ) → Goes n core.old core.new) }
     ensures emitted { IfOk result
         (λ all. core.new.machine.emitted ≡ core.old.machine.emitted ++ matches_of all.items) }

@@ -28,8 +28,9 @@ fn learn_from(predictor: &mut dyn Predictor, core: &Core, piece: &Piece)
 
 // Gives a piece back. One whose ticket is not out, and one that is not what was lent, are let go as one whose
 // version is gone: nothing is known of pieces at home.
+#[tactic(auto, using(crate::proofs::Stepping::went_none))]
 fn give_back(alloc: Global, core: &mut Core, piece: Piece) -> Result<(), Memory>
-    ensures went { (n : ℕ) → Went n core.old core.new }
+    ensures went { (n batch : ℕ) → Went n batch core.old core.new }
     ensures goes { (n : ℕ) → Goes n core.old core.new }
     ensures emitted { NoneEmitted core.old core.new }
     ensures read { readings_entered core.new.journal ≤ readings_entered core.old.journal + 1 }
@@ -55,7 +56,7 @@ pub(crate) fn gather<L: Naming, R: Wait>(
     hub: &Hub<Job, Piece, L>,
     by: &mut Poster<Piece, L>,
 ) -> Result<Readings, Memory>
-    ensures went { (n : ℕ) → Went n core.old core.new }
+    ensures went { (n batch : ℕ) → Went n batch core.old core.new }
     ensures goes { OnOk result ((n : ℕ) → Goes n core.old core.new) }
     ensures emitted { NoneEmitted core.old core.new }
     ensures read { ReadByCalls core.old core.new by.old by.new }

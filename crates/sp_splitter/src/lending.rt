@@ -172,7 +172,7 @@ pub(crate) fn lend(
     requires most { batch ≤ batch_limit }
     requires settled { Settled core.old.plan core.old.machine }
     requires spread_out { IsSpreadOut core.old.plan core.old.bound instances core.old.machine }
-    ensures went { Went instances core.old core.new }
+    ensures went { Went instances batch core.old core.new }
     ensures goes { OnOk result (Goes instances core.old core.new) }
     ensures emitted { NoneEmitted core.old core.new }
     ensures read { NoneRead core.old core.new }

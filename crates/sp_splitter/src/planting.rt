@@ -10,10 +10,11 @@ use sp_group::Label;
 use std::alloc::{AllocError, Global};
 
 /// Makes the root of the next window where none is live and that window has begun.
+#[tactic(auto, using(crate::proofs::Stepping::went_none))]
 pub(crate) fn plant(alloc: Global, core: &mut Core) -> Result<(), Memory>
     requires calm { AreCalm core.old.plan core.old.machine }
     requires undone { NoneDone core.old.machine }
-    ensures went { (n : ℕ) → Went n core.old core.new }
+    ensures went { (n batch : ℕ) → Went n batch core.old core.new }
     ensures goes { OnOk result ((n : ℕ) → Goes n core.old core.new) }
     ensures emitted { NoneEmitted core.old core.new }
     ensures read { NoneRead core.old core.new }

@@ -67,7 +67,7 @@ fn roll_listed(core: &mut Core, found: &[(u32, u64)])
 
 /// Rolls every version that is in conflict, by window and then id.
 pub(crate) fn roll_all(alloc: Global, core: &mut Core) -> Result<(), Memory>
-    ensures went { (n : ℕ) → Went n core.old core.new }
+    ensures went { (n batch : ℕ) → Went n batch core.old core.new }
     ensures goes { OnOk result ((n : ℕ) → Goes n core.old core.new) }
     ensures emitted { NoneEmitted core.old core.new }
     ensures read { NoneRead core.old core.new }

@@ -6,7 +6,7 @@ ghost use Rattle.sp_group.specs.Steps.{out_count};
 ghost use Rattle.sp_core.specs.Faults.{IsFault};
 ghost use Rattle.sp_core.specs.Running.{IsDone, refused};
 ghost use Rattle.sp_splitter.specs.Splitting.{IsBelowKept};
-ghost use Rattle.sp_splitter.specs.Stages.{Goes, ReadByCalls, Went};
+ghost use Rattle.sp_splitter.specs.Stages.{Goes, ReadByCalls, StaysWithin, Went};
 ghost use Rattle.sp_splitter.specs.Turning.{Turned};
 
 use crate::gathering::gather;
@@ -85,6 +85,7 @@ impl Splitter {
         ensures fault { IfErr result (IsFault self.old.core (s.Feed event)) }
         ensures rest { self.new ≡ record self.old { core = self.new.core } }
         ensures goes { (n : ℕ) → Goes n self.old.core self.new.core }
+        ensures within { (n batch : ℕ) → StaysWithin n batch self.old.core self.new.core }
         ensures out { out_count self.new.core.machine ≡ out_count self.old.core.machine }
     {
         law::known(&self.core);
@@ -100,6 +101,7 @@ impl Splitter {
         ensures fault { IfErr result (λ refusal. refused self.old.core s.End ≡ Some refusal) }
         ensures rest { self.new ≡ record self.old { core = self.new.core } }
         ensures goes { (n : ℕ) → Goes n self.old.core self.new.core }
+        ensures within { (n batch : ℕ) → StaysWithin n batch self.old.core self.new.core }
         ensures out { out_count self.new.core.machine ≡ out_count self.old.core.machine }
     {
         law::known(&self.core);
@@ -142,7 +144,7 @@ impl Splitter {
         requires open { by.old.closed ≡ false }
         requires last { IsBelowKept by.old.last self.old.kept.items
             self.old.core.machine.next_ticket }
-        ensures went { Went self.old.instances self.old.core self.new.core }
+        ensures went { Went self.old.instances self.old.batch self.old.core self.new.core }
         ensures read { ReadByCalls self.old.core self.new.core by.old by.new }
         ensures rest { (self.new.instances ≡ self.old.instances)
             × (self.new.batch ≡ self.old.batch) }

@@ -27,7 +27,7 @@ use std::collections::VecDeque;
 /// Rolls versions in conflict, finishes windows, and makes a root where none is live. Answers what each window
 /// emits.
 pub(crate) fn tidy(alloc: Global, core: &mut Core) -> Result<Vec<Emitted>, Memory>
-    ensures went { (n : ℕ) → Went n core.old core.new }
+    ensures went { (n batch : ℕ) → Went n batch core.old core.new }
     ensures goes { OnOk result ((n : ℕ) → Goes n core.old core.new) }
     ensures emitted { IfOk result (λ all. core.new.machine.emitted
         ≡ core.old.machine.emitted ++ matches_of all.items) }
@@ -54,7 +54,7 @@ fn send_out(
     requires some { 1 ≤ batch }
     requires most { batch ≤ batch_limit }
     requires settled { Settled core.old.plan core.old.machine }
-    ensures went { Went instances core.old core.new }
+    ensures went { Went instances batch core.old core.new }
     ensures goes { OnOk result (Goes instances core.old core.new) }
     ensures emitted { NoneEmitted core.old core.new }
     ensures read { NoneRead core.old core.new }
@@ -88,7 +88,7 @@ pub(crate) fn guess_and_send(
     requires some { 1 ≤ batch }
     requires most { batch ≤ batch_limit }
     requires settled { Settled core.old.plan core.old.machine }
-    ensures went { Went instances core.old core.new }
+    ensures went { Went instances batch core.old core.new }
     ensures goes { OnOk result (Goes instances core.old core.new) }
     ensures emitted { NoneEmitted core.old core.new }
     ensures read { NoneRead core.old core.new }

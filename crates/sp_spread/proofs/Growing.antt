@@ -1,11 +1,13 @@
 -- A journal stays spread while it grows.
-use Rattle.std.proofs.Common.{◌≡◌, ◌⊎◌, inl, inr, ℕ, true, false, List, [], ◌∷◌, ◌++◌, refl, sym, ap, subst, ◌∙◌, append_assoc}
+use Rattle.std.proofs.Common.{◌≡◌, ◌⊎◌, inl, inr, ℕ, ◌+◌, ◌≤◌, true, false, List, [], ◌∷◌, ◌++◌, refl, sym, ap, subst, ◌∙◌, append_assoc}
+use Rattle.std.specs.Prelude.{replicate}
 use Rattle.sp_plan.specs.declared.plan.Plan.{Plan}
 use Rattle.sp_group.specs.declared.step.Entry.{Entry}
 use Rattle.sp_group.specs.Machine.{Machine}
-use Rattle.sp_group.specs.Steps.{Spread, IsSpreadOut, IsLentOut, is_lease, replay}
+use Rattle.sp_group.specs.Steps.{Spread, IsSpreadOut, IsLentOut, is_lease, out_count, replay, steps}
 use Rattle.sp_spread.specs.Journaled.{EndsInLease}
 use Rattle.sp_spread.specs.Laws.{JournalsStaySpread}
+use Rattle.sp_spread.specs.Limiting.{NeverMore}
 
 -- a journal with a last entry is parted at an entry before that one
 record PartsBefore (journal before after : List Entry) (last entry : Entry) : Type 0 where
@@ -61,6 +63,18 @@ module _ (q : Plan) (bound n : ℕ) (m : Machine) (journal : List Entry) (replay
           (lent (ap (λ (z : Entry). is_lease z.step) last_is ∙ is_none) (before, lease, is, is_one))
       by (inr p) = spread.behind_leases before p.rest lease entry (p.journal_is ∙ append_assoc before (lease ∷ []) (entry ∷ p.rest)) is_one is_none
 
+  -- in none of its states more tickets are out than may be, where so it was before the last entry
+  never_of : (last : Entry) → ((times : ℕ) → times ≤ last.times → out_count (steps q bound m (replicate times last.step)) ≤ n + 1) → NeverMore q bound n journal
+      → NeverMore q bound n (journal ++ last ∷ [])
+  never_of last here never before after entry times same low = by (parts journal before after last entry same)
+    where
+      by : Parts journal before after last entry → out_count (steps q bound (replay q bound before) (replicate times entry.step)) ≤ n + 1
+      by (inl (is, last_is)) =
+          subst (λ (z : Entry). out_count (steps q bound (replay q bound before) (replicate times z.step)) ≤ n + 1) last_is
+          (subst (λ (z : Machine). out_count (steps q bound z (replicate times last.step)) ≤ n + 1) (sym replays ∙ ap (replay q bound) is)
+          (here times (subst (λ (z : Entry). times ≤ z.times) (sym last_is) low)))
+      by (inr p) = never before p.rest entry times p.journal_is low
+
   -- a journal that ends in an entry that is no lease does not end in a lease
   ends_not : (last : Entry) → is_lease last.step ≡ false → EndsInLease (journal ++ last ∷ []) → ⊥
   ends_not last is_none (before, lease, same, is_one) = by (parts journal before [] last lease same)
@@ -86,4 +100,5 @@ journals_stay q bound n m journal replays = record {
     before_leases = leased_of q bound n m journal replays entry (λ one. out) spread;
     behind_leases = lent_of q bound n m journal replays entry (λ none. let both : true ≡ false = sym is_one ∙ none in absurd (cc)) spread;
   };
+  never_more = never_of q bound n m journal replays;
 }

@@ -11,7 +11,7 @@ use Rattle.sp_group.specs.Effects.{child_spawned, leased, without, read_on, home
 use Rattle.sp_group.specs.Steps.{unless_refused, is_lease, out_count, step, steps}
 use Rattle.sp_rules.specs.Kept.{Kept}
 use Rattle.sp_rules.specs.Lawful.{Lawful}
-use Rattle.sp_rules.specs.Returning.{reads_and_return}
+use Rattle.sp_rules.specs.Returning.{reads, reads_and_return}
 use Rattle.sp_rules.specs.Schedules.{FitsStep, Onward, Reached}
 use Rattle.sp_rules.proofs.Facts.{Facts, facts}
 use Rattle.sp_rules.proofs.Lists.{below_or}
@@ -95,6 +95,13 @@ no_more q k bound m kept x fit other =
     let b = fewer_live m.versions n.versions m.tickets (none_born q m n kept (step_onward q k bound m x fit kept)) in
     omega arith
 
+by_reads : (q : Plan) → Facts q → (bound n times : ℕ) (m : Machine) → Kept q m → out_count (steps q bound m (reads n times)) ≤ out_count m
+by_reads q k bound n zero m kept = omega arith
+by_reads q k bound n (suc times) m kept =
+    let a = by_reads q k bound n times (step q bound m (s.Event n)) (step_keeps q k bound m (s.Event n) tt kept) in
+    let b = no_more q k bound m kept (s.Event n) tt refl in
+    omega arith
+
 by_home : (q : Plan) → Facts q → (bound n times : ℕ) (m : Machine) → Kept q m → out_count (steps q bound m (reads_and_return n times)) ≤ out_count m
 by_home q k bound n zero m kept = no_more q k bound m kept (s.Return n) tt refl
 by_home q k bound n (suc times) m kept =
@@ -132,6 +139,7 @@ out_is_counted q bound m law compiled reached =
       versions = as_many q (inner q m.events) m.finished m.versions m.tickets kept.sane.shape kept.sane.newest_first
           (λ id v at. (kept.sane.each id v at).only);
       no_more = λ x fit other. no_more q k bound m kept x fit other;
+      by_reads = λ n times. by_reads q k bound n times m kept;
       by_home = λ n times. by_home q k bound n times m kept;
       by_lease = λ id n passes. by_lease q bound m id n passes;
       by_stale = λ n stale. by_stale q m kept n stale;

@@ -1,5 +1,5 @@
 -- What the steps of a turn keep, in every state of the machine that steps lead to.
-use Rattle.std.specs.Prelude.{◌≡◌, ◌≢◌, ℕ, ◌+◌, ◌≤◌, true, false, not, List, [], ◌∷◌, ◌++◌, length, map, filter, Option, Some, None, ◌==◌}
+use Rattle.std.specs.Prelude.{◌≡◌, ◌≢◌, ℕ, ◌+◌, ◌≤◌, true, false, not, List, [], ◌∷◌, ◌++◌, length, map, filter, replicate, Option, Some, None, ◌==◌}
 use Rattle.sp_plan.specs.declared.plan.Plan.{Plan}
 use Rattle.sp_plan.specs.Compiled.{IsCompiled}
 use Rattle.sp_group.specs.declared.step.Entry.{Entry}
@@ -9,12 +9,13 @@ use Rattle.sp_group.specs.Machine.{Version, Ticket, Machine, version_at, ticket_
 use Rattle.sp_group.specs.Refusing.{refusal}
 use Rattle.sp_group.specs.Effects.{effect}
 use Rattle.sp_group.specs.Steps.{Spread, IsSpreadOut, is_lease, out_count, replay, step, steps}
-use Rattle.sp_rules.specs.Returning.{reads_and_return}
+use Rattle.sp_rules.specs.Returning.{reads, reads_and_return}
 use Rattle.sp_rules.specs.Schedules.{FitsStep, Reached}
 use Rattle.sp_spread.specs.Calm.{AreCalm}
 use Rattle.sp_spread.specs.Counting.{busy_count, out_versions, ready_versions}
 use Rattle.sp_spread.specs.Guessing.{AreGuessed}
 use Rattle.sp_spread.specs.Journaled.{readings_entered, returns_read}
+use Rattle.sp_spread.specs.Limiting.{NeverMore}
 use Rattle.sp_spread.specs.Spreading.{Spreading}
 
 -- the ticket of that number is out for a version that is gone
@@ -41,6 +42,7 @@ pub record CalmStays (q : Plan) (bound : ℕ) (m : Machine) : Type 0 where
 pub record OutIsCounted (q : Plan) (bound : ℕ) (m : Machine) : Type 0 where
   pub versions : out_count m ≡ length (out_versions m)
   pub no_more : (x : Step) → FitsStep q bound m x → is_lease x ≡ false → out_count (step q bound m x) ≤ out_count m
+  pub by_reads : (n times : ℕ) → out_count (steps q bound m (reads n times)) ≤ out_count m
   pub by_home : (n times : ℕ) → out_count (steps q bound m (reads_and_return n times)) ≤ out_count m
   pub by_lease : (id n : ℕ) → refusal q bound m (s.Lease id n) ≡ None → out_count (effect q m (s.Lease id n)) ≡ out_count m + 1
   pub by_stale : (n : ℕ) → IsStale m n → out_count (effect q m (s.Return n)) ≡ out_count m
@@ -77,10 +79,13 @@ pub record TurnIsLawful (q : Plan) (bound : ℕ) (m : Machine) : Type 0 where
 abbrev pub TurnsAreLawful : Type 0
 TurnsAreLawful = (q : Plan) (bound : ℕ) (m : Machine) → IsCompiled q → Reached q bound m → TurnIsLawful q bound m
 
--- A journal stays spread with an entry that is no lease, and with a lease where the machine was spread out before it.
+-- A journal stays spread with an entry that is no lease, and with a lease where the machine was spread out before it. In none of its states
+-- more tickets are out than may be, if in none of the states of its last entry, nor in those before.
 pub record JournalStaysSpread (q : Plan) (bound n : ℕ) (m : Machine) (journal : List Entry) : Type 0 where
   pub by_other : (after : Machine) (entry : Entry) → is_lease entry.step ≡ false → Spreading q bound n m journal → Spreading q bound n after (journal ++ entry ∷ [])
   pub by_lease : (entry : Entry) → is_lease entry.step ≡ true → IsSpreadOut q bound n m → Spread q bound n journal → Spread q bound n (journal ++ entry ∷ [])
+  pub never_more : (entry : Entry) → ((times : ℕ) → times ≤ entry.times → out_count (steps q bound m (replicate times entry.step)) ≤ n + 1)
+      → NeverMore q bound n journal → NeverMore q bound n (journal ++ entry ∷ [])
 
 abbrev pub JournalsStaySpread : Type 0
 JournalsStaySpread = (q : Plan) (bound n : ℕ) (m : Machine) (journal : List Entry) → replay q bound journal ≡ m → JournalStaysSpread q bound n m journal

@@ -6,7 +6,7 @@
 ghost use Rattle.sp_spread.specs.Laws.{JournalsStaySpread, ReturnsFollowReadings, TurnsAreLawful};
 
 /// Law: a journal stays spread with each entry that is no lease, and with a lease where the machine was spread
-/// out before it.
+/// out before it; and in none of its states more tickets are out than may be, if in none of its last entry's.
 pub fn journals_stay_spread()
     ensures { JournalsStaySpread }
 {}

@@ -28,7 +28,8 @@ use Rattle.sp_core.specs.Running.{Running}
 use Rattle.sp_split.specs.declared.ended.Ended.{Ended}
 use Rattle.sp_split.specs.declared.ended.Why.{Why}
 use Rattle.sp_split.specs.declared.ended.Why.TheVariants as why
-use Rattle.sp_split.specs.Driving.{Drove, CameAbout}
+use Rattle.sp_split.specs.Driving.{Drove, CameAbout, most_asked}
+use Rattle.sp_spread.specs.Limiting.{AsksAtMost}
 use Rattle.sp_cli.specs.Commands.{Command, Speed, QuerySource, run, drill}
 use Rattle.sp_commands.specs.Commands.{place_of, IsCommand, IsCall, IsNoCall, IsReported}
 use Rattle.sp_commands.specs.Ends.{status_of, status_of_refusal}
@@ -89,7 +90,8 @@ only_end Open is = cc
 module _ (c : Running) (origin : SourceState) (first last : Standing) (reads : ReadsFrom c.plan origin first) (stopped : Type 0)
     (halted : stopped → (s : Stop) × (stop_in last.state ≡ Some s) × (is_end s ≡ false)) (before after : OutletState) (speed : Speed) (end : Ended)
     (drove : Drove (λ events. Gives first events last) (is_whole (stop_in last.state)) stopped c before after (record { core = end.core; why = end.why }))
-    (bound : c.bound ≡ speed.live) (replays : replay end.core.plan end.core.bound end.core.journal ≡ end.core.machine) (about : CameAbout speed.instances end.core end.history) where
+    (bound : c.bound ≡ speed.live) (replays : replay end.core.plan end.core.bound end.core.journal ≡ end.core.machine) (about : CameAbout speed.instances end.core end.history)
+    (asked : AsksAtMost (most_asked speed.instances speed.batch) end.core.journal) where
   reported_by : (w : Why) → end.why ≡ w → status_of_end w (stop_in last.state) ≡ Done → ReportsPlan c.plan speed origin.left last.source.left end
   reported_by why.Whole is done =
       let m = end.core.machine in
@@ -113,6 +115,7 @@ module _ (c : Running) (origin : SourceState) (first last : Standing) (reads : R
           feeds = drove.fed_are;
           replays = replays;
           about = about;
+          asked = asked;
         },
       )
   reported_by why.Stopped is done =

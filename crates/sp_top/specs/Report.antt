@@ -5,9 +5,10 @@ use Rattle.sp_plan.specs.declared.plan.Plan.{Plan}
 use Rattle.sp_plan.specs.Windows.{windows}
 use Rattle.sp_group.specs.Steps.{replay}
 use Rattle.sp_spread.specs.Journaled.{fed}
+use Rattle.sp_spread.specs.Limiting.{AsksAtMost}
 use Rattle.sp_split.specs.declared.ended.Ended.{Ended}
 use Rattle.sp_split.specs.declared.ended.Why.TheVariants as why
-use Rattle.sp_split.specs.Driving.{CameAbout}
+use Rattle.sp_split.specs.Driving.{CameAbout, most_asked}
 use Rattle.sp_intake.specs.Reading.{read}
 use Rattle.sp_load.specs.Places.{Place}
 use Rattle.sp_load.specs.Queries.{IsPlanAt, IsPlanFor}
@@ -31,6 +32,8 @@ pub record Reports (speed : Speed) (bytes : List ℕ) (e : Ended) : Type 0 where
   pub replays : replay e.core.plan e.core.bound e.core.journal ≡ e.core.machine
   -- and the entries of the hub which instances had a part in it
   pub about : CameAbout speed.instances e.core e.history
+  -- and no lease asks for more events than a run of this speed may
+  pub asked : AsksAtMost (most_asked speed.instances speed.batch) e.core.journal
 
 -- The words are a run or a drill, and it ended so: a run by a plan of the query that stands there, over the bytes that were taken; a drill
 -- by a plan of its query, over the rows that it generated.

@@ -1,7 +1,7 @@
 -- The closure that each instance runs captures four references; the hub may be shared since its jobs and pieces may cross.
 use denote.Param.Send.{IsSync}
 use denote.Param.{param}
-use Rattle.std.proofs.Common.{◌≡◌, ◌∙◌, ℕ, ◌<◌, ◌++◌, List, length, get_or, take, drop, map, sym, ap, rules, arith}
+use Rattle.std.proofs.Common.{◌≡◌, ◌∙◌, ℕ, ◌<◌, ◌++◌, List, length, get_or, take, drop, map, ap, rules}
 use Rattle.std.proofs.lemmas.List.{take_at}
 use Rattle.sp_hub.specs.State.{Sitting}
 use Rattle.sp_hub.proofs.Told.{same_numbers}

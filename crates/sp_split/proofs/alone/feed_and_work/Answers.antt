@@ -65,6 +65,7 @@ loop-preserved g c =
           (fed_work _ G start c.loop.core mid last old s new c.loop.invariant.going c.feed.ensures.on (c.in_ok-fed.ensures.given first c.loop.invariant.going.run.given)
           put own.done own.failed own.short own.rose own.no_fault);
       alone = off.worked.on.on.alone (c.feed.ensures.on.on.alone c.loop.invariant.alone);
+      asked = off.worked.on.on.asked (c.feed.ensures.on.on.asked c.loop.invariant.asked);
       none_out = off.none_out;
       unended = fed_as fed f.More last.machine.ended whole stopped (fed_on fed put c.in_default.ensures) is;
       plan = c.feed.ensures.same.0 ∙ c.loop.invariant.plan;
@@ -79,6 +80,12 @@ returns-in-Some-clause-alone g c =
     let own = c.work_off-put.ensures in
     let worked = worked_any c.work_off-put.result c.feed.new.core c.work_off-put.new.core _ _ own.done own.failed own.short in
     worked.on.alone (c.feed.ensures.on.on.alone c.loop.invariant.alone)
+
+pub returns-in-Some-clause-asked : goal.returns-in-Some-clause-asked
+returns-in-Some-clause-asked g c =
+    let own = c.work_off-put.ensures in
+    let worked = worked_any c.work_off-put.result c.feed.new.core c.work_off-put.new.core _ _ own.done own.failed own.short in
+    worked.on.asked (c.feed.ensures.on.on.asked c.loop.invariant.asked)
 
 pub returns-clause-ended : goal.returns-clause-ended
 returns-clause-ended g c =

@@ -1,5 +1,7 @@
 use Rattle.std.proofs.Common.{◌≡◌, ◌≤◌, false, []}
+use Rattle.sp_base.specs.Limits.{batch_limit}
 use Rattle.sp_spread.specs.Journaled.{MakesNoChild}
+use Rattle.sp_spread.specs.Limiting.{AsksAtMost}
 use Rattle.sp_split.proofs.Going.{Going}
 use Rattle.sp_split.proofs.alone.feed_and_work.Given as goal
 
@@ -7,6 +9,7 @@ abbrev pub invariant-loop : goal.invariant-loop
 invariant-loop g l = record {
   going : Going (λ events. g.I.Intake.gave l.initial.intake events l.intake) l.initial.core l.core (g.O.Outlet.state l.initial.outlet) (g.O.Outlet.state l.outlet);
   alone : MakesNoChild l.core.journal;
+  asked : AsksAtMost batch_limit l.core.journal;
   none_out : l.core.machine.tickets ≡ [];
   unended : l.core.machine.ended ≡ false;
   plan : g.I.Intake.plan l.intake ≡ g.I.Intake.plan l.initial.intake;

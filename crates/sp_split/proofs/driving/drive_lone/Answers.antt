@@ -6,5 +6,6 @@ pub returns-clause-ends : goal.returns-clause-ends
 returns-clause-ends g c = record {
   drove = search rules;
   about = came_alone c.in_ok-core.field-0.core c.no_history-history.result (search rules) c.no_history-history.ensures;
+  asked = search rules;
   short = tt;
 }

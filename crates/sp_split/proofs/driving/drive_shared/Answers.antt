@@ -13,7 +13,7 @@ new-requires-send-P g c κs = search (piece_sent, sendable) depth 20
 pub returns-in_err-opened-clause-ends : goal.returns-in_err-opened-clause-ends
 returns-in_err-opened-clause-ends g c =
     let p = err_from_is_err_and c.from_residual.result c.from_residual.ensures.1 in
-    rw p.1 (record { drove = tt; about = tt; short = fell_at_once (λ (events : List Event). g.I.Intake.gave c.args.intake.now events c.args.intake.now) (g.I.Intake.ended c.args.intake.now) c.args.splitter.core.plan (g.O.Outlet.state c.args.outlet.now) (g.I.Intake.gave_none c.args.intake.now) })
+    rw p.1 (record { drove = tt; about = tt; asked = tt; short = fell_at_once (λ (events : List Event). g.I.Intake.gave c.args.intake.now events c.args.intake.now) (g.I.Intake.ended c.args.intake.now) c.args.splitter.core.plan (g.O.Outlet.state c.args.outlet.now) (g.I.Intake.gave_none c.args.intake.now) })
 
 pub returns-clause-ends : goal.returns-clause-ends
 returns-clause-ends g c =

@@ -26,6 +26,7 @@ returns-in-Err-clause-ends g c =
     record {
       drove = tt;
       about = tt;
+      asked = tt;
       short = fell_at_once (λ (events : List Event). g.I.Intake.gave intake events intake) (g.I.Intake.ended intake) c.args.splitter.core.plan (g.O.Outlet.state c.args.ways.outlet) (g.I.Intake.gave_none intake);
     }
 
@@ -99,11 +100,12 @@ returns-clause-ends g c =
     let all = g.I.Intake.ended last in
     let stopped = Rose (g.I.Intake.stops first) (g.I.Intake.stops last) in
     let n = c.args.splitter.instances in
+    let batch = c.args.splitter.batch in
     let start = c.args.splitter.core in
     let old = g.O.Outlet.state c.args.ways.outlet in
     let new = g.O.Outlet.state c.beside-crew.result.2.outlet in
     let history = c.wind_up-history.result in
     let seats : c.in-Ok.made.0.seats ≡ n + 1 = ap (λ (h : Extent). h.seats) c.in-Ok.ensures.hub ∙ c.requires.places.0 in
     let wound = subst (λ (k : ℕ). WoundUp k c.beside-crew.result.1.by.calls history) seats c.wind_up-history.ensures in
-    subst (λ r. Ends G all stopped n start old new r) (sym c.with_history.ensures)
-    (ends_with G all stopped n start old new c.beside-crew.result.1.end c.beside-crew.result.1.by.calls history c.beside-crew.ensures.served c.requires.instances.0 wound c.returns_follow_readings.ensures)
+    subst (λ r. Ends G all stopped n batch start old new r) (sym c.with_history.ensures)
+    (ends_with G all stopped n batch start old new c.beside-crew.result.1.end c.beside-crew.result.1.by.calls history c.beside-crew.ensures.served c.requires.instances.0 wound c.returns_follow_readings.ensures)

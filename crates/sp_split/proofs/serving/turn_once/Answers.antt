@@ -11,6 +11,7 @@ use Rattle.sp_split.proofs.serving.turn_once.Goals as goal
 pub returns-in-Ok-clause-done : goal.returns-in-Ok-clause-done
 returns-in-Ok-clause-done g c =
     let n = c.args.desk.now.splitter.instances in
+    let batch = c.args.desk.now.splitter.batch in
     let old = c.args.desk.now.splitter.core in
     let new = c.turn.new.self.core in
     let ms = matches_of c.deref.result.now in
@@ -18,12 +19,13 @@ returns-in-Ok-clause-done g c =
     let t = g.O.Outlet.state c.put_windows.new.outlet in
     let emitted : new.machine.emitted ≡ old.machine.emitted ++ ms =
     c.in-Ok.ensures.turned.emitted ∙ ap (λ (l : List Emitted). old.machine.emitted ++ matches_of l) (sym c.deref.ensures.value) in
-    on_ok (Took (g.O.Outlet.plan c.args.outlet.now) ms s t) (WentWith n old new (λ l. Took old.plan l s t)) c.put_windows.result
-    (λ took. went_with n old new ms (λ l. Took old.plan l s t) c.in-Ok.ensures.went emitted (subst (λ (q : Plan). Took q ms s t) c.requires.plan took)) c.put_windows.ensures.took
+    on_ok (Took (g.O.Outlet.plan c.args.outlet.now) ms s t) (WentWith n batch old new (λ l. Took old.plan l s t)) c.put_windows.result
+    (λ took. went_with n batch old new ms (λ l. Took old.plan l s t) c.in-Ok.ensures.went emitted (subst (λ (q : Plan). Took q ms s t) c.requires.plan took)) c.put_windows.ensures.took
 
 pub returns-in-Ok-clause-failed : goal.returns-in-Ok-clause-failed
 returns-in-Ok-clause-failed g c =
     let n = c.args.desk.now.splitter.instances in
+    let batch = c.args.desk.now.splitter.batch in
     let old = c.args.desk.now.splitter.core in
     let new = c.turn.new.self.core in
     let ms = matches_of c.deref.result.now in
@@ -31,11 +33,12 @@ returns-in-Ok-clause-failed g c =
     let t = g.O.Outlet.state c.put_windows.new.outlet in
     let emitted : new.machine.emitted ≡ old.machine.emitted ++ ms =
     c.in-Ok.ensures.turned.emitted ∙ ap (λ (l : List Emitted). old.machine.emitted ++ matches_of l) (sym c.deref.ensures.value) in
-    λ is. went_with n old new ms (λ l. FailedWithin old.plan l s t) c.in-Ok.ensures.went emitted (subst (λ (q : Plan). FailedWithin q ms s t) c.requires.plan (c.put_windows.ensures.failed is))
+    λ is. went_with n batch old new ms (λ l. FailedWithin old.plan l s t) c.in-Ok.ensures.went emitted (subst (λ (q : Plan). FailedWithin q ms s t) c.requires.plan (c.put_windows.ensures.failed is))
 
 pub returns-in-Ok-clause-short : goal.returns-in-Ok-clause-short
 returns-in-Ok-clause-short g c =
     let n = c.args.desk.now.splitter.instances in
+    let batch = c.args.desk.now.splitter.batch in
     let old = c.args.desk.now.splitter.core in
     let new = c.turn.new.self.core in
     let ms = matches_of c.deref.result.now in
@@ -43,7 +46,7 @@ returns-in-Ok-clause-short g c =
     let t = g.O.Outlet.state c.put_windows.new.outlet in
     let emitted : new.machine.emitted ≡ old.machine.emitted ++ ms =
     c.in-Ok.ensures.turned.emitted ∙ ap (λ (l : List Emitted). old.machine.emitted ++ matches_of l) (sym c.deref.ensures.value) in
-    λ is. went_with n old new ms (λ l. TookFirst old.plan l s t) c.in-Ok.ensures.went emitted (subst (λ (q : Plan). TookFirst q ms s t) c.requires.plan (c.put_windows.ensures.short is))
+    λ is. went_with n batch old new ms (λ l. TookFirst old.plan l s t) c.in-Ok.ensures.went emitted (subst (λ (q : Plan). TookFirst q ms s t) c.requires.plan (c.put_windows.ensures.short is))
 
 pub returns-in-Ok-clause-goes : goal.returns-in-Ok-clause-goes
 returns-in-Ok-clause-goes g c =
@@ -51,4 +54,4 @@ returns-in-Ok-clause-goes g c =
 
 pub returns-in-Err-clause-short : goal.returns-in-Err-clause-short
 returns-in-Err-clause-short g c =
-    λ is. went_short c.args.desk.now.splitter.instances c.args.desk.now.splitter.core c.turn.new.self.core (g.O.Outlet.state c.args.outlet.now) c.in-Err.ensures.went
+    λ is. went_short c.args.desk.now.splitter.instances c.args.desk.now.splitter.batch c.args.desk.now.splitter.core c.turn.new.self.core (g.O.Outlet.state c.args.outlet.now) c.in-Err.ensures.went

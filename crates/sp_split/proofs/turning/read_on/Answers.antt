@@ -1,4 +1,4 @@
-use Rattle.std.proofs.Common.{◌≡◌, Some, ℕ, ap, sym, subst, ◌∙◌, rules}
+use Rattle.std.proofs.Common.{◌≡◌, Some, ℕ, ap, sym, subst, ◌∙◌, arith, rules}
 use Rattle.sp_base.specs.Limits.{batch_limit}
 use Rattle.sp_piece.specs.Pieced.{Pieced}
 use Rattle.sp_group.specs.declared.step.Step.TheVariants as s
@@ -20,7 +20,7 @@ returns-in-Err-Refused-clause-turned g c =
 
 pub returns-in_err-read_whole-clause-err : goal.returns-in_err-read_whole-clause-err
 returns-in_err-read_whole-clause-err g c =
-    let cut : CutOff c.args.core.now c.lease.new.self = leased_cut_off c.args.core.now c.lease.new.self c.args.root batch_limit c.in-Ok.ensures.done in
+    let cut : CutOff c.args.core.now c.lease.new.self = leased_cut_off c.args.core.now c.lease.new.self c.args.root batch_limit c.in-Ok.ensures.done (omega arith) in
     search rules
 
 pub bring_home-requires : goal.bring_home-requires
@@ -31,9 +31,9 @@ bring_home-requires g c =
 pub returns-in_err-bring_home-clause-err : goal.returns-in_err-bring_home-clause-err
 returns-in_err-bring_home-clause-err g c =
     let cut : CutOff c.args.core.now c.bring_home.new.core = cut_off_as c.args.core.now c.lease.new.self c.bring_home.new.core
-    (leased_cut_off c.args.core.now c.lease.new.self c.args.root batch_limit c.in-Ok.ensures.done) c.in_err-bring_home.ensures.err in
+    (leased_cut_off c.args.core.now c.lease.new.self c.args.root batch_limit c.in-Ok.ensures.done (omega arith)) c.in_err-bring_home.ensures.err in
     search rules
 
 pub returns-clause-turned : goal.returns-clause-turned
 returns-clause-turned g c =
-    turned_from c.args.core.now c.lease.new.self c.bring_home.new.core (leased_cut_off c.args.core.now c.lease.new.self c.args.root batch_limit c.in-Ok.ensures.done) c.in_ok-bring_home.ensures.ok
+    turned_from c.args.core.now c.lease.new.self c.bring_home.new.core (leased_cut_off c.args.core.now c.lease.new.self c.args.root batch_limit c.in-Ok.ensures.done (omega arith)) c.in_ok-bring_home.ensures.ok

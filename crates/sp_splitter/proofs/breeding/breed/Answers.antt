@@ -17,7 +17,7 @@ pub loop-busy-init : goal.loop-busy-init
 loop-busy-init c = bred_first (share_of c.args.chances.now) c.args.instances c.args.core.now c.in_ok-busy.busy c.known.ensures c.requires.settled c.in_ok-busy.ensures
 
 pub returns-in_err-bear_best-clause-went : goal.returns-in_err-bear_best-clause-went
-returns-in_err-bear_best-clause-went c n = subst (λ (z : Running). Went n c.args.core.now z) (sym c.in_err-bear_best.ensures.err) (c.loop-busy.invariant.went n)
+returns-in_err-bear_best-clause-went c n batch = subst (λ (z : Running). Went n batch c.args.core.now z) (sym c.in_err-bear_best.ensures.err) (c.loop-busy.invariant.went n batch)
 
 pub returns-in_err-bear_best-clause-emitted : goal.returns-in_err-bear_best-clause-emitted
 returns-in_err-bear_best-clause-emitted c = subst (λ (z : Running). NoneEmitted c.args.core.now z) (sym c.in_err-bear_best.ensures.err) c.loop-busy.invariant.emitted

@@ -57,8 +57,8 @@ loop-job-preserved-in-Continue-1 c =
 
 pub returns-in_err-give_back_unread-clause-went : goal.returns-in_err-give_back_unread-clause-went
 returns-in_err-give_back_unread-clause-went c =
-    λ n. went_then n c.args.core.now c.loop-job.core c.give_back_unread.new.core (c.loop-job.invariant.clears.goes n)
-    (went_clears n c.args.core.now c.loop-job.core c.loop-job.invariant.clears) (c.give_back_unread.ensures.went n)
+    λ n batch. went_then n batch c.args.core.now c.loop-job.core c.give_back_unread.new.core (c.loop-job.invariant.clears.goes n)
+    (went_clears n batch c.args.core.now c.loop-job.core c.loop-job.invariant.clears) (c.give_back_unread.ensures.went n batch)
 
 pub returns-in_err-give_back_unread-clause-rising : goal.returns-in_err-give_back_unread-clause-rising
 returns-in_err-give_back_unread-clause-rising c =
@@ -67,7 +67,7 @@ returns-in_err-give_back_unread-clause-rising c =
     (below_without last c.args.core.now.machine.next_ticket c.loop-job.kept.items c.loop-job.place (c.loop-job.invariant.rising last c.args.core.now.machine.next_ticket below))
 
 pub returns-clause-went : goal.returns-clause-went
-returns-clause-went c = λ n. went_clears n c.args.core.now c.loop-job.core c.loop-job.invariant.clears
+returns-clause-went c = λ n batch. went_clears n batch c.args.core.now c.loop-job.core c.loop-job.invariant.clears
 
 pub returns-clause-settled : goal.returns-clause-settled
 returns-clause-settled c = settled_kept c.args.core.now c.loop-job.core c.loop-job.invariant.clears.keeps c.requires.settled

@@ -6,7 +6,7 @@ use Rattle.sp_splitter.proofs.Clearing.{back_given, clears_given, clears_not_out
 use Rattle.sp_splitter.proofs.dropping.give_back_unread.Goals as goal
 
 pub returns-in-Ok-Stale-clause-went : goal.returns-in-Ok-Stale-clause-went
-returns-in-Ok-Stale-clause-went c = λ n. went_clears n c.args.core.now c.give_back.new.self (clears_given c.args.core.now c.give_back.new.self c.start.result c.in-Ok-Stale.field-0 c.in-Ok-Stale.field-0-0 c.in-Ok-Stale.field-0-is c.known.ensures c.in-Ok-Stale.ensures.given)
+returns-in-Ok-Stale-clause-went c = λ n batch. went_clears n batch c.args.core.now c.give_back.new.self (clears_given c.args.core.now c.give_back.new.self c.start.result c.in-Ok-Stale.field-0 c.in-Ok-Stale.field-0-0 c.in-Ok-Stale.field-0-is c.known.ensures c.in-Ok-Stale.ensures.given)
 
 pub returns-in-Ok-Stale-clause-emitted : goal.returns-in-Ok-Stale-clause-emitted
 returns-in-Ok-Stale-clause-emitted c = (clears_given c.args.core.now c.give_back.new.self c.start.result c.in-Ok-Stale.field-0 c.in-Ok-Stale.field-0-0 c.in-Ok-Stale.field-0-is c.known.ensures c.in-Ok-Stale.ensures.given).keeps.emitted
@@ -21,7 +21,7 @@ pub returns-in-Ok-Stale-clause-clears : goal.returns-in-Ok-Stale-clause-clears
 returns-in-Ok-Stale-clause-clears c = clears_given c.args.core.now c.give_back.new.self c.start.result c.in-Ok-Stale.field-0 c.in-Ok-Stale.field-0-0 c.in-Ok-Stale.field-0-is c.known.ensures c.in-Ok-Stale.ensures.given
 
 pub returns-in-Ok-NotOut-clause-went : goal.returns-in-Ok-NotOut-clause-went
-returns-in-Ok-NotOut-clause-went c = λ n. went_clears n c.args.core.now c.give_back.new.self (clears_not_out c.args.core.now c.give_back.new.self c.start.result c.in-Ok-NotOut.field-0 c.in-Ok-NotOut.field-0-0 c.in-Ok-NotOut.field-0-is c.in-Ok-NotOut.ensures.given)
+returns-in-Ok-NotOut-clause-went c = λ n batch. went_clears n batch c.args.core.now c.give_back.new.self (clears_not_out c.args.core.now c.give_back.new.self c.start.result c.in-Ok-NotOut.field-0 c.in-Ok-NotOut.field-0-0 c.in-Ok-NotOut.field-0-is c.in-Ok-NotOut.ensures.given)
 
 pub returns-in-Ok-NotOut-clause-emitted : goal.returns-in-Ok-NotOut-clause-emitted
 returns-in-Ok-NotOut-clause-emitted c = (clears_not_out c.args.core.now c.give_back.new.self c.start.result c.in-Ok-NotOut.field-0 c.in-Ok-NotOut.field-0-0 c.in-Ok-NotOut.field-0-is c.in-Ok-NotOut.ensures.given).keeps.emitted
@@ -36,7 +36,7 @@ pub returns-in-Ok-NotOut-clause-clears : goal.returns-in-Ok-NotOut-clause-clears
 returns-in-Ok-NotOut-clause-clears c = clears_not_out c.args.core.now c.give_back.new.self c.start.result c.in-Ok-NotOut.field-0 c.in-Ok-NotOut.field-0-0 c.in-Ok-NotOut.field-0-is c.in-Ok-NotOut.ensures.given
 
 pub returns-in-Ok-Differs-clause-went : goal.returns-in-Ok-Differs-clause-went
-returns-in-Ok-Differs-clause-went c = λ n. went_back n c.start.result.job.ticket c.args.core.now c.give_back.new.self c.known.ensures (back_given c.args.core.now c.give_back.new.self c.start.result c.in-Ok-Differs.field-0 c.in-Ok-Differs.field-0-0 c.in-Ok-Differs.field-0-1 c.in-Ok-Differs.field-0-is c.in-Ok-Differs.ensures.given)
+returns-in-Ok-Differs-clause-went c = λ n batch. went_back n batch c.start.result.job.ticket c.args.core.now c.give_back.new.self c.known.ensures (back_given c.args.core.now c.give_back.new.self c.start.result c.in-Ok-Differs.field-0 c.in-Ok-Differs.field-0-0 c.in-Ok-Differs.field-0-1 c.in-Ok-Differs.field-0-is c.in-Ok-Differs.ensures.given)
 
 pub returns-in-Ok-Differs-clause-emitted : goal.returns-in-Ok-Differs-clause-emitted
 returns-in-Ok-Differs-clause-emitted c = none_emitted_back c.start.result.job.ticket c.args.core.now c.give_back.new.self (back_given c.args.core.now c.give_back.new.self c.start.result c.in-Ok-Differs.field-0 c.in-Ok-Differs.field-0-0 c.in-Ok-Differs.field-0-1 c.in-Ok-Differs.field-0-is c.in-Ok-Differs.ensures.given)

@@ -11,7 +11,7 @@ pub loop-init : goal.loop-init
 loop-init c =
     let core = c.args.core.now in
     record {
-      went = λ n. went_none n core core refl;
+      went = λ n batch. went_none n batch core core refl;
       goes = λ n. goes_none n core core refl;
       emitted = sym (ap (λ (l : List Emitted). core.machine.emitted ++ matches_of l) c.new-all.ensures.items ∙ append-nil core.machine.emitted);
       read = refl;

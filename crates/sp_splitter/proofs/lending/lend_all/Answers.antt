@@ -1,4 +1,4 @@
-use Rattle.std.proofs.Common.{ℕ, List, take, get_or, sym, ap, subst, arith}
+use Rattle.std.proofs.Common.{ℕ, ◌≤◌, List, take, get_or, sym, ap, subst, arith}
 use Rattle.std.proofs.lemmas.List.{take_all, take_more}
 use Rattle.sp_group.specs.declared.step.Step.TheVariants as s
 use Rattle.sp_core.specs.Running.{IsDone, Running}
@@ -28,7 +28,8 @@ loop-id-preserved c =
     subst (λ (n : ℕ). IsDone (s.Lease id n) c.loop-id.core c.lend_one.new.core) c.asked-count.ensures.count done in
     record {
       lends = subst (λ (ids : List ℕ). Lends c.args.batch ids c.args.core.now c.lend_one.new.core) (sym (take_more c.args.ids.now c.loop-id.id-index 0 c.loop-id-test.true))
-          (lends_more c.args.batch id (take c.loop-id.id-index c.args.ids.now) c.args.core.now c.loop-id.core c.lend_one.new.core c.known.ensures c.loop-id.invariant.lends as_asked);
+          (lends_more c.args.batch id (take c.loop-id.id-index c.args.ids.now) c.args.core.now c.loop-id.core c.lend_one.new.core c.known.ensures c.loop-id.invariant.lends as_asked
+          (subst (λ (n : ℕ). n ≤ c.args.batch) c.asked-count.ensures.count c.asked-count.ensures.most));
       kept = kept_more c.loop-id.core.machine.next_ticket c.args.kept.now.items c.loop-id.kept.items c.lend_one.new.kept.items c.loop-id.id-index
           c.in_ok-lend_one.ensures.kept c.loop-id.invariant.kept;
       rising = λ last below.

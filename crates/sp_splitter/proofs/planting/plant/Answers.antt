@@ -6,7 +6,7 @@ use Rattle.sp_splitter.proofs.Stepping.{goes_spawn, went_spawn}
 use Rattle.sp_splitter.proofs.planting.plant.Goals as goal
 
 pub returns-in-Ok-clause-went : goal.returns-in-Ok-clause-went
-returns-in-Ok-clause-went c n = went_spawn n None c.empty.result c.args.core.now c.spawn.new.self c.known.ensures (subst IsLabel (sym c.empty.ensures) empty_label) c.in-Ok.ensures.done
+returns-in-Ok-clause-went c n batch = went_spawn n batch None c.empty.result c.args.core.now c.spawn.new.self c.known.ensures (subst IsLabel (sym c.empty.ensures) empty_label) c.in-Ok.ensures.done
 
 pub returns-in-Ok-clause-goes : goal.returns-in-Ok-clause-goes
 returns-in-Ok-clause-goes c n = goes_spawn n None c.empty.result c.args.core.now c.spawn.new.self c.known.ensures c.in-Ok.ensures.done

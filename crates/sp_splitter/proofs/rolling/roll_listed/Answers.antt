@@ -20,7 +20,7 @@ loop-entry-preserved c =
           let entry = get_or found i (0, 0) in
           let rest = drop (i + 1) found in
           let listed = subst (λ (l : List (ℕ × ℕ)). AreListed here.plan here.machine l) (drop_more found i (0, 0) (omega arith)) c.loop-entry.invariant.listed in
-          subst (λ (q : Plan). AreListed q next.machine rest) (sym (c.roll_one.ensures.quiet.went 0).plan)
+          subst (λ (q : Plan). AreListed q next.machine rest) (sym (c.roll_one.ensures.quiet.went 0 0).plan)
           (listed_rolled here.plan here.machine next.machine entry rest c.roll_one.ensures.loses listed);
       rolls = rolls_more c.args.core.now here next found i (get_or found i (0, 0)).1 refl c.requires.sorted (omega arith) c.loop-entry.invariant.listed c.loop-entry.invariant.rolls c.roll_one.ensures.one;
     }

@@ -45,7 +45,7 @@ returns-in-Ok-clause-report g c origin reads done =
     let after = g.K.Sink.state c.drive.new.outlet.out.now in
     reports_plan c.args.core origin first last reads (Rose old.events.stops new.events.stops)
     (halts new.events.state old.events.stops new.events.stops c.stop.ensures.halted) (outlet before c.args.lines.now.taken) (outlet after c.drive.new.outlet.taken)
-    (speed_seen c.args.speed.now) c.in-Ok.ended c.in-Ok.ensures.ended c.requires.bound c.steps_lead_to.ensures.replays c.in-Ok.ensures.about
+    (speed_seen c.args.speed.now) c.in-Ok.ended c.in-Ok.ensures.ended c.requires.bound c.steps_lead_to.ensures.replays c.in-Ok.ensures.about c.in-Ok.ensures.asked
     (sym (c.status_of_end-status.ensures ∙ ap (status_of_end c.in-Ok.ended.why) c.stop.ensures.stop) ∙ done)
 
 pub returns-in-Err-clause-ran : goal.returns-in-Err-clause-ran

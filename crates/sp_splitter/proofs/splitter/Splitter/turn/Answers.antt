@@ -10,23 +10,26 @@ use Rattle.sp_splitter.proofs.Stepping.{goes_then, went_then}
 use Rattle.sp_splitter.proofs.splitter.Splitter.turn.Goals as goal
 
 pub returns-in_err-read-clause-went : goal.returns-in_err-read-clause-went
-returns-in_err-read-clause-went g c = c.gather.ensures.went c.args.self.now.instances
+returns-in_err-read-clause-went g c = c.gather.ensures.went c.args.self.now.instances c.args.self.now.batch
 
 pub returns-in_err-finished-clause-went : goal.returns-in_err-finished-clause-went
 returns-in_err-finished-clause-went g c =
     let n = c.args.self.now.instances in
-    went_then n c.args.self.now.core c.gather.new.core c.tidy.new.core (c.in_ok-read.ensures.goes n) (c.gather.ensures.went n) (c.tidy.ensures.went n)
+    let batch = c.args.self.now.batch in
+    went_then n batch c.args.self.now.core c.gather.new.core c.tidy.new.core (c.in_ok-read.ensures.goes n) (c.gather.ensures.went n batch) (c.tidy.ensures.went n batch)
 
 pub returns-in_err-self-clause-went : goal.returns-in_err-self-clause-went
 returns-in_err-self-clause-went g c =
     let n = c.args.self.now.instances in
-    went_then n c.args.self.now.core c.gather.new.core c.guess_and_send.new.core (c.in_ok-read.ensures.goes n) (c.gather.ensures.went n)
-    (went_then n c.gather.new.core c.tidy.new.core c.guess_and_send.new.core (c.in_ok-finished.ensures.goes n) (c.tidy.ensures.went n) c.guess_and_send.ensures.went)
+    let batch = c.args.self.now.batch in
+    went_then n batch c.args.self.now.core c.gather.new.core c.guess_and_send.new.core (c.in_ok-read.ensures.goes n) (c.gather.ensures.went n batch)
+    (went_then n batch c.gather.new.core c.tidy.new.core c.guess_and_send.new.core (c.in_ok-finished.ensures.goes n) (c.tidy.ensures.went n batch) c.guess_and_send.ensures.went)
 
 pub post_kept-requires-clause-last : goal.post_kept-requires-clause-last
 post_kept-requires-clause-last g c =
     let n = c.args.self.now.instances in
-    let tidied = went_then n c.args.self.now.core c.gather.new.core c.tidy.new.core (c.in_ok-read.ensures.goes n) (c.gather.ensures.went n) (c.tidy.ensures.went n) in
+    let batch = c.args.self.now.batch in
+    let tidied = went_then n batch c.args.self.now.core c.gather.new.core c.tidy.new.core (c.in_ok-read.ensures.goes n) (c.gather.ensures.went n batch) (c.tidy.ensures.went n batch) in
     let here = subst (λ (z : ℕ). IsBelowKept z c.args.self.now.kept.items c.args.self.now.core.machine.next_ticket) (sym c.gather.ensures.by.last) c.requires.last in
     let later = below_later c.gather.new.by.last c.args.self.now.kept.items c.args.self.now.core.machine.next_ticket c.tidy.new.core.machine.next_ticket tidied.tickets here in
     (c.guess_and_send.new.core.machine.next_ticket, c.guess_and_send.ensures.rising c.gather.new.by.last later)
@@ -34,14 +37,16 @@ post_kept-requires-clause-last g c =
 pub returns-in_err-post_kept-clause-went : goal.returns-in_err-post_kept-clause-went
 returns-in_err-post_kept-clause-went g c =
     let n = c.args.self.now.instances in
-    went_then n c.args.self.now.core c.gather.new.core c.guess_and_send.new.core (c.in_ok-read.ensures.goes n) (c.gather.ensures.went n)
-    (went_then n c.gather.new.core c.tidy.new.core c.guess_and_send.new.core (c.in_ok-finished.ensures.goes n) (c.tidy.ensures.went n) c.guess_and_send.ensures.went)
+    let batch = c.args.self.now.batch in
+    went_then n batch c.args.self.now.core c.gather.new.core c.guess_and_send.new.core (c.in_ok-read.ensures.goes n) (c.gather.ensures.went n batch)
+    (went_then n batch c.gather.new.core c.tidy.new.core c.guess_and_send.new.core (c.in_ok-finished.ensures.goes n) (c.tidy.ensures.went n batch) c.guess_and_send.ensures.went)
 
 pub returns-clause-went : goal.returns-clause-went
 returns-clause-went g c =
     let n = c.args.self.now.instances in
-    went_then n c.args.self.now.core c.gather.new.core c.guess_and_send.new.core (c.in_ok-read.ensures.goes n) (c.gather.ensures.went n)
-    (went_then n c.gather.new.core c.tidy.new.core c.guess_and_send.new.core (c.in_ok-finished.ensures.goes n) (c.tidy.ensures.went n) c.guess_and_send.ensures.went)
+    let batch = c.args.self.now.batch in
+    went_then n batch c.args.self.now.core c.gather.new.core c.guess_and_send.new.core (c.in_ok-read.ensures.goes n) (c.gather.ensures.went n batch)
+    (went_then n batch c.gather.new.core c.tidy.new.core c.guess_and_send.new.core (c.in_ok-finished.ensures.goes n) (c.tidy.ensures.went n batch) c.guess_and_send.ensures.went)
 
 all_posted : (kept : List Job) (waiting room places : ℕ) → room ≡ places → (kept ≡ []) ⊎ (room ≤ waiting) → (kept ≡ []) ⊎ (places ≤ waiting)
 all_posted kept waiting room places same (inl none) = inl none
@@ -50,6 +55,7 @@ all_posted kept waiting room places same (inr full) = inr (omega arith)
 pub returns-clause-turned : goal.returns-clause-turned
 returns-clause-turned g c =
     let n = c.args.self.now.instances in
+    let batch = c.args.self.now.batch in
     let tidied = goes_then n c.args.self.now.core c.gather.new.core c.tidy.new.core (c.in_ok-read.ensures.goes n) (c.in_ok-finished.ensures.goes n) in
     let finished = c.in_ok-finished.finished.items in
     let emitted : c.tidy.new.core.machine.emitted ≡ c.args.self.now.core.machine.emitted ++ matches_of finished =
@@ -76,7 +82,7 @@ returns-clause-turned g c =
           sends_then c.args.self.now.core c.gather.new.core c.tidy.new.core
           (sends_gathered c.args.self.now.core c.gather.new.core gathered.count gathered.pairs gathered.back)
           (sends_tidied c.gather.new.core c.tidy.new.core finished c.in_ok-finished.ensures.tidied);
-      went = went_then n c.args.self.now.core c.gather.new.core c.tidy.new.core (c.in_ok-read.ensures.goes n) (c.gather.ensures.went n) (c.tidy.ensures.went n);
+      went = went_then n batch c.args.self.now.core c.gather.new.core c.tidy.new.core (c.in_ok-read.ensures.goes n) (c.gather.ensures.went n batch) (c.tidy.ensures.went n batch);
       finished_then = emitted;
       settled_then = c.in_ok-finished.ensures.settled;
       sendable = c.guess_and_send.new.kept.items;
@@ -89,7 +95,8 @@ returns-clause-turned g c =
 pub returns-clause-last : goal.returns-clause-last
 returns-clause-last g c =
     let n = c.args.self.now.instances in
-    let tidied = went_then n c.args.self.now.core c.gather.new.core c.tidy.new.core (c.in_ok-read.ensures.goes n) (c.gather.ensures.went n) (c.tidy.ensures.went n) in
+    let batch = c.args.self.now.batch in
+    let tidied = went_then n batch c.args.self.now.core c.gather.new.core c.tidy.new.core (c.in_ok-read.ensures.goes n) (c.gather.ensures.went n batch) (c.tidy.ensures.went n batch) in
     let here = subst (λ (z : ℕ). IsBelowKept z c.args.self.now.kept.items c.args.self.now.core.machine.next_ticket) (sym c.gather.ensures.by.last) c.requires.last in
     let later = below_later c.gather.new.by.last c.args.self.now.kept.items c.args.self.now.core.machine.next_ticket c.tidy.new.core.machine.next_ticket tidied.tickets here in
     c.in_ok-post_kept.ensures.last c.guess_and_send.new.core.machine.next_ticket (c.guess_and_send.ensures.rising c.gather.new.by.last later)
