@@ -1,5 +1,5 @@
 -- A core that is fed, and then fed on.
-use Rattle.std.proofs.Common.{◌≡◌, ℕ, ◌+◌, ◌≤◌, List, ◌++◌, sym, ◌∙◌, ap, subst, append_assoc}
+use Rattle.std.proofs.Common.{ℕ, ◌+◌, ◌≤◌, List, ◌++◌, sym, ◌∙◌, ap, subst, append_assoc}
 use Rattle.sp_plan.specs.declared.event.Event.{Event}
 use Rattle.sp_core.specs.Running.{Running}
 use Rattle.sp_splitter.proofs.Stepping.{within_then}

@@ -1,15 +1,13 @@
 -- What comes of pieces that are given back.
 use Rattle.std.proofs.Common.{◌≡◌, ℕ, ◌+◌, ◌≤◌, true, false, List, [], ◌++◌, Option, Some, None, is_some, refl, sym, ap, ◌∙◌, arith}
-use Rattle.std.specs.Prelude.{option_copied}
 use Rattle.std.proofs.lemmas.List.Folds.{flat_map-map}
-use Rattle.sp_chance.specs.Taught.{TaughtOn}
 use Rattle.sp_chance.proofs.Teaching.{taught_none, taught_then}
 use Rattle.sp_match.specs.declared.moves.Moves.{Moves}
 use Rattle.sp_match.specs.public.Matching.{runs_of}
 use Rattle.sp_hub.specs.Calls.{collects}
 use Rattle.sp_hub.specs.State.{Posting}
 use Rattle.sp_group.specs.declared.step.Step.TheVariants as s
-use Rattle.sp_group.specs.Machine.{Version, version_at}
+use Rattle.sp_group.specs.Machine.{Version}
 use Rattle.sp_rules.specs.Returning.{readings}
 use Rattle.sp_piece.specs.Pieced.{Pieced, Tells}
 use Rattle.sp_piece.specs.Reading.{Account, seen_moves}

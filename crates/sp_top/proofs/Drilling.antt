@@ -8,24 +8,23 @@ use Rattle.sp_io.specs.Outside.{Told, SourceState, SinkState, Gave, Grew, GrewWi
 use Rattle.sp_plan.specs.declared.event.Event.{Event}
 use Rattle.sp_plan.specs.declared.found.Match.{Match}
 use Rattle.sp_plan.specs.declared.plan.Plan.{Plan}
-use Rattle.sp_plan.specs.Sequential.{seq, whole}
+use Rattle.sp_plan.specs.Sequential.{seq}
 use Rattle.sp_plan.specs.Windows.{closed, windows}
 use Rattle.sp_emit.specs.Summary.{summary}
 use Rattle.sp_gen.specs.Generated.{generated}
 use Rattle.sp_drill.specs.Drill.{GeneratedRowsAreRead}
 use Rattle.sp_drill.specs.Query.{drill_query, DrillQueryHasPlan}
-use Rattle.sp_intake.specs.Reading.{read}
 use Rattle.sp_load.specs.Queries.{IsPlanFor, RefusesText}
 use Rattle.sp_load.specs.Laws.{OneReading}
 use Rattle.sp_load.specs.declared.refusal.Refusal.{Refusal}
 use Rattle.sp_load.specs.declared.refusal.Refusal.TheVariants as r
 use Rattle.sp_answer.specs.declared.status.Status.{Status}
-use Rattle.sp_answer.specs.declared.status.Status.TheVariants.{Done, Memory, Read, Write}
-use Rattle.sp_answer.specs.Outcome.{Outcome, ending, outcome}
+use Rattle.sp_answer.specs.declared.status.Status.TheVariants.{Done, Memory, Read}
+use Rattle.sp_answer.specs.Outcome.{ending, outcome}
 use Rattle.sp_answer.specs.Ran.{Outside, outside, Ran, Made}
 use Rattle.sp_answer.proofs.Answering.{made_none}
 use Rattle.sp_split.specs.declared.ended.Ended.{Ended}
-use Rattle.sp_cli.specs.Commands.{Speed, drill}
+use Rattle.sp_cli.specs.Commands.{Speed}
 use Rattle.sp_commands.specs.Completes.{ReadsToEnd}
 use Rattle.sp_commands.specs.Drill.{summary_of, drill_text, DrillOutcome, WritesSummary, written, failed, no_memory}
 use Rattle.sp_top.specs.Summing.{CanSum, SumsUp}

@@ -1,5 +1,5 @@
 -- What the summary of a drill is made of, and how it is written.
-use Rattle.std.specs.Prelude.{◌≡◌, ◌≢◌, ◌≤◌, ℕ, true, length, Option, Some}
+use Rattle.std.specs.Prelude.{◌≡◌, ◌≢◌, ◌≤◌, true, length, Option, Some}
 use Rattle.sp_base.specs.Limits.{event_limit}
 use Rattle.sp_io.specs.Outside.{SinkState}
 use Rattle.sp_plan.specs.Windows.{windows}
