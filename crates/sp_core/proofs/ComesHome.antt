@@ -29,7 +29,7 @@ use Rattle.sp_group.specs.Steps.{step, steps}
 use Rattle.sp_rules.specs.ByGroups.{AreToDecide, IsByGroups, ended, grouped, outcome_in, using_runs}
 use Rattle.sp_rules.specs.Returning.{IsReadAndReturned, read_to, readings, reads_and_return}
 use Rattle.sp_rules.specs.Schedules.{Fits}
-use Rattle.sp_tree.specs.declared.version.Version as branch
+use Rattle.sp_tree.specs.Version as branch
 use Rattle.sp_tree.specs.Decided.{rule_of}
 use Rattle.sp_tree.specs.Grown.{AreGrown, Entry, Grown, kin, lifted, pruned, with_version}
 use Rattle.sp_core.specs.declared.homecoming.Brought.{Brought}

@@ -4,7 +4,7 @@ use Rattle.std.specs.Prelude.{IfSome, IsSome}
 use Rattle.std.proofs.lemmas.Bool.Decides.{nat_tests}
 use Rattle.std.proofs.lemmas.Option.{same_Some}
 use Rattle.sp_group.specs.Family.{entry_at, kept, prune}
-use Rattle.sp_tree.specs.declared.version.Version as tree
+use Rattle.sp_tree.specs.Version as tree
 use Rattle.sp_tree.specs.Changes.{promoted}
 use Rattle.sp_tree.specs.Grown.{Grown, Entry, groups_of, kin, lifted, pruned, root_in, value_of, with_value, with_version, without_root, written}
 

@@ -11,7 +11,7 @@ use Rattle.sp_group.specs.declared.outcome.Outcome.{Outcome}
 use Rattle.sp_group.specs.declared.outcome.Outcome.TheVariants.{Completed, Abandoned}
 use Rattle.sp_group.specs.Deciding.{others, others_than, foresaw, foresaw_all}
 use Rattle.sp_group.specs.Family.{Kin, entry_at, parent_there, kept, prune, is_parent}
-use Rattle.sp_tree.specs.declared.version.Version.{Version}
+use Rattle.sp_tree.specs.Version.{Version}
 use Rattle.sp_tree.specs.Changes.{decided, child_decided, with_run}
 use Rattle.sp_tree.specs.Grown.{Entry, AreRooted, FallFrom, kin, with_version, lifted, opened_for}
 use Rattle.sp_tree.specs.Decided.{child_of_decided, rule_of, bare, with_groups, decided_each, DecisionsAddUp, OpeningsChangeGroups}

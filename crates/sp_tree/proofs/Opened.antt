@@ -4,11 +4,11 @@ use Rattle.std.specs.Prelude.{Result, Ok, Err, OnOk, IfSome, IsSome}
 use Rattle.std.proofs.lemmas.List.{drop_more, get_or_default}
 use Rattle.std.proofs.lemmas.Bool.{false≢true}
 use Rattle.std.proofs.lemmas.Bool.Decides.{nat_tests}
-use Rattle.sp_base.specs.Numbers.{is_among}
+use Rattle.sp_base.specs.Numbers.{is_among, with_number}
 use Rattle.sp_store.specs.Stored.{Stored, FallFrom}
 use Rattle.sp_group.specs.Family.{entry_at, parent_there}
-use Rattle.sp_tree.specs.declared.version.Version.{Version}
-use Rattle.sp_tree.specs.Changes.{branches, with_run, IsIndex, IsUnder, IsChildAt, AreNoChild}
+use Rattle.sp_tree.specs.declared.version.Version.{Version as Branch}
+use Rattle.sp_tree.specs.Branches.{branches, seen, IsIndex, IsUnder, IsChildAt, AreNoChild}
 use Rattle.sp_tree.specs.Grown.{Grown, Entry, kin, groups_of, is_open, with_group, with_all_groups, opened_for, regrouped, AreRooted, IsChild, LacksChild}
 use Rattle.sp_tree.specs.Joined.{joined, HaveIds, IsTree}
 use Rattle.sp_tree.proofs.Zipped.{id_below, set_joined, there_joined}
@@ -25,33 +25,37 @@ pub if_some : {T : Type 0} (o : Option T) (P Q : T → Type 0) → ((x : T) → 
 if_some None P Q f p = p
 if_some (Some x) P Q f p = f x p
 
+-- a version with other open groups
+abbrev pub regroup : List ℕ → Branch → Branch
+regroup groups v = record v { groups = groups }
+
 both_if : {X : Type 0} (b : Bool) (x y : X) (o q : Option X) → is_some o ≡ is_some q → is_some (cond b (Some x) o) ≡ is_some (cond b (Some y) q)
 both_if true x y o q h = refl
 both_if false x y o q h = h
 
-there_set : (j : ℕ) (vs : List Version) (w : Version) (p : ℕ) → j < length vs → ((d : Version) → w.id ≡ (get_or vs j d).id) → is_some (entry_at branches (set vs j w) p) ≡ is_some (entry_at branches vs p)
+there_set : (j : ℕ) (vs : List Branch) (w : Branch) (p : ℕ) → j < length vs → ((d : Branch) → w.id ≡ (get_or vs j d).id) → is_some (entry_at branches (set vs j w) p) ≡ is_some (entry_at branches vs p)
 there_set j [] w p within same = absurd (omega arith)
 there_set zero (v ∷ vs) w p within same =
     ap (λ n. is_some (cond (n == p) (Some w) (entry_at branches vs p))) (same v)
     ∙ both_if (v.id == p) w v (entry_at branches vs p) (entry_at branches vs p) refl
 there_set (suc j) (v ∷ vs) w p within same = both_if (v.id == p) v v (entry_at branches (set vs j w) p) (entry_at branches vs p) (there_set j vs w p (omega arith) same)
 
-parent_set : (j : ℕ) (vs : List Version) (w : Version) (p : Option ℕ) → j < length vs → ((d : Version) → w.id ≡ (get_or vs j d).id) → parent_there branches (set vs j w) p ≡ parent_there branches vs p
+parent_set : (j : ℕ) (vs : List Branch) (w : Branch) (p : Option ℕ) → j < length vs → ((d : Branch) → w.id ≡ (get_or vs j d).id) → parent_there branches (set vs j w) p ≡ parent_there branches vs p
 parent_set j vs w None within same = refl
 parent_set j vs w (Some p) within same = there_set j vs w p within same
 
-pub none_further : (vs : List Version) (i : ℕ) (e : Version) (p : ℕ) (label : List ℕ) → i < length vs → e ≡ get_or vs i e → ¬ IsUnder e p label
+pub none_further : (vs : List Branch) (i : ℕ) (e : Branch) (p : ℕ) (label : List ℕ) → i < length vs → e ≡ get_or vs i e → ¬ IsUnder e p label
     → (AreNoChild (drop i vs) p label → AreNoChild vs p label) → AreNoChild (drop (i + 1) vs) p label → AreNoChild vs p label
 none_further vs i e p label within read n h rest =
-    h (subst (λ (l : List Version). AreNoChild l p label) (sym (drop_more vs i e within ∙ ap (λ (x : Version). x ∷ drop (i + 1) vs) (sym read))) (n, rest))
+    h (subst (λ (l : List Branch). AreNoChild l p label) (sym (drop_more vs i e within ∙ ap (λ (x : Branch). x ∷ drop (i + 1) vs) (sym read))) (n, rest))
 
-pub child_here : (vs : List Version) (i : ℕ) (e : Version) (p : ℕ) (label : List ℕ) → i < length vs → e ≡ get_or vs i e → IsUnder e p label → IsChildAt vs p label e.id
+pub child_here : (vs : List Branch) (i : ℕ) (e : Branch) (p : ℕ) (label : List ℕ) → i < length vs → e ≡ get_or vs i e → IsUnder e p label → IsChildAt vs p label e.id
 child_here vs i e p label within read u =
-    let at : (d : Version) → e ≡ get_or vs i d = λ d. read ∙ get_or_default vs i e d within in
-    (i, (within, λ d. ap (λ (z : Version). z.id) (sym (at d))), λ d. subst (λ (z : Version). IsUnder z p label) (at d) u)
+    let at : (d : Branch) → e ≡ get_or vs i d = λ d. read ∙ get_or_default vs i e d within in
+    (i, (within, λ d. ap (λ (z : Branch). z.id) (sym (at d))), λ d. subst (λ (z : Branch). IsUnder z p label) (at d) u)
 
 module _ {V : Type 0} where
-  rooted_set : (j : ℕ) (vs : List Version) (es : List (ℕ × V)) (w : Version) → HaveIds vs es → j < length vs → ((d : Version) → w.id ≡ (get_or vs j d).id) → ((d : Version) → w.parent ≡ (get_or vs j d).parent)
+  rooted_set : (j : ℕ) (vs : List Branch) (es : List (ℕ × V)) (w : Branch) → HaveIds vs es → j < length vs → ((d : Branch) → w.id ≡ (get_or vs j d).id) → ((d : Branch) → w.parent ≡ (get_or vs j d).parent)
       → AreRooted (joined vs es) → AreRooted (joined (set vs j w) es)
   rooted_set j [] es w h within same parent r = absurd (omega arith)
   rooted_set j (v ∷ vs) [] w h within same parent r = absurd h
@@ -63,17 +67,17 @@ module _ {V : Type 0} where
       )
 
   -- a version changed at an index, with its id and parent kept
-  pub tree_set : (vs : List Version) (values : Stored V) (i : ℕ) (v w : Version) → IsTree vs values → i < length vs → v ≡ get_or vs i v → w.id ≡ v.id → w.parent ≡ v.parent → IsTree (set vs i w) values
+  pub tree_set : (vs : List Branch) (values : Stored V) (i : ℕ) (v w : Branch) → IsTree vs values → i < length vs → v ≡ get_or vs i v → w.id ≡ v.id → w.parent ≡ v.parent → IsTree (set vs i w) values
   tree_set vs values i v w h within read same parent =
-      let at : (d : Version) → v ≡ get_or vs i d = λ d. read ∙ get_or_default vs i v d within in
-      let id : (d : Version) → w.id ≡ (get_or vs i d).id = λ d. same ∙ ap (λ (z : Version). z.id) (at d) in
-      let up : (d : Version) → w.parent ≡ (get_or vs i d).parent = λ d. parent ∙ ap (λ (z : Version). z.parent) (at d) in record {
+      let at : (d : Branch) → v ≡ get_or vs i d = λ d. read ∙ get_or_default vs i v d within in
+      let id : (d : Branch) → w.id ≡ (get_or vs i d).id = λ d. same ∙ ap (λ (z : Branch). z.id) (at d) in
+      let up : (d : Branch) → w.parent ≡ (get_or vs i d).parent = λ d. parent ∙ ap (λ (z : Branch). z.parent) (at d) in record {
         both = record { ids = (set_joined i vs values.entries w h.both.ids within id).3; fall = h.both.fall };
         rooted = rooted_set i vs values.entries w h.both.ids within id up h.rooted;
       }
 
-  opened_joined : (j top : ℕ) (vs : List Version) (es : List (ℕ × V)) (d : Version) (run : ℕ) → HaveIds vs es → FallFrom top es → j < length vs
-      → joined (set vs j (with_run run (get_or vs j d))) es ≡ opened_for (get_or vs j d).id run (joined vs es)
+  opened_joined : (j top : ℕ) (vs : List Branch) (es : List (ℕ × V)) (d : Branch) (run : ℕ) → HaveIds vs es → FallFrom top es → j < length vs
+      → joined (set vs j (regroup (with_number (get_or vs j d).groups run) (get_or vs j d))) es ≡ opened_for (get_or vs j d).id run (joined vs es)
   opened_joined j top [] es d run h f within = absurd (omega arith)
   opened_joined j top (v ∷ vs) [] d run h f within = absurd h
   opened_joined zero top (v ∷ vs) (e ∷ es) d run h f within = let m = eq-eqb v.id v.id refl in rw m refl
@@ -81,16 +85,16 @@ module _ {V : Type 0} where
       let below : (get_or vs j d).id < e.0 = id_below j e.0 vs es d h.1 f.1 (omega arith) in
       let first = h.0 in
       let m = differs v.id (get_or vs j d).id (λ z. omega arith) in
-      rw m (ap (λ l. record { version = v; value = e.1 } ∷ l) (opened_joined j e.0 vs es d run h.1 f.1 (omega arith)))
+      rw m (ap (λ l. record { version = seen v; value = e.1 } ∷ l) (opened_joined j e.0 vs es d run h.1 f.1 (omega arith)))
 
-  pub group_opened : (vs : List Version) (values : Stored V) (id i run : ℕ) (v w : Version) → IsTree vs values → IsIndex vs id i → v ≡ get_or vs i v → w ≡ with_run run v → tree (set vs i w) values ≡ with_group (tree vs values) id run
+  pub group_opened : (vs : List Branch) (values : Stored V) (id i run : ℕ) (v w : Branch) → IsTree vs values → IsIndex vs id i → v ≡ get_or vs i v → w ≡ regroup (with_number v.groups run) v → tree (set vs i w) values ≡ with_group (tree vs values) id run
   group_opened vs values id i run v w h at read is =
-      let e = ap (λ (z : Version). joined (set vs i z) values.entries) (is ∙ ap (with_run run) read)
+      let e = ap (λ (z : Branch). joined (set vs i z) values.entries) (is ∙ ap (λ (z : Branch). regroup (with_number z.groups run) z) read)
       ∙ opened_joined i values.next vs values.entries v run h.both.ids h.both.fall at.0
       ∙ ap (λ n. opened_for n run (joined vs values.entries)) (at.1 v) in
       ap (λ (l : List (Entry V)). let t : Grown V = record { entries = l; next = values.next; bound = values.bound } in t) e
 
-  regrouped_joined : (j top : ℕ) (vs : List Version) (es : List (ℕ × V)) (d : Version) (groups : List ℕ) → HaveIds vs es → FallFrom top es → j < length vs
+  regrouped_joined : (j top : ℕ) (vs : List Branch) (es : List (ℕ × V)) (d : Branch) (groups : List ℕ) → HaveIds vs es → FallFrom top es → j < length vs
       → joined (set vs j (record (get_or vs j d) { groups = groups })) es ≡ regrouped (get_or vs j d).id groups (joined vs es)
   regrouped_joined j top [] es d groups h f within = absurd (omega arith)
   regrouped_joined j top (v ∷ vs) [] d groups h f within = absurd h
@@ -99,42 +103,42 @@ module _ {V : Type 0} where
       let below : (get_or vs j d).id < e.0 = id_below j e.0 vs es d h.1 f.1 (omega arith) in
       let first = h.0 in
       let m = differs v.id (get_or vs j d).id (λ z. omega arith) in
-      rw m (ap (λ l. record { version = v; value = e.1 } ∷ l) (regrouped_joined j e.0 vs es d groups h.1 f.1 (omega arith)))
+      rw m (ap (λ l. record { version = seen v; value = e.1 } ∷ l) (regrouped_joined j e.0 vs es d groups h.1 f.1 (omega arith)))
 
   -- the groups of the version at an index are others
-  pub groups_set : (vs : List Version) (values : Stored V) (id i : ℕ) (groups : List ℕ) (v : Version) → IsTree vs values → IsIndex vs id i → v ≡ get_or vs i v
+  pub groups_set : (vs : List Branch) (values : Stored V) (id i : ℕ) (groups : List ℕ) (v : Branch) → IsTree vs values → IsIndex vs id i → v ≡ get_or vs i v
       → tree (set vs i (record v { groups = groups })) values ≡ with_all_groups (tree vs values) id groups
   groups_set vs values id i groups v h at read =
-      let e = ap (λ (z : Version). joined (set vs i (record z { groups = groups })) values.entries) read
+      let e = ap (λ (z : Branch). joined (set vs i (record z { groups = groups })) values.entries) read
       ∙ regrouped_joined i values.next vs values.entries v groups h.both.ids h.both.fall at.0
       ∙ ap (λ n. regrouped n groups (joined vs values.entries)) (at.1 v) in
       ap (λ (l : List (Entry V)). let t : Grown V = record { entries = l; next = values.next; bound = values.bound } in t) e
 
   -- the entry of an id whose version stands at an index
-  entry_of : (vs : List Version) (values : Stored V) (id i : ℕ) (v : Version) → IsTree vs values → IsIndex vs id i → v ≡ get_or vs i v → (x : V) × (entry_at kin (joined vs values.entries) id ≡ Some (record { version = v; value = x }))
+  entry_of : (vs : List Branch) (values : Stored V) (id i : ℕ) (v : Branch) → IsTree vs values → IsIndex vs id i → v ≡ get_or vs i v → (x : V) × (entry_at kin (joined vs values.entries) id ≡ Some (record { version = seen v; value = x }))
   entry_of vs values id i v h at read =
       let a = (anew i values.next vs values.entries v h.both.ids h.both.fall at.0).0 in (
         a.value,
-        subst (λ n. entry_at kin (joined vs values.entries) n ≡ Some (record { version = v; value = a.value })) (at.1 v)
-            (a.entry_is ∙ ap (λ (z : Version). let e : Entry V = record { version = z; value = a.value } in Some e) (sym read)),
+        subst (λ n. entry_at kin (joined vs values.entries) n ≡ Some (record { version = seen v; value = a.value })) (at.1 v)
+            (a.entry_is ∙ ap (λ (z : Branch). let e : Entry V = record { version = seen z; value = a.value } in Some e) (sym read)),
       )
 
-  pub run_is_new : (vs : List Version) (values : Stored V) (id i run : ℕ) (v : Version) → IsTree vs values → IsIndex vs id i → v ≡ get_or vs i v → is_open (tree vs values) id run ≡ false → is_among v.groups run ≡ false
+  pub run_is_new : (vs : List Branch) (values : Stored V) (id i run : ℕ) (v : Branch) → IsTree vs values → IsIndex vs id i → v ≡ get_or vs i v → is_open (tree vs values) id run ≡ false → is_among v.groups run ≡ false
   run_is_new vs values id i run v h at read new =
       ap (λ (o : Option (Entry V)). is_among (groups_of o) run) (sym (entry_of vs values id i v h at read).1) ∙ new
 
-  pub not_live : (vs : List Version) (values : Stored V) (id : ℕ) → IsTree vs values → entry_at branches vs id ≡ None → IsSome (entry_at kin (joined vs values.entries) id) → ⊥
+  pub not_live : (vs : List Branch) (values : Stored V) (id : ℕ) → IsTree vs values → entry_at branches vs id ≡ None → IsSome (entry_at kin (joined vs values.entries) id) → ⊥
   not_live vs values id h n some = false≢true (sym (ap is_some (no_entry vs values.entries id h.both.ids n)) ∙ some)
 
-  pub is_child : (vs : List Version) (values : Stored V) (p : ℕ) (label : List ℕ) (id : ℕ) → IsTree vs values → IsChildAt vs p label id → IsChild (joined vs values.entries) p label id
+  pub is_child : (vs : List Branch) (values : Stored V) (p : ℕ) (label : List ℕ) (id : ℕ) → IsTree vs values → IsChildAt vs p label id → IsChild (joined vs values.entries) p label id
   is_child vs values p label id h k =
-      let d : Version = record { id = 0; parent = None; label = []; groups = [] } in
+      let d : Branch = record { id = 0; parent = None; label = []; groups = [] } in
       let v = get_or vs k.0 d in
       let e = entry_of vs values id k.0 v h k.1 (get_or_default vs k.0 d v k.1.0) in
       let u = k.2 d in
-      (record { version = v; value = e.0 }, e.1, u.0, u.1)
+      (record { version = seen v; value = e.0 }, e.1, u.0, u.1)
 
-  pub lacks_child : (vs : List Version) (es : List (ℕ × V)) (p : ℕ) (label : List ℕ) → HaveIds vs es → AreNoChild vs p label → LacksChild (joined vs es) p label
+  pub lacks_child : (vs : List Branch) (es : List (ℕ × V)) (p : ℕ) (label : List ℕ) → HaveIds vs es → AreNoChild vs p label → LacksChild (joined vs es) p label
   lacks_child [] es p label h n = tt
   lacks_child (v ∷ vs) [] p label h n = absurd h
   lacks_child (v ∷ vs) (e ∷ es) p label h n = (n.0, lacks_child vs es p label h.1 n.1)

@@ -6,8 +6,9 @@ use Rattle.std.proofs.lemmas.Option.{same_Some}
 use Rattle.sp_store.specs.Stored.{Stored, FallFrom, found, left}
 use Rattle.sp_store.specs.Stored as s
 use Rattle.sp_group.specs.Family.{entry_at, parent_there, prune, kept}
-use Rattle.sp_tree.specs.declared.version.Version.{Version}
-use Rattle.sp_tree.specs.Changes.{branches, but, changed_by, IsIndex}
+use Rattle.sp_tree.specs.declared.version.Version.{Version as Branch}
+use Rattle.sp_tree.specs.Changes.{but}
+use Rattle.sp_tree.specs.Branches.{branches, seen, changed_by, IsIndex}
 use Rattle.sp_tree.specs.declared.version.Change.TheVariants as c
 use Rattle.sp_tree.specs.Grown.{Grown, Entry, kin, lifted, AreRooted, renewed, begun_anew, answered}
 use Rattle.sp_tree.specs.Joined.{joined, HaveIds, AreJoined, IsTree, IsPrunedFrom}
@@ -17,7 +18,7 @@ differs : (m n : ℕ) → m ≢ n → (m == n) ≡ false
 differs m n h = grind (arith, nat_tests)
 
 -- what a version that begins anew is
-abbrev pub fresh : ℕ → Version → Version
+abbrev pub fresh : ℕ → Branch → Branch
 fresh next v = record { id = next; parent = v.parent; label = v.label; groups = [] }
 
 module _ {V : Type 0} where
@@ -27,13 +28,13 @@ module _ {V : Type 0} where
   but_same : (id : ℕ) (e : Entry V) → e.version.id ≡ id → lifted (but id) e ≡ None
   but_same id e h = let n = eq-eqb e.version.id id h in rw n refl
 
-  keep_below : (id top : ℕ) (vs : List Version) (es : List (ℕ × V)) → top ≤ id → HaveIds vs es → FallFrom top es
+  keep_below : (id top : ℕ) (vs : List Branch) (es : List (ℕ × V)) → top ≤ id → HaveIds vs es → FallFrom top es
       → prune kin (lifted (changed_by c.Prune)) (joined vs es) ≡ prune kin (lifted (but id)) (joined vs es)
   keep_below id top [] es le h f = refl
   keep_below id top (v ∷ vs) [] le h f = absurd h
   keep_below id top (v ∷ vs) (e ∷ es) le h f =
       let less : e.0 < top = f.0 in let same = h.0 in
-      let x : Entry V = record { version = v; value = e.1 } in
+      let x : Entry V = record { version = seen v; value = e.1 } in
       ap (kept kin (Some x)) (keep_below id e.0 vs es (omega arith) h.1 f.1)
       ∙ ap (λ o. kept kin o (prune kin (lifted (but id)) (joined vs es))) (sym (but_other id x (λ z. omega arith)))
 
@@ -57,18 +58,18 @@ module _ {V : Type 0} where
       go false = h
 
   -- what stands at the index of an id, and the list without it
-  pub record Anew (vs : List Version) (es : List (ℕ × V)) (v : Version) : Type 0 where
+  pub record Anew (vs : List Branch) (es : List (ℕ × V)) (v : Branch) : Type 0 where
     pub value : V
     pub found_is : found es v.id ≡ Some value
-    pub entry_is : entry_at kin (joined vs es) v.id ≡ Some (record { version = v; value = value })
+    pub entry_is : entry_at kin (joined vs es) v.id ≡ Some (record { version = seen v; value = value })
     pub there : AreRooted (joined vs es) → parent_there kin (prune kin (lifted (but v.id)) (joined vs es)) v.parent ≡ true
 
-  pub anew : (i top : ℕ) (vs : List Version) (es : List (ℕ × V)) (d : Version) → HaveIds vs es → FallFrom top es → i < length vs
+  pub anew : (i top : ℕ) (vs : List Branch) (es : List (ℕ × V)) (d : Branch) → HaveIds vs es → FallFrom top es → i < length vs
       → Anew vs es (get_or vs i d) × (prune kin (lifted (changed_by c.Prune)) (joined (remove vs i) (left es (get_or vs i d).id)) ≡ prune kin (lifted (but (get_or vs i d).id)) (joined vs es))
   anew i top [] es d h f within = absurd (omega arith)
   anew i top (v ∷ vs) [] d h f within = absurd h
   anew zero top (v ∷ vs) (e ∷ es) d h f within =
-      let x : Entry V = record { version = v; value = e.1 } in
+      let x : Entry V = record { version = seen v; value = e.1 } in
       let n = eq-eqb e.0 v.id (sym h.0) in let m = eq-eqb v.id v.id refl in
       let less = subst (λ k. FallFrom k es) (sym h.0) f.1 in
       let gone : prune kin (lifted (but v.id)) (x ∷ joined vs es) ≡ prune kin (lifted (but v.id)) (joined vs es) = ap (λ o. kept kin o (prune kin (lifted (but v.id)) (joined vs es))) (but_same v.id x refl) in
@@ -82,7 +83,7 @@ module _ {V : Type 0} where
         ap (λ (l : List (ℕ × V)). prune kin (lifted (changed_by c.Prune)) (joined vs l)) (ap (λ b. cond b es (e ∷ left es v.id)) n) ∙ below ∙ sym gone,
       )
   anew (suc i) top (v ∷ vs) (e ∷ es) d h f within =
-      let x : Entry V = record { version = v; value = e.1 } in
+      let x : Entry V = record { version = seen v; value = e.1 } in
       let g = get_or vs i d in
       let below : g.id < e.0 = id_below i e.0 vs es d h.1 f.1 (omega arith) in
       let first = h.0 in
@@ -100,19 +101,19 @@ module _ {V : Type 0} where
             ∙ ap (kept kin (Some x)) rest.1 ∙ sym front,
       )
 
-  none_if : (b : Bool) (v : Version) (x : V) (o : Option Version) (q : Option (Entry V)) → cond b (Some v) o ≡ None → (o ≡ None → q ≡ None) → cond b (Some (record { version = v; value = x })) q ≡ None
+  none_if : (b : Bool) (v : Branch) (x : V) (o : Option Branch) (q : Option (Entry V)) → cond b (Some v) o ≡ None → (o ≡ None → q ≡ None) → cond b (Some (record { version = seen v; value = x })) q ≡ None
   none_if true v x o q h f = absurd (cc)
   none_if false v x o q h f = f h
 
-  pub no_entry : (vs : List Version) (es : List (ℕ × V)) (id : ℕ) → HaveIds vs es → entry_at branches vs id ≡ None → entry_at kin (joined vs es) id ≡ None
+  pub no_entry : (vs : List Branch) (es : List (ℕ × V)) (id : ℕ) → HaveIds vs es → entry_at branches vs id ≡ None → entry_at kin (joined vs es) id ≡ None
   no_entry [] es id h n = refl
   no_entry (v ∷ vs) [] id h n = absurd h
   no_entry (v ∷ vs) (e ∷ es) id h n = none_if (v.id == id) v e.1 (entry_at branches vs id) (entry_at kin (joined vs es) id) n (no_entry vs es id h.1)
 
-  abbrev pub tree : List Version → Stored V → Grown V
+  abbrev pub tree : List Branch → Stored V → Grown V
   tree vs values = record { entries = joined vs values.entries; next = values.next; bound = values.bound }
 
-  pub record Begun (vs : List Version) (values : Stored V) (now : List Version) (id : ℕ) : Type 0 where
+  pub record Begun (vs : List Branch) (values : Stored V) (now : List Branch) (id : ℕ) : Type 0 where
     pub live : s.renewed_id values id ≡ Some values.next
     pub answer : Some values.next ≡ answered values.next (entry_at kin (joined vs values.entries) id)
     pub ready : AreJoined now (s.renewed values id)
@@ -120,59 +121,59 @@ module _ {V : Type 0} where
     pub shape : (new : List (Entry V)) (next bound : ℕ) → IsPrunedFrom 1 (changed_by c.Prune) (joined now (s.renewed values id).entries) new → next ≡ (s.renewed values id).next → bound ≡ (s.renewed values id).bound
         → (let t : Grown V = record { entries = new; next = next; bound = bound } in t ≡ renewed (tree vs values) id)
 
-  module _ (vs : List Version) (values : Stored V) (i : ℕ) (h : IsTree vs values) (within : i < length vs) (d : Version) where
-    pub begun_at : (now : List Version) → now ≡ fresh values.next (get_or vs i d) ∷ remove vs i → Begun vs values now (get_or vs i d).id
+  module _ (vs : List Branch) (values : Stored V) (i : ℕ) (h : IsTree vs values) (within : i < length vs) (d : Branch) where
+    pub begun_at : (now : List Branch) → now ≡ fresh values.next (get_or vs i d) ∷ remove vs i → Begun vs values now (get_or vs i d).id
     begun_at now e =
         let g = get_or vs i d in
         let a = anew i values.next vs values.entries d h.both.ids h.both.fall within in
         let r = remove_joined i values.next vs values.entries d h.both.ids h.both.fall within in
         let after : Stored V = record { entries = (values.next, a.0.value) ∷ left values.entries g.id; next = values.next + 1; bound = values.bound } in
         let moved : s.renewed values g.id ≡ after = ap (s.moved values g.id) a.0.found_is in
-        let x : Entry V = record { version = fresh values.next g; value = a.0.value } in
+        let x : Entry V = record { version = seen (fresh values.next g); value = a.0.value } in
         let whole : (new : List (Entry V)) → IsPrunedFrom 1 (changed_by c.Prune) (joined now (s.renewed values g.id).entries) new → new ≡ x ∷ prune kin (lifted (but g.id)) (joined vs values.entries) =
         λ new p.
         let q : IsPrunedFrom 1 (changed_by c.Prune) (joined (fresh values.next g ∷ remove vs i) after.entries) new =
-        subst (λ (z : List Version). IsPrunedFrom 1 (changed_by c.Prune) (joined z after.entries) new) e (subst (λ (z : Stored V). IsPrunedFrom 1 (changed_by c.Prune) (joined now z.entries) new) moved p) in
+        subst (λ (z : List Branch). IsPrunedFrom 1 (changed_by c.Prune) (joined z after.entries) new) e (subst (λ (z : Stored V). IsPrunedFrom 1 (changed_by c.Prune) (joined now z.entries) new) moved p) in
         q ∙ ap (λ l. x ∷ l) a.1 in
         record {
           live = ap (s.answered values.next) a.0.found_is;
           answer = sym (ap (answered values.next) a.0.entry_is);
-          ready = subst (λ (z : List Version). AreJoined z (s.renewed values g.id)) (sym e) (subst (λ (z : Stored V). AreJoined (fresh values.next g ∷ remove vs i) z) (sym moved) (record { ids = (refl, r.1); fall = (omega arith, r.2) }));
+          ready = subst (λ (z : List Branch). AreJoined z (s.renewed values g.id)) (sym e) (subst (λ (z : Stored V). AreJoined (fresh values.next g ∷ remove vs i) z) (sym moved) (record { ids = (refl, r.1); fall = (omega arith, r.2) }));
           rooted = λ new p. subst AreRooted (sym (whole new p)) (a.0.there h.rooted, rooted_pruned (lifted (but g.id)) (joined vs values.entries));
           shape = λ new next bound p n b.
               (let w = whole new p in let m = n ∙ ap (λ (z : Stored V). z.next) moved in let k = b ∙ ap (λ (z : Stored V). z.bound) moved in
               rw (w, m, k) (sym (ap (begun_anew (tree vs values) g.id) a.0.entry_is)));
         }
 
-  pub begun : (vs : List Version) (values : Stored V) (id i : ℕ) → IsTree vs values → IsIndex vs id i → (v w : Version) → v ≡ get_or vs i v → (now : List Version) → w ≡ fresh values.next v → now ≡ w ∷ remove vs i → Begun vs values now id
+  pub begun : (vs : List Branch) (values : Stored V) (id i : ℕ) → IsTree vs values → IsIndex vs id i → (v w : Branch) → v ≡ get_or vs i v → (now : List Branch) → w ≡ fresh values.next v → now ≡ w ∷ remove vs i → Begun vs values now id
   begun vs values id i h at v w read now is items =
       subst (λ n. Begun vs values now n) (at.1 v)
-      (begun_at vs values i h at.0 v now (items ∙ ap (λ (z : Version). z ∷ remove vs i) (is ∙ ap (fresh values.next) read)))
+      (begun_at vs values i h at.0 v now (items ∙ ap (λ (z : Branch). z ∷ remove vs i) (is ∙ ap (fresh values.next) read)))
 
-  pub lives : (vs : List Version) (values : Stored V) (id i : ℕ) → IsTree vs values → IsIndex vs id i → s.renewed_id values id ≡ Some values.next
+  pub lives : (vs : List Branch) (values : Stored V) (id i : ℕ) → IsTree vs values → IsIndex vs id i → s.renewed_id values id ≡ Some values.next
   lives vs values id i h at =
-      let d : Version = record { id = 0; parent = None; label = []; groups = [] } in
+      let d : Branch = record { id = 0; parent = None; label = []; groups = [] } in
       subst (λ n. s.renewed_id values n ≡ Some values.next) (at.1 d)
       (begun_at vs values i h at.0 d (fresh values.next (get_or vs i d) ∷ remove vs i) refl).live
 
-  some_if : (b : Bool) (v w : Version) (x : V) (o : Option Version) (q : Option (Entry V)) → cond b (Some v) o ≡ Some w → (o ≡ Some w → (y : V) × (q ≡ Some (record { version = w; value = y })))
-      → (y : V) × (cond b (Some (record { version = v; value = x })) q ≡ Some (record { version = w; value = y }))
-  some_if true v w x o q h f = (x, ap (λ (z : Version). let e : Entry V = record { version = z; value = x } in Some e) (same_Some v w h))
+  some_if : (b : Bool) (v w : Branch) (x : V) (o : Option Branch) (q : Option (Entry V)) → cond b (Some v) o ≡ Some w → (o ≡ Some w → (y : V) × (q ≡ Some (record { version = seen w; value = y })))
+      → (y : V) × (cond b (Some (record { version = seen v; value = x })) q ≡ Some (record { version = seen w; value = y }))
+  some_if true v w x o q h f = (x, ap (λ (z : Branch). let e : Entry V = record { version = seen z; value = x } in Some e) (same_Some v w h))
   some_if false v w x o q h f = f h
 
-  pub some_entry : (vs : List Version) (es : List (ℕ × V)) (id : ℕ) (w : Version) → HaveIds vs es → entry_at branches vs id ≡ Some w → (y : V) × (entry_at kin (joined vs es) id ≡ Some (record { version = w; value = y }))
+  pub some_entry : (vs : List Branch) (es : List (ℕ × V)) (id : ℕ) (w : Branch) → HaveIds vs es → entry_at branches vs id ≡ Some w → (y : V) × (entry_at kin (joined vs es) id ≡ Some (record { version = seen w; value = y }))
   some_entry [] es id w h n = absurd (cc)
   some_entry (v ∷ vs) [] id w h n = absurd h
   some_entry (v ∷ vs) (e ∷ es) id w h n = some_if (v.id == id) v w e.1 (entry_at branches vs id) (entry_at kin (joined vs es) id) n (some_entry vs es id w h.1)
 
-  pub ids_joined : (vs : List Version) (es : List (ℕ × V)) → HaveIds vs es → map (λ (v : Version). v.id) vs ≡ map (λ (e : Entry V). e.version.id) (joined vs es)
+  pub ids_joined : (vs : List Branch) (es : List (ℕ × V)) → HaveIds vs es → map (λ (v : Branch). v.id) vs ≡ map (λ (e : Entry V). e.version.id) (joined vs es)
   ids_joined [] [] h = refl
   ids_joined [] (e ∷ es) h = absurd h
   ids_joined (v ∷ vs) [] h = absurd h
   ids_joined (v ∷ vs) (e ∷ es) h = ap (λ l. v.id ∷ l) (ids_joined vs es h.1)
 
-pub map_reversed : (vs : List Version) → map (λ (v : Version). v.id) (reverse vs) ≡ reverse (map (λ (v : Version). v.id) vs)
+pub map_reversed : (vs : List Branch) → map (λ (v : Branch). v.id) (reverse vs) ≡ reverse (map (λ (v : Branch). v.id) vs)
 map_reversed [] = refl
 map_reversed (v ∷ vs) =
-    ap (map (λ (x : Version). x.id)) (reverse-append (v ∷ []) vs) ∙ map-append (λ (x : Version). x.id) (reverse vs) (v ∷ [])
-    ∙ ap (λ l. l ++ v.id ∷ []) (map_reversed vs) ∙ sym (reverse-append (v.id ∷ []) (map (λ (x : Version). x.id) vs))
+    ap (map (λ (x : Branch). x.id)) (reverse-append (v ∷ []) vs) ∙ map-append (λ (x : Branch). x.id) (reverse vs) (v ∷ [])
+    ∙ ap (λ l. l ++ v.id ∷ []) (map_reversed vs) ∙ sym (reverse-append (v.id ∷ []) (map (λ (x : Branch). x.id) vs))

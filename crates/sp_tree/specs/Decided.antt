@@ -5,7 +5,7 @@ use Rattle.sp_base.specs.Numbers.{is_among, with_number}
 use Rattle.sp_group.specs.declared.outcome.Outcome.{Outcome}
 use Rattle.sp_group.specs.Deciding.{others_than, foresaw_all}
 use Rattle.sp_group.specs.Family.{entry_at, is_parent, prune}
-use Rattle.sp_tree.specs.declared.version.Version.{Version}
+use Rattle.sp_tree.specs.Version.{Version}
 use Rattle.sp_tree.specs.Changes.{decided}
 use Rattle.sp_tree.specs.Grown.{Entry, AreRooted, FallFrom, kin, lifted, opened_for}
 

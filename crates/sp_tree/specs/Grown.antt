@@ -4,7 +4,7 @@ use Rattle.std.specs.List.{All}
 use Rattle.std.specs.Coded.{Coded, code_by, coded×, coded_ℕ, coded_list, coded_option}
 use Rattle.sp_base.specs.Numbers.{is_among}
 use Rattle.sp_group.specs.Family.{Kin, entry_at, parent_there, prune}
-use Rattle.sp_tree.specs.declared.version.Version.{Version}
+use Rattle.sp_tree.specs.Version.{Version}
 use Rattle.sp_tree.specs.Changes.{but, promoted, with_run}
 
 -- a live version: where it stands, and its value

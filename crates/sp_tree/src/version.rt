@@ -1,6 +1,7 @@
 ghost use Rattle.std.specs.Prelude.{◌≡◌, ◌↔◌, ◌<◌, ℕ, length, option_copied, IsTrue, IfOk, IfSome, IsNone, None, map, reverse};
 ghost use Rattle.sp_group.specs.Family.{entry_at, parent_there};
-ghost use Rattle.sp_tree.specs.Changes.{branches, changed_by, decided, promoted, root_among, IsSettled, IsIndex, IsUnder, IsChildAt, AreNoChild};
+ghost use Rattle.sp_tree.specs.Branches.{branches, changed_by, root_among, IsSettled, IsIndex, IsUnder, IsChildAt, AreNoChild};
+ghost use Rattle.sp_tree.specs.Changes.{decided, promoted};
 
 use crate::Memory;
 use sp_group::{Label, Outcome};

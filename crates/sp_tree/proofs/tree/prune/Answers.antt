@@ -1,7 +1,7 @@
 use Rattle.std.proofs.Common.{◌-◌, sym, ap, subst, ◌∙◌, refl}
 use Rattle.sp_store.specs.Stored.{Stored}
 use Rattle.sp_tree.specs.Joined.{joined}
-use Rattle.sp_tree.specs.Changes.{changed_by}
+use Rattle.sp_tree.specs.Branches.{changed_by}
 use Rattle.sp_tree.proofs.Pruned.{At, at_start, step_kept, step_gone}
 use Rattle.sp_tree.proofs.tree.prune.Goals as goal
 

@@ -1,5 +1,5 @@
 use Rattle.std.proofs.Common.{◌≡◌}
-use Rattle.sp_tree.specs.Changes.{changed_by}
+use Rattle.sp_tree.specs.Branches.{changed_by}
 use Rattle.sp_tree.specs.Joined.{joined}
 use Rattle.sp_tree.proofs.Pruned.{At}
 use Rattle.sp_tree.proofs.tree.prune.Given as goal

@@ -1,12 +1,16 @@
 use Rattle.std.proofs.Common.{List, ap, ◌∙◌}
 use Rattle.sp_group.specs.Family.{parent_there}
-use Rattle.sp_tree.specs.declared.version.Version.{Version}
-use Rattle.sp_tree.specs.Changes.{branches, changed_by}
-use Rattle.sp_tree.proofs.Pruned.{kept_by, behind}
+use Rattle.sp_tree.specs.declared.version.Version.{Version as Branch}
+use Rattle.sp_tree.specs.Branches.{branches, changed_by}
+use Rattle.sp_tree.proofs.Pruned.{kept_by, gone_by, behind}
 use Rattle.sp_tree.proofs.tree.stays.Goals as goal
 
 pub returns : goal.returns
 returns c =
     let rest = behind c.args.versions.now.items c.args.i c.settle.new.self c.deref.result.now c.deref.ensures.value in
     kept_by (changed_by c.args.change) c.args.versions.now.items c.args.i c.settle.new.self c.index_mut-version.result.now c.requires c.index_mut-version.ensures.value c.if-not-settle.ensures.0 c.if-not-settle.ensures.1 c.has_parent.result
-    (c.has_parent.ensures ∙ ap (λ (l : List Version). parent_there branches l c.settle.new.self.parent) rest)
+    (c.has_parent.ensures ∙ ap (λ (l : List Branch). parent_there branches l c.settle.new.self.parent) rest)
+
+pub returns-then-not-settle : goal.returns-then-not-settle
+returns-then-not-settle c =
+    gone_by (changed_by c.args.change) c.args.versions.now.items c.args.i c.settle.new.self c.index_mut-version.result.now c.requires c.index_mut-version.ensures.value c.if-not-settle.ensures.0 c.if-not-settle.ensures.1

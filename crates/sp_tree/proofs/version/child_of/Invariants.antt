@@ -1,5 +1,5 @@
 use Rattle.std.proofs.Common.{drop}
-use Rattle.sp_tree.specs.Changes.{AreNoChild}
+use Rattle.sp_tree.specs.Branches.{AreNoChild}
 use Rattle.sp_tree.proofs.version.child_of.Given as goal
 
 abbrev pub invariant-loop-i : goal.invariant-loop-i

@@ -1,6 +1,6 @@
 use Rattle.std.proofs.Common.{◌≡◌, drop}
 use Rattle.sp_group.specs.Family.{entry_at}
-use Rattle.sp_tree.specs.Changes.{branches}
+use Rattle.sp_tree.specs.Branches.{branches}
 use Rattle.sp_tree.proofs.version.find.Given as goal
 
 abbrev pub invariant-loop-version : goal.invariant-loop-version

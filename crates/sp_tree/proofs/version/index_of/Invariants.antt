@@ -1,6 +1,6 @@
 use Rattle.std.proofs.Common.{◌≡◌, drop}
 use Rattle.sp_group.specs.Family.{entry_at}
-use Rattle.sp_tree.specs.Changes.{branches}
+use Rattle.sp_tree.specs.Branches.{branches}
 use Rattle.sp_tree.proofs.version.index_of.Given as goal
 
 abbrev pub invariant-loop-i : goal.invariant-loop-i

@@ -1,19 +1,19 @@
 use Rattle.std.proofs.Common.{List, sym, ap, ◌∙◌}
 use Rattle.sp_group.specs.Family.{entry_at}
-use Rattle.sp_tree.specs.declared.version.Version.{Version}
-use Rattle.sp_tree.specs.Changes.{branches}
+use Rattle.sp_tree.specs.declared.version.Version.{Version as Branch}
+use Rattle.sp_tree.specs.Branches.{branches}
 use Rattle.sp_tree.specs.Grown.{parent_of}
 use Rattle.sp_tree.proofs.Renewed.{some_entry, no_entry}
 use Rattle.sp_tree.proofs.tree.Tree.parent.Goals as goal
 
 pub returns-in-Some : goal.returns-in-Some
 returns-in-Some g c =
-    let at = sym (ap (λ (z : List Version). entry_at branches z c.args.id) c.deref.ensures.value) ∙ sym c.in-Some.ensures in
+    let at = sym (ap (λ (z : List Branch). entry_at branches z c.args.id) c.deref.ensures.value) ∙ sym c.in-Some.ensures in
     let e = some_entry c.self.inside.versions.items c.self.inside.values.entries c.args.id c.in-Some.version.now c.self.invariant.both.ids at in
     rw (← c.self.view_is) (ap parent_of (sym e.1))
 
 pub returns-in-None : goal.returns-in-None
 returns-in-None g c =
-    let at = sym (ap (λ (z : List Version). entry_at branches z c.args.id) c.deref.ensures.value) ∙ sym c.in-None.ensures in
+    let at = sym (ap (λ (z : List Branch). entry_at branches z c.args.id) c.deref.ensures.value) ∙ sym c.in-None.ensures in
     let e = no_entry c.self.inside.versions.items c.self.inside.values.entries c.args.id c.self.invariant.both.ids at in
     rw (← c.self.view_is) (ap parent_of (sym e))

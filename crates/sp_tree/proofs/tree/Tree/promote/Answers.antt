@@ -1,5 +1,6 @@
 use Rattle.std.proofs.Common.{sym, ap, subst, ◌∙◌}
-use Rattle.sp_tree.specs.Changes.{root_among, promoted}
+use Rattle.sp_tree.specs.Changes.{promoted}
+use Rattle.sp_tree.specs.Branches.{root_among}
 use Rattle.sp_tree.specs.Grown.{lifted, AreRooted, without_root}
 use Rattle.sp_tree.specs.Joined.{joined}
 use Rattle.sp_tree.proofs.Zipped.{root_joined, root_there, none_is, rooted_pruned}

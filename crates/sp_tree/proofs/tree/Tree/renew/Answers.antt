@@ -2,8 +2,8 @@ use Rattle.std.proofs.Common.{◌≡◌, ℕ, List, ◌∷◌, remove, Some, Non
 use Rattle.std.proofs.lemmas.Option.{same_Some, none-some}
 use Rattle.sp_store.specs.Stored.{Stored}
 use Rattle.sp_group.specs.Family.{entry_at}
-use Rattle.sp_tree.specs.declared.version.Version.{Version}
-use Rattle.sp_tree.specs.Changes.{branches, IsIndex, changed_by}
+use Rattle.sp_tree.specs.declared.version.Version.{Version as Branch}
+use Rattle.sp_tree.specs.Branches.{branches, IsIndex, changed_by}
 use Rattle.sp_tree.specs.declared.version.Change.TheVariants as ch
 use Rattle.sp_tree.specs.Grown.{answered, begun_anew}
 use Rattle.sp_tree.specs.Joined.{AreJoined, joined, IsPrunedFrom}
@@ -12,24 +12,24 @@ use Rattle.sp_tree.proofs.tree.Tree.renew.Goals as goal
 
 pub returns-in_err-index-clause-id : goal.returns-in_err-index-clause-id
 returns-in_err-index-clause-id g c =
-    let none = no_entry c.self.inside.versions.items c.self.inside.values.entries c.args.id c.self.invariant.both.ids (subst (λ (z : List Version). entry_at branches z c.args.id ≡ None) c.deref.ensures.value (c.in_err-index.ensures.none refl)) in
+    let none = no_entry c.self.inside.versions.items c.self.inside.values.entries c.args.id c.self.invariant.both.ids (subst (λ (z : List Branch). entry_at branches z c.args.id ≡ None) c.deref.ensures.value (c.in_err-index.ensures.none refl)) in
     rw (← c.self.view_is) (c.from_residual.ensures ∙ ap (answered _) (sym none))
 
 pub returns-in_err-index-clause-tree : goal.returns-in_err-index-clause-tree
 returns-in_err-index-clause-tree g c =
-    let none = no_entry c.self.inside.versions.items c.self.inside.values.entries c.args.id c.self.invariant.both.ids (subst (λ (z : List Version). entry_at branches z c.args.id ≡ None) c.deref.ensures.value (c.in_err-index.ensures.none refl)) in
+    let none = no_entry c.self.inside.versions.items c.self.inside.values.entries c.args.id c.self.invariant.both.ids (subst (λ (z : List Branch). entry_at branches z c.args.id ≡ None) c.deref.ensures.value (c.in_err-index.ensures.none refl)) in
     rw (← c.self.view_is) (ap (begun_anew _ c.args.id) (sym none))
 
 pub prune-requires-clause-joined : goal.prune-requires-clause-joined
 prune-requires-clause-joined g c =
     let v = c.remove-version.result in
-    let at = subst (λ (z : List Version). IsIndex z c.args.id c.in_ok-index.index) c.deref.ensures.value c.in_ok-index.ensures.some in
+    let at = subst (λ (z : List Branch). IsIndex z c.args.id c.in_ok-index.index) c.deref.ensures.value c.in_ok-index.ensures.some in
     let live = lives c.self.inside.versions.items c.self.inside.values c.args.id c.in_ok-index.index c.self.invariant at in
     let id_is = same_Some c.in_ok-renewed.renewed c.self.inside.values.next (c.in_ok-renewed.ensures.id ∙ live) in
-    let w : Version = record { id = c.in_ok-renewed.renewed; parent = v.parent; label = v.label; groups = c.clear.new.self } in
+    let w : Branch = record { id = c.in_ok-renewed.renewed; parent = v.parent; label = v.label; groups = c.clear.new.self } in
     let is : w ≡ fresh c.self.inside.values.next v =
-    ap (λ (n : ℕ). let z : Version = record { id = n; parent = v.parent; label = v.label; groups = c.clear.new.self } in z) id_is
-    ∙ ap (λ (l : List ℕ). let z : Version = record { id = c.self.inside.values.next; parent = v.parent; label = v.label; groups = l } in z) c.clear.ensures in
+    ap (λ (n : ℕ). let z : Branch = record { id = n; parent = v.parent; label = v.label; groups = c.clear.new.self } in z) id_is
+    ∙ ap (λ (l : List ℕ). let z : Branch = record { id = c.self.inside.values.next; parent = v.parent; label = v.label; groups = l } in z) c.clear.ensures in
     let len = c.remove-version.ensures.len in let cap = c.remove-version.ensures.capacity in let ok = c.self.inside.versions.ok.1 in
     let done = c.insert.ensures.succeeds (omega arith) in
     let items : c.insert.new.self.items ≡ w ∷ remove c.self.inside.versions.items c.in_ok-index.index =
@@ -40,13 +40,13 @@ prune-requires-clause-joined g c =
 pub invariant_of-self-2 : goal.invariant_of-self-2
 invariant_of-self-2 g c =
     let v = c.remove-version.result in
-    let at = subst (λ (z : List Version). IsIndex z c.args.id c.in_ok-index.index) c.deref.ensures.value c.in_ok-index.ensures.some in
+    let at = subst (λ (z : List Branch). IsIndex z c.args.id c.in_ok-index.index) c.deref.ensures.value c.in_ok-index.ensures.some in
     let live = lives c.self.inside.versions.items c.self.inside.values c.args.id c.in_ok-index.index c.self.invariant at in
     let id_is = same_Some c.in_ok-renewed.renewed c.self.inside.values.next (c.in_ok-renewed.ensures.id ∙ live) in
-    let w : Version = record { id = c.in_ok-renewed.renewed; parent = v.parent; label = v.label; groups = c.clear.new.self } in
+    let w : Branch = record { id = c.in_ok-renewed.renewed; parent = v.parent; label = v.label; groups = c.clear.new.self } in
     let is : w ≡ fresh c.self.inside.values.next v =
-    ap (λ (n : ℕ). let z : Version = record { id = n; parent = v.parent; label = v.label; groups = c.clear.new.self } in z) id_is
-    ∙ ap (λ (l : List ℕ). let z : Version = record { id = c.self.inside.values.next; parent = v.parent; label = v.label; groups = l } in z) c.clear.ensures in
+    ap (λ (n : ℕ). let z : Branch = record { id = n; parent = v.parent; label = v.label; groups = c.clear.new.self } in z) id_is
+    ∙ ap (λ (l : List ℕ). let z : Branch = record { id = c.self.inside.values.next; parent = v.parent; label = v.label; groups = l } in z) c.clear.ensures in
     let len = c.remove-version.ensures.len in let cap = c.remove-version.ensures.capacity in let ok = c.self.inside.versions.ok.1 in
     let done = c.insert.ensures.succeeds (omega arith) in
     let items : c.insert.new.self.items ≡ w ∷ remove c.self.inside.versions.items c.in_ok-index.index =
@@ -61,13 +61,13 @@ invariant_of-self-2 g c =
 pub returns-clause-id : goal.returns-clause-id
 returns-clause-id g c =
     let v = c.remove-version.result in
-    let at = subst (λ (z : List Version). IsIndex z c.args.id c.in_ok-index.index) c.deref.ensures.value c.in_ok-index.ensures.some in
+    let at = subst (λ (z : List Branch). IsIndex z c.args.id c.in_ok-index.index) c.deref.ensures.value c.in_ok-index.ensures.some in
     let live = lives c.self.inside.versions.items c.self.inside.values c.args.id c.in_ok-index.index c.self.invariant at in
     let id_is = same_Some c.in_ok-renewed.renewed c.self.inside.values.next (c.in_ok-renewed.ensures.id ∙ live) in
-    let w : Version = record { id = c.in_ok-renewed.renewed; parent = v.parent; label = v.label; groups = c.clear.new.self } in
+    let w : Branch = record { id = c.in_ok-renewed.renewed; parent = v.parent; label = v.label; groups = c.clear.new.self } in
     let is : w ≡ fresh c.self.inside.values.next v =
-    ap (λ (n : ℕ). let z : Version = record { id = n; parent = v.parent; label = v.label; groups = c.clear.new.self } in z) id_is
-    ∙ ap (λ (l : List ℕ). let z : Version = record { id = c.self.inside.values.next; parent = v.parent; label = v.label; groups = l } in z) c.clear.ensures in
+    ap (λ (n : ℕ). let z : Branch = record { id = n; parent = v.parent; label = v.label; groups = c.clear.new.self } in z) id_is
+    ∙ ap (λ (l : List ℕ). let z : Branch = record { id = c.self.inside.values.next; parent = v.parent; label = v.label; groups = l } in z) c.clear.ensures in
     let len = c.remove-version.ensures.len in let cap = c.remove-version.ensures.capacity in let ok = c.self.inside.versions.ok.1 in
     let done = c.insert.ensures.succeeds (omega arith) in
     let items : c.insert.new.self.items ≡ w ∷ remove c.self.inside.versions.items c.in_ok-index.index =
@@ -78,13 +78,13 @@ returns-clause-id g c =
 pub returns-clause-tree : goal.returns-clause-tree
 returns-clause-tree g c =
     let v = c.remove-version.result in
-    let at = subst (λ (z : List Version). IsIndex z c.args.id c.in_ok-index.index) c.deref.ensures.value c.in_ok-index.ensures.some in
+    let at = subst (λ (z : List Branch). IsIndex z c.args.id c.in_ok-index.index) c.deref.ensures.value c.in_ok-index.ensures.some in
     let live = lives c.self.inside.versions.items c.self.inside.values c.args.id c.in_ok-index.index c.self.invariant at in
     let id_is = same_Some c.in_ok-renewed.renewed c.self.inside.values.next (c.in_ok-renewed.ensures.id ∙ live) in
-    let w : Version = record { id = c.in_ok-renewed.renewed; parent = v.parent; label = v.label; groups = c.clear.new.self } in
+    let w : Branch = record { id = c.in_ok-renewed.renewed; parent = v.parent; label = v.label; groups = c.clear.new.self } in
     let is : w ≡ fresh c.self.inside.values.next v =
-    ap (λ (n : ℕ). let z : Version = record { id = n; parent = v.parent; label = v.label; groups = c.clear.new.self } in z) id_is
-    ∙ ap (λ (l : List ℕ). let z : Version = record { id = c.self.inside.values.next; parent = v.parent; label = v.label; groups = l } in z) c.clear.ensures in
+    ap (λ (n : ℕ). let z : Branch = record { id = n; parent = v.parent; label = v.label; groups = c.clear.new.self } in z) id_is
+    ∙ ap (λ (l : List ℕ). let z : Branch = record { id = c.self.inside.values.next; parent = v.parent; label = v.label; groups = l } in z) c.clear.ensures in
     let len = c.remove-version.ensures.len in let cap = c.remove-version.ensures.capacity in let ok = c.self.inside.versions.ok.1 in
     let done = c.insert.ensures.succeeds (omega arith) in
     let items : c.insert.new.self.items ≡ w ∷ remove c.self.inside.versions.items c.in_ok-index.index =
@@ -97,12 +97,12 @@ returns-clause-tree g c =
 
 pub returns-in_err-renewed-clause-id : goal.returns-in_err-renewed-clause-id
 returns-in_err-renewed-clause-id g c =
-    let at = subst (λ (z : List Version). IsIndex z c.args.id c.in_ok-index.index) c.deref.ensures.value c.in_ok-index.ensures.some in
+    let at = subst (λ (z : List Branch). IsIndex z c.args.id c.in_ok-index.index) c.deref.ensures.value c.in_ok-index.ensures.some in
     let live = lives c.self.inside.versions.items c.self.inside.values c.args.id c.in_ok-index.index c.self.invariant at in
     absurd (none-some c.self.inside.values.next (c.in_err-renewed.ensures.id ∙ live))
 
 pub returns-in_err-renewed-clause-tree : goal.returns-in_err-renewed-clause-tree
 returns-in_err-renewed-clause-tree g c =
-    let at = subst (λ (z : List Version). IsIndex z c.args.id c.in_ok-index.index) c.deref.ensures.value c.in_ok-index.ensures.some in
+    let at = subst (λ (z : List Branch). IsIndex z c.args.id c.in_ok-index.index) c.deref.ensures.value c.in_ok-index.ensures.some in
     let live = lives c.self.inside.versions.items c.self.inside.values c.args.id c.in_ok-index.index c.self.invariant at in
     absurd (none-some c.self.inside.values.next (c.in_err-renewed.ensures.id ∙ live))

@@ -1,5 +1,5 @@
 use Rattle.std.proofs.Common.{sym, ap, ◌∙◌}
-use Rattle.sp_tree.specs.Changes.{root_among}
+use Rattle.sp_tree.specs.Branches.{root_among}
 use Rattle.sp_tree.specs.Joined.{joined}
 use Rattle.sp_tree.proofs.Zipped.{root_joined, root_there, none_is}
 use Rattle.sp_tree.proofs.tree.Tree.root.Goals as goal
