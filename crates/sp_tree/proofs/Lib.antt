@@ -1,4 +1,5 @@
 pub mod Zipped
+pub mod Searched
 pub mod Pruned
 pub mod Renewed
 pub mod Written

@@ -31,6 +31,16 @@ abbrev pub root_among : List Branch → Option ℕ
 root_among [] = None
 root_among (v ∷ vs) = if is_some v.parent then root_among vs else Some v.id
 
+-- the ids fall, and are below this one
+abbrev pub Falls : ℕ → List Branch → Type 0
+Falls top [] = Unit {0}
+Falls top (v ∷ vs) = (v.id < top) × Falls v.id vs
+
+-- the ids fall
+pub record AreFalling (vs : List Branch) : Type 0 where
+  pub top : ℕ
+  pub falls : Falls top vs
+
 -- the version at the index has this id
 abbrev pub IsIndex : List Branch → ℕ → ℕ → Type 0
 IsIndex vs id index = (index < length vs) × ((d : Branch) → (slice_index_or vs index d).id ≡ id)

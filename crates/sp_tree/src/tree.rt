@@ -4,7 +4,7 @@ ghost use Rattle.std.specs.Borrow.{sem};
 ghost use Rattle.sp_base.specs.Limits.{live_limit};
 ghost use Rattle.sp_group.specs.Family.{entry_at, prune};
 ghost use Rattle.sp_group.specs.Rising.{IsLabel};
-ghost use Rattle.sp_tree.specs.Branches.{changed_by};
+ghost use Rattle.sp_tree.specs.Branches.{changed_by, AreFalling};
 ghost use Rattle.sp_tree.specs.Changes.{decided, promoted};
 ghost use Rattle.sp_tree.specs.Grown.{Grown, opened, kin, lifted, pruned, with_child, value_of, is_open, groups_of, root_in, without_root, renewed, answered, parent_of, label_of, with_all_groups, with_group, AreGrown, CanStand, IsChild, LacksChild};
 ghost use Rattle.sp_tree.specs.Joined.{joined, AreJoined, IsPrunedFrom, IsKept};
@@ -300,7 +300,8 @@ fn prune<V: Drop>(versions: &mut Vec<Version>, values: &mut Store<V>, first: usi
 
 /// Whether a version stays over the older ones; it is changed then.
 fn stays(versions: &mut Vec<Version>, i: usize, change: Change) -> bool
-    requires { i < length versions.old.items }
+    requires within { i < length versions.old.items }
+    requires fall { AreFalling versions.old.items }
     ensures { IsKept (changed_by change) i versions.old.items versions.new.items result }
 {
     let version = &mut versions[i];

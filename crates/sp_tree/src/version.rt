@@ -1,6 +1,6 @@
 ghost use Rattle.std.specs.Prelude.{◌≡◌, ◌↔◌, ◌<◌, ℕ, length, option_copied, IsTrue, IfOk, IfSome, IsNone, None, map, reverse};
 ghost use Rattle.sp_group.specs.Family.{entry_at, parent_there};
-ghost use Rattle.sp_tree.specs.Branches.{branches, changed_by, root_among, IsSettled, IsIndex, IsUnder, IsChildAt, AreNoChild};
+ghost use Rattle.sp_tree.specs.Branches.{branches, changed_by, root_among, IsSettled, IsIndex, AreFalling, IsUnder, IsChildAt, AreNoChild};
 ghost use Rattle.sp_tree.specs.Changes.{decided, promoted};
 
 use crate::Memory;
@@ -89,18 +89,16 @@ impl Version {
 
 /// The version of an id.
 pub(crate) fn find(versions: &[Version], id: u64) -> Option<&Version>
+    requires { AreFalling versions.now }
     ensures { option_copied result ≡ entry_at branches versions.now id }
 {
-    for version in versions {
-        if version.id == id {
-            return Some(version);
-        }
-    }
-    None
+    let index = index_of(versions, id)?;
+    Some(&versions[index])
 }
 
 /// Whether the parent is there, where one is named.
 pub(crate) fn has_parent(versions: &[Version], parent: Option<u64>) -> bool
+    requires { AreFalling versions.now }
     ensures { result ≡ parent_there branches versions.now parent }
 {
     match parent {
@@ -121,17 +119,18 @@ pub(crate) fn root_of(versions: &[Version]) -> Option<u64>
     None
 }
 
-/// The index of an id.
+/// The index of an id, searched by halves.
 pub(crate) fn index_of(versions: &[Version], id: u64) -> Option<usize>
+    requires { AreFalling versions.now }
     ensures some { IfSome result (λ index. IsIndex versions.now id index) }
     ensures none { IsNone result → entry_at branches versions.now id ≡ None }
 {
-    for i in 0..versions.len() {
-        if versions[i].id == id {
-            return Some(i);
-        }
+    let index = versions.partition_point(|version| version.id > id);
+    if index < versions.len() && versions[index].id == id {
+        Some(index)
+    } else {
+        None
     }
-    None
 }
 
 /// The child of a parent that has this label.

@@ -3,6 +3,7 @@ use Rattle.sp_store.specs.Stored.{Stored}
 use Rattle.sp_tree.specs.Joined.{joined}
 use Rattle.sp_tree.specs.Branches.{changed_by}
 use Rattle.sp_tree.proofs.Pruned.{At, at_start, step_kept, step_gone}
+use Rattle.sp_tree.proofs.Searched.{falling}
 use Rattle.sp_tree.proofs.tree.prune.Goals as goal
 
 pub loop-i-init : goal.loop-i-init
@@ -24,3 +25,6 @@ loop-i-preserved g c =
       h.1,
       h.2,
     )
+
+pub stays-requires-clause-fall : goal.stays-requires-clause-fall
+stays-requires-clause-fall g c = falling c.loop-i.versions.items c.loop-i.values c.loop-i.invariant.0.both

@@ -1,6 +1,11 @@
-use Rattle.std.proofs.Common.{sym, ◌∙◌}
-use Rattle.sp_tree.proofs.Zipped.{entry_here}
+use Rattle.std.proofs.Common.{Some, sym, ap, ◌∙◌}
+use Rattle.sp_tree.specs.declared.version.Version.{Version as Branch}
+use Rattle.sp_tree.proofs.Searched.{found_at}
 use Rattle.sp_tree.proofs.version.find.Goals as goal
 
-pub returns-then-version-id : goal.returns-then-version-id
-returns-then-version-id c = sym (c.loop-version.invariant ∙ entry_here c.args.versions.now c.loop-version.version-index c.version-item.result c.args.id c.loop-version-test.true c.version-item.is c.if-version-id.true)
+pub returns : goal.returns
+returns c =
+    let at = c.in_ok-index.ensures.some in
+    let v = c.index-versions-index.result in
+    ap (λ (z : Branch). Some z) c.index-versions-index.is
+    ∙ sym (found_at c.requires.top c.args.versions.now c.args.id c.in_ok-index.index v c.requires.falls at.0 (at.1 v))

@@ -1,10 +1,14 @@
-use Rattle.std.proofs.Common.{List, sym, ap, ◌∙◌}
+use Rattle.std.proofs.Common.{List, sym, ap, ◌∙◌, subst}
 use Rattle.sp_group.specs.Family.{entry_at}
 use Rattle.sp_tree.specs.declared.version.Version.{Version as Branch}
-use Rattle.sp_tree.specs.Branches.{branches}
+use Rattle.sp_tree.specs.Branches.{branches, AreFalling}
 use Rattle.sp_tree.specs.Grown.{groups_of}
 use Rattle.sp_tree.proofs.Renewed.{some_entry, no_entry}
+use Rattle.sp_tree.proofs.Searched.{falling}
 use Rattle.sp_tree.proofs.tree.Tree.groups.Goals as goal
+
+pub find-requires : goal.find-requires
+find-requires g c = subst AreFalling (sym c.deref.ensures.value) (falling c.self.inside.versions.items c.self.inside.values c.self.invariant.both)
 
 pub returns-in-Some-clause-groups : goal.returns-in-Some-clause-groups
 returns-in-Some-clause-groups g c =

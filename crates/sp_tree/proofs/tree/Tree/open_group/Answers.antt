@@ -3,10 +3,14 @@ use Rattle.std.specs.Prelude.{IsSome}
 use Rattle.sp_base.specs.Numbers.{with_number}
 use Rattle.sp_group.specs.Family.{entry_at}
 use Rattle.sp_tree.specs.declared.version.Version.{Version as Branch}
-use Rattle.sp_tree.specs.Branches.{branches, IsIndex}
+use Rattle.sp_tree.specs.Branches.{branches, IsIndex, AreFalling}
 use Rattle.sp_tree.specs.Grown.{Grown, kin, is_open}
 use Rattle.sp_tree.proofs.Opened.{on_ok, tree_set, group_opened, run_is_new, not_live}
+use Rattle.sp_tree.proofs.Searched.{falling}
 use Rattle.sp_tree.proofs.tree.Tree.open_group.Goals as goal
+
+pub index_of-requires : goal.index_of-requires
+index_of-requires g c = subst AreFalling (sym c.deref.ensures.value) (falling c.self.inside.versions.items c.self.inside.values c.self.invariant.both)
 
 pub insert-requires-clause-new : goal.insert-requires-clause-new
 insert-requires-clause-new g c =

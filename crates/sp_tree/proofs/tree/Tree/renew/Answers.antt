@@ -3,12 +3,16 @@ use Rattle.std.proofs.lemmas.Option.{same_Some, none-some}
 use Rattle.sp_store.specs.Stored.{Stored}
 use Rattle.sp_group.specs.Family.{entry_at}
 use Rattle.sp_tree.specs.declared.version.Version.{Version as Branch}
-use Rattle.sp_tree.specs.Branches.{branches, IsIndex, changed_by}
+use Rattle.sp_tree.specs.Branches.{branches, IsIndex, changed_by, AreFalling}
 use Rattle.sp_tree.specs.declared.version.Change.TheVariants as ch
 use Rattle.sp_tree.specs.Grown.{answered, begun_anew}
 use Rattle.sp_tree.specs.Joined.{AreJoined, joined, IsPrunedFrom}
 use Rattle.sp_tree.proofs.Renewed.{begun, fresh, no_entry, lives}
+use Rattle.sp_tree.proofs.Searched.{falling}
 use Rattle.sp_tree.proofs.tree.Tree.renew.Goals as goal
+
+pub index_of-requires : goal.index_of-requires
+index_of-requires g c = subst AreFalling (sym c.deref.ensures.value) (falling c.self.inside.versions.items c.self.inside.values c.self.invariant.both)
 
 pub returns-in_err-index-clause-id : goal.returns-in_err-index-clause-id
 returns-in_err-index-clause-id g c =

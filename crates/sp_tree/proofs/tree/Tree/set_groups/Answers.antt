@@ -2,10 +2,14 @@ use Rattle.std.proofs.Common.{◌≡◌, List, refl, sym, subst}
 use Rattle.std.specs.Prelude.{IsSome}
 use Rattle.sp_group.specs.Family.{entry_at}
 use Rattle.sp_tree.specs.declared.version.Version.{Version as Branch}
-use Rattle.sp_tree.specs.Branches.{branches, IsIndex}
+use Rattle.sp_tree.specs.Branches.{branches, IsIndex, AreFalling}
 use Rattle.sp_tree.specs.Grown.{Grown, kin}
 use Rattle.sp_tree.proofs.Opened.{tree_set, groups_set, not_live}
+use Rattle.sp_tree.proofs.Searched.{falling}
 use Rattle.sp_tree.proofs.tree.Tree.set_groups.Goals as goal
+
+pub index_of-requires : goal.index_of-requires
+index_of-requires g c = subst AreFalling (sym c.deref.ensures.value) (falling c.self.inside.versions.items c.self.inside.values c.self.invariant.both)
 
 pub invariant_of-self : goal.invariant_of-self
 invariant_of-self g c =
