@@ -1,6 +1,5 @@
 -- Groups that are decided one after another are decided at once, and groups that open change nothing else.
 use Rattle.std.proofs.Common.{◌≡◌, ℕ, suc, ◌+◌, ◌<◌, ◌≤◌, ◌⊎◌, Bool, true, false, cond, not, ◌&&◌, ◌||◌, ◌==◌, List, [], ◌∷◌, ◌++◌, filter, map, slice_index, Option, Some, None, is_some, inl, inr, ⊎_elim, refl, sym, ap, ◌∙◌, subst, arith}
-use Rattle.std.specs.Prelude.{⊤}
 use Rattle.std.specs.List.Sorted.{IsStrictlyIncreasing}
 use Rattle.std.proofs.lemmas.Bool.Decides.{nat_tests}
 use Rattle.std.proofs.lemmas.List.{append_assoc, append-nil}
@@ -12,6 +11,7 @@ use Rattle.sp_group.specs.declared.outcome.Outcome.TheVariants.{Completed, Aband
 use Rattle.sp_group.specs.Deciding.{others, others_than, foresaw, foresaw_all}
 use Rattle.sp_group.specs.Family.{Kin, entry_at, parent_there, kept, prune, is_parent}
 use Rattle.sp_tree.specs.Version.{Version}
+use Rattle.sp_tree.specs.Children.{IsRising as Rises}
 use Rattle.sp_tree.specs.Changes.{decided, child_decided, with_run}
 use Rattle.sp_tree.specs.Grown.{Entry, AreRooted, FallFrom, kin, with_version, lifted, opened_for}
 use Rattle.sp_tree.specs.Decided.{child_of_decided, rule_of, bare, with_groups, decided_each, DecisionsAddUp, OpeningsChangeGroups}
@@ -213,16 +213,12 @@ or_right true b h = refl
 or_right false b h = h
 
 -- each number of a list is below all those behind it
-abbrev Rises : List ℕ → Type 0
-Rises [] = ⊤
-Rises (x ∷ xs) = ((r : ℕ) → is_among xs r ≡ true → x < r) × Rises xs
-
 tail_increases : (x : ℕ) (xs : List ℕ) → IsStrictlyIncreasing (x ∷ xs) → IsStrictlyIncreasing xs
 tail_increases x xs h k l =
     let at : suc k + 1 ≡ suc (k + 1) = omega arith in
     subst (λ (j : ℕ). slice_index xs k < slice_index (x ∷ xs) j) at (h (suc k) (omega (arith, l)))
 
-rises : (xs : List ℕ) → IsStrictlyIncreasing xs → Rises xs
+pub rises : (xs : List ℕ) → IsStrictlyIncreasing xs → Rises xs
 rises [] h = tt
 rises (x ∷ xs) h = (first_below xs h (rises xs (tail_increases x xs h)), rises xs (tail_increases x xs h))
   where

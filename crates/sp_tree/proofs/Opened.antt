@@ -1,6 +1,6 @@
 -- A group that opens for a version, and the child of a label.
 use Rattle.std.proofs.Common.{◌≡◌, ◌≢◌, ℕ, zero, suc, ◌+◌, ◌<◌, Bool, true, false, ◌==◌, cond, List, [], ◌∷◌, length, get_or, set, drop, Option, Some, None, is_some, refl, sym, ap, subst, ◌∙◌, arith, eq-eqb}
-use Rattle.std.specs.Prelude.{Result, Ok, Err, OnOk, IfSome, IsSome}
+use Rattle.std.specs.Prelude.{Result, Ok, Err, OnOk, OnErr, IfSome, IsSome}
 use Rattle.std.proofs.lemmas.List.{drop_more, get_or_default}
 use Rattle.std.proofs.lemmas.Bool.{false≢true}
 use Rattle.std.proofs.lemmas.Bool.Decides.{nat_tests}
@@ -8,9 +8,11 @@ use Rattle.sp_base.specs.Numbers.{is_among, with_number}
 use Rattle.sp_store.specs.Stored.{Stored, FallFrom}
 use Rattle.sp_group.specs.Family.{entry_at, parent_there}
 use Rattle.sp_tree.specs.declared.version.Version.{Version as Branch}
+use Rattle.sp_tree.specs.declared.vertex.Below as code
+use Rattle.sp_tree.specs.Version.{Version}
 use Rattle.sp_tree.specs.Branches.{branches, seen, IsIndex, IsUnder, IsChildAt, AreNoChild}
-use Rattle.sp_tree.specs.Grown.{Grown, Entry, kin, groups_of, is_open, with_group, with_all_groups, opened_for, regrouped, AreRooted, IsChild, LacksChild}
-use Rattle.sp_tree.specs.Joined.{joined, HaveIds, IsTree}
+use Rattle.sp_tree.specs.Grown.{Grown, Entry, kin, with_all_groups, regrouped, AreRooted, IsChild, LacksChild}
+use Rattle.sp_tree.specs.Joined.{joined, HaveIds, AreJoined, IsTree}
 use Rattle.sp_tree.proofs.Zipped.{id_below, set_joined, there_joined}
 use Rattle.sp_tree.proofs.Renewed.{anew, no_entry, tree}
 
@@ -21,13 +23,13 @@ pub on_ok : {T E : Type 0} (r : Result T E) (P Q : Type 0) → (P → Q) → OnO
 on_ok (Ok x) P Q f p = f p
 on_ok (Err e) P Q f p = p
 
+pub on_err : {T E : Type 0} (r : Result T E) (P : Type 0) → P → OnErr r P
+on_err (Ok x) P p = tt
+on_err (Err e) P p = p
+
 pub if_some : {T : Type 0} (o : Option T) (P Q : T → Type 0) → ((x : T) → P x → Q x) → IfSome o P → IfSome o Q
 if_some None P Q f p = p
 if_some (Some x) P Q f p = f x p
-
--- a version with other open groups
-abbrev pub regroup : List ℕ → Branch → Branch
-regroup groups v = record v { groups = groups }
 
 both_if : {X : Type 0} (b : Bool) (x y : X) (o q : Option X) → is_some o ≡ is_some q → is_some (cond b (Some x) o) ≡ is_some (cond b (Some y) q)
 both_if true x y o q h = refl
@@ -66,9 +68,13 @@ module _ {V : Type 0} where
         rooted_set j vs es w h.1 (omega arith) same parent r.1,
       )
 
+  pub record HasOrder (versions : List Branch) (values : Stored V) : Type 0 where
+    pub both : AreJoined versions values
+    pub rooted : AreRooted (joined versions values.entries)
+
   -- a version changed at an index, with its id and parent kept
-  pub tree_set : (vs : List Branch) (values : Stored V) (i : ℕ) (v w : Branch) → IsTree vs values → i < length vs → v ≡ get_or vs i v → w.id ≡ v.id → w.parent ≡ v.parent → IsTree (set vs i w) values
-  tree_set vs values i v w h within read same parent =
+  pub rooted_kept : (vs : List Branch) (values : Stored V) (i : ℕ) (v w : Branch) → IsTree vs values → i < length vs → v ≡ get_or vs i v → w.id ≡ v.id → w.parent ≡ v.parent → HasOrder (set vs i w) values
+  rooted_kept vs values i v w h within read same parent =
       let at : (d : Branch) → v ≡ get_or vs i d = λ d. read ∙ get_or_default vs i v d within in
       let id : (d : Branch) → w.id ≡ (get_or vs i d).id = λ d. same ∙ ap (λ (z : Branch). z.id) (at d) in
       let up : (d : Branch) → w.parent ≡ (get_or vs i d).parent = λ d. parent ∙ ap (λ (z : Branch). z.parent) (at d) in record {
@@ -76,41 +82,24 @@ module _ {V : Type 0} where
         rooted = rooted_set i vs values.entries w h.both.ids within id up h.rooted;
       }
 
-  opened_joined : (j top : ℕ) (vs : List Branch) (es : List (ℕ × V)) (d : Branch) (run : ℕ) → HaveIds vs es → FallFrom top es → j < length vs
-      → joined (set vs j (regroup (with_number (get_or vs j d).groups run) (get_or vs j d))) es ≡ opened_for (get_or vs j d).id run (joined vs es)
-  opened_joined j top [] es d run h f within = absurd (omega arith)
-  opened_joined j top (v ∷ vs) [] d run h f within = absurd h
-  opened_joined zero top (v ∷ vs) (e ∷ es) d run h f within = let m = eq-eqb v.id v.id refl in rw m refl
-  opened_joined (suc j) top (v ∷ vs) (e ∷ es) d run h f within =
+  regrouped_joined : (j top : ℕ) (vs : List Branch) (es : List (ℕ × V)) (d w : Branch) (groups : List ℕ) → HaveIds vs es → FallFrom top es → j < length vs
+      → seen w ≡ record (seen (get_or vs j d)) { groups = groups } → joined (set vs j w) es ≡ regrouped (get_or vs j d).id groups (joined vs es)
+  regrouped_joined j top [] es d w groups h f within is = absurd (omega arith)
+  regrouped_joined j top (v ∷ vs) [] d w groups h f within is = absurd h
+  regrouped_joined zero top (v ∷ vs) (e ∷ es) d w groups h f within is =
+      let m = eq-eqb v.id v.id refl in
+      rw m (ap (λ (z : Version). let x : Entry V = record { version = z; value = e.1 } in x ∷ joined vs es) is)
+  regrouped_joined (suc j) top (v ∷ vs) (e ∷ es) d w groups h f within is =
       let below : (get_or vs j d).id < e.0 = id_below j e.0 vs es d h.1 f.1 (omega arith) in
       let first = h.0 in
       let m = differs v.id (get_or vs j d).id (λ z. omega arith) in
-      rw m (ap (λ l. record { version = seen v; value = e.1 } ∷ l) (opened_joined j e.0 vs es d run h.1 f.1 (omega arith)))
-
-  pub group_opened : (vs : List Branch) (values : Stored V) (id i run : ℕ) (v w : Branch) → IsTree vs values → IsIndex vs id i → v ≡ get_or vs i v → w ≡ regroup (with_number v.groups run) v → tree (set vs i w) values ≡ with_group (tree vs values) id run
-  group_opened vs values id i run v w h at read is =
-      let e = ap (λ (z : Branch). joined (set vs i z) values.entries) (is ∙ ap (λ (z : Branch). regroup (with_number z.groups run) z) read)
-      ∙ opened_joined i values.next vs values.entries v run h.both.ids h.both.fall at.0
-      ∙ ap (λ n. opened_for n run (joined vs values.entries)) (at.1 v) in
-      ap (λ (l : List (Entry V)). let t : Grown V = record { entries = l; next = values.next; bound = values.bound } in t) e
-
-  regrouped_joined : (j top : ℕ) (vs : List Branch) (es : List (ℕ × V)) (d : Branch) (groups : List ℕ) → HaveIds vs es → FallFrom top es → j < length vs
-      → joined (set vs j (record (get_or vs j d) { groups = groups })) es ≡ regrouped (get_or vs j d).id groups (joined vs es)
-  regrouped_joined j top [] es d groups h f within = absurd (omega arith)
-  regrouped_joined j top (v ∷ vs) [] d groups h f within = absurd h
-  regrouped_joined zero top (v ∷ vs) (e ∷ es) d groups h f within = let m = eq-eqb v.id v.id refl in rw m refl
-  regrouped_joined (suc j) top (v ∷ vs) (e ∷ es) d groups h f within =
-      let below : (get_or vs j d).id < e.0 = id_below j e.0 vs es d h.1 f.1 (omega arith) in
-      let first = h.0 in
-      let m = differs v.id (get_or vs j d).id (λ z. omega arith) in
-      rw m (ap (λ l. record { version = seen v; value = e.1 } ∷ l) (regrouped_joined j e.0 vs es d groups h.1 f.1 (omega arith)))
+      rw m (ap (λ l. record { version = seen v; value = e.1 } ∷ l) (regrouped_joined j e.0 vs es d w groups h.1 f.1 (omega arith) is))
 
   -- the groups of the version at an index are others
-  pub groups_set : (vs : List Branch) (values : Stored V) (id i : ℕ) (groups : List ℕ) (v : Branch) → IsTree vs values → IsIndex vs id i → v ≡ get_or vs i v
-      → tree (set vs i (record v { groups = groups })) values ≡ with_all_groups (tree vs values) id groups
-  groups_set vs values id i groups v h at read =
-      let e = ap (λ (z : Branch). joined (set vs i (record z { groups = groups })) values.entries) read
-      ∙ regrouped_joined i values.next vs values.entries v groups h.both.ids h.both.fall at.0
+  pub groups_set : (vs : List Branch) (values : Stored V) (id i : ℕ) (groups : List ℕ) (v w : Branch) → IsTree vs values → IsIndex vs id i → v ≡ get_or vs i v → seen w ≡ record (seen v) { groups = groups }
+      → tree (set vs i w) values ≡ with_all_groups (tree vs values) id groups
+  groups_set vs values id i groups v w h at read is =
+      let e = regrouped_joined i values.next vs values.entries v w groups h.both.ids h.both.fall at.0 (is ∙ ap (λ (z : Branch). record (seen z) { groups = groups }) read)
       ∙ ap (λ n. regrouped n groups (joined vs values.entries)) (at.1 v) in
       ap (λ (l : List (Entry V)). let t : Grown V = record { entries = l; next = values.next; bound = values.bound } in t) e
 
@@ -123,16 +112,12 @@ module _ {V : Type 0} where
             (a.entry_is ∙ ap (λ (z : Branch). let e : Entry V = record { version = seen z; value = a.value } in Some e) (sym read)),
       )
 
-  pub run_is_new : (vs : List Branch) (values : Stored V) (id i run : ℕ) (v : Branch) → IsTree vs values → IsIndex vs id i → v ≡ get_or vs i v → is_open (tree vs values) id run ≡ false → is_among v.groups run ≡ false
-  run_is_new vs values id i run v h at read new =
-      ap (λ (o : Option (Entry V)). is_among (groups_of o) run) (sym (entry_of vs values id i v h at read).1) ∙ new
-
   pub not_live : (vs : List Branch) (values : Stored V) (id : ℕ) → IsTree vs values → entry_at branches vs id ≡ None → IsSome (entry_at kin (joined vs values.entries) id) → ⊥
   not_live vs values id h n some = false≢true (sym (ap is_some (no_entry vs values.entries id h.both.ids n)) ∙ some)
 
   pub is_child : (vs : List Branch) (values : Stored V) (p : ℕ) (label : List ℕ) (id : ℕ) → IsTree vs values → IsChildAt vs p label id → IsChild (joined vs values.entries) p label id
   is_child vs values p label id h k =
-      let d : Branch = record { id = 0; parent = None; label = []; groups = [] } in
+      let d : Branch = record { id = 0; parent = None; label = []; groups = []; below = code.Nothing } in
       let v = get_or vs k.0 d in
       let e = entry_of vs values id k.0 v h k.1 (get_or_default vs k.0 d v k.1.0) in
       let u = k.2 d in

@@ -142,15 +142,15 @@ standing_by : (rule : Version → Option Version) (vs : List Branch) (i : ℕ) (
 standing_by rule vs i w d is true e = (is, sym e)
 standing_by rule vs i w d is false e = subst (IsGone (drop (i + 1) vs)) (sym is) (sym e)
 
-pub kept_by : (rule : Version → Option Version) (vs : List Branch) (i : ℕ) (w e : Branch) → i < length vs → e ≡ get_or vs i e → rule (seen e) ≡ Some (seen w) → w.id ≡ e.id → (r : Bool) → r ≡ parent_there branches (drop (i + 1) vs) w.parent → IsKept rule i vs (set vs i w) r
-kept_by rule vs i w e within read is same r there =
+pub kept_by : (rule : Version → Option Version) (vs : List Branch) (i : ℕ) (w e : Branch) → i < length vs → e ≡ get_or vs i e → rule (seen e) ≡ Some (seen w) → w.id ≡ e.id → w.below ≡ e.below → (r : Bool) → r ≡ parent_there branches (drop (i + 1) vs) w.parent → IsKept rule i vs (set vs i w) r
+kept_by rule vs i w e within read is same below r there =
     let at : (d : Branch) → e ≡ get_or vs i d = λ d. read ∙ get_or_default vs i e d within in
-    (w, refl, (λ d. same ∙ ap (λ (z : Branch). z.id) (at d)), (λ d. standing_by rule vs i w d (ap (λ (z : Branch). rule (seen z)) (sym (at d)) ∙ is) r there))
+    (w, refl, (λ d. same ∙ ap (λ (z : Branch). z.id) (at d)), (λ d. standing_by rule vs i w d (ap (λ (z : Branch). rule (seen z)) (sym (at d)) ∙ is) r there), (λ d. below ∙ ap (λ (z : Branch). z.below) (at d)))
 
-pub gone_by : (rule : Version → Option Version) (vs : List Branch) (i : ℕ) (w e : Branch) → i < length vs → e ≡ get_or vs i e → rule (seen e) ≡ None → w.id ≡ e.id → IsKept rule i vs (set vs i w) false
-gone_by rule vs i w e within read is same =
+pub gone_by : (rule : Version → Option Version) (vs : List Branch) (i : ℕ) (w e : Branch) → i < length vs → e ≡ get_or vs i e → rule (seen e) ≡ None → w.id ≡ e.id → w.below ≡ e.below → IsKept rule i vs (set vs i w) false
+gone_by rule vs i w e within read is same below =
     let at : (d : Branch) → e ≡ get_or vs i d = λ d. read ∙ get_or_default vs i e d within in
-    (w, refl, (λ d. same ∙ ap (λ (z : Branch). z.id) (at d)), (λ d. subst (IsGone (drop (i + 1) vs)) (sym (ap (λ (z : Branch). rule (seen z)) (sym (at d)) ∙ is)) tt))
+    (w, refl, (λ d. same ∙ ap (λ (z : Branch). z.id) (at d)), (λ d. subst (IsGone (drop (i + 1) vs)) (sym (ap (λ (z : Branch). rule (seen z)) (sym (at d)) ∙ is)) tt), (λ d. below ∙ ap (λ (z : Branch). z.below) (at d)))
 
 pub behind : (vs : List Branch) (i : ℕ) (w : Branch) (slice : List Branch) → slice ≡ set vs i w → take (length slice - (i + 1)) (drop (i + 1) slice) ≡ drop (i + 1) vs
 behind vs i w slice e =

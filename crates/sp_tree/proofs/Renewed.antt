@@ -8,10 +8,13 @@ use Rattle.sp_store.specs.Stored as s
 use Rattle.sp_group.specs.Family.{entry_at, parent_there, prune, kept}
 use Rattle.sp_tree.specs.declared.version.Version.{Version as Branch}
 use Rattle.sp_tree.specs.Changes.{but}
+use Rattle.sp_tree.specs.declared.vertex.Below as code
+use Rattle.sp_tree.specs.Version.{Version}
 use Rattle.sp_tree.specs.Branches.{branches, seen, changed_by, IsIndex}
 use Rattle.sp_tree.specs.declared.version.Change.TheVariants as c
 use Rattle.sp_tree.specs.Grown.{Grown, Entry, kin, lifted, AreRooted, renewed, begun_anew, answered}
 use Rattle.sp_tree.specs.Joined.{joined, HaveIds, AreJoined, IsTree, IsPrunedFrom}
+use Rattle.sp_tree.proofs.Same.{joined_seen, both_seen}
 use Rattle.sp_tree.proofs.Zipped.{id_below, remove_joined, rooted_pruned}
 
 differs : (m n : ℕ) → m ≢ n → (m == n) ≡ false
@@ -19,7 +22,7 @@ differs m n h = grind (arith, nat_tests)
 
 -- what a version that begins anew is
 abbrev pub fresh : ℕ → Branch → Branch
-fresh next v = record { id = next; parent = v.parent; label = v.label; groups = [] }
+fresh next v = record v { id = next; groups = [] }
 
 module _ {V : Type 0} where
   but_other : (id : ℕ) (e : Entry V) → e.version.id ≢ id → lifted (but id) e ≡ Some e
@@ -145,14 +148,29 @@ module _ {V : Type 0} where
               rw (w, m, k) (sym (ap (begun_anew (tree vs values) g.id) a.0.entry_is)));
         }
 
-  pub begun : (vs : List Branch) (values : Stored V) (id i : ℕ) → IsTree vs values → IsIndex vs id i → (v w : Branch) → v ≡ get_or vs i v → (now : List Branch) → w ≡ fresh values.next v → now ≡ w ∷ remove vs i → Begun vs values now id
-  begun vs values id i h at v w read now is items =
-      subst (λ n. Begun vs values now n) (at.1 v)
-      (begun_at vs values i h at.0 v now (items ∙ ap (λ (z : Branch). z ∷ remove vs i) (is ∙ ap (fresh values.next) read)))
+  -- versions that callers see as the same
+  begun_seen : (vs : List Branch) (values : Stored V) (first now : List Branch) (id : ℕ) → map seen first ≡ map seen now → Begun vs values first id → Begun vs values now id
+  begun_seen vs values first now id same b =
+      let e = joined_seen now first (s.renewed values id).entries (sym same) in record {
+        live = b.live;
+        answer = b.answer;
+        ready = both_seen first now (s.renewed values id) same b.ready;
+        rooted = λ new p. b.rooted new (subst (λ (l : List (Entry V)). IsPrunedFrom 1 (changed_by c.Prune) l new) e p);
+        shape = λ new next bound p. b.shape new next bound (subst (λ (l : List (Entry V)). IsPrunedFrom 1 (changed_by c.Prune) l new) e p);
+      }
+
+  pub begun : (vs : List Branch) (values : Stored V) (id i : ℕ) → IsTree vs values → IsIndex vs id i → (v w : Branch) → v ≡ get_or vs i v → (changed now : List Branch) → seen w ≡ seen (fresh values.next v)
+      → map seen changed ≡ map seen (remove vs i) → now ≡ w ∷ changed → Begun vs values now id
+  begun vs values id i h at v w read changed now is same items =
+      let first = fresh values.next (get_or vs i v) ∷ remove vs i in
+      let as_seen : map seen first ≡ map seen now =
+      ap (λ (z : Branch). seen (fresh values.next z) ∷ map seen (remove vs i)) (sym read) ∙ ap (λ (z : Version). z ∷ map seen (remove vs i)) (sym is)
+      ∙ ap (λ (l : List Version). seen w ∷ l) (sym same) ∙ ap (map seen) (sym items) in
+      subst (λ n. Begun vs values now n) (at.1 v) (begun_seen vs values first now (get_or vs i v).id as_seen (begun_at vs values i h at.0 v first refl))
 
   pub lives : (vs : List Branch) (values : Stored V) (id i : ℕ) → IsTree vs values → IsIndex vs id i → s.renewed_id values id ≡ Some values.next
   lives vs values id i h at =
-      let d : Branch = record { id = 0; parent = None; label = []; groups = [] } in
+      let d : Branch = record { id = 0; parent = None; label = []; groups = []; below = code.Nothing } in
       subst (λ n. s.renewed_id values n ≡ Some values.next) (at.1 d)
       (begun_at vs values i h at.0 d (fresh values.next (get_or vs i d) ∷ remove vs i) refl).live
 

@@ -1,5 +1,5 @@
 -- Versions whose ids fall, by index.
-use Rattle.std.proofs.Common.{◌≡◌, ◌≢◌, ℕ, zero, suc, ◌+◌, ◌<◌, ◌≤◌, ◌⊎◌, inl, inr, Bool, true, false, ◌==◌, cond, List, [], ◌∷◌, length, get_or, drop, Option, Some, None, refl, sym, subst, arith, eq-eqb}
+use Rattle.std.proofs.Common.{◌≡◌, ◌≢◌, ℕ, zero, suc, ◌<◌, ◌≤◌, inl, inr, true, false, ◌==◌, List, [], ◌∷◌, length, get_or, set, remove, drop, Some, None, refl, sym, ap, subst, ◌∙◌, arith, eq-eqb}
 use Rattle.std.specs.Prelude.{nat_lt}
 use Rattle.std.specs.List.Sorted.{IsPartitionedBy, IsPartitionPoint}
 use Rattle.std.proofs.lemmas.Bool.{cases_eq, cases_lt}
@@ -13,7 +13,7 @@ use Rattle.sp_tree.specs.Joined.{HaveIds, AreJoined}
 differs : (m n : ℕ) → m ≢ n → (m == n) ≡ false
 differs m n h = grind (arith, nat_tests)
 
-all_below : (top : ℕ) (vs : List Branch) → Falls top vs → (k : ℕ) (d : Branch) → k < length vs → (get_or vs k d).id < top
+pub all_below : (top : ℕ) (vs : List Branch) → Falls top vs → (k : ℕ) (d : Branch) → k < length vs → (get_or vs k d).id < top
 all_below top [] h k d within = absurd (omega arith)
 all_below top (v ∷ vs) h zero d within = h.0
 all_below top (v ∷ vs) h (suc k) d within =
@@ -76,16 +76,41 @@ found_at top (v ∷ vs) id (suc i) d h within same =
     let n = differs v.id id (λ e. omega arith) in
     rw n (found_at v.id vs id i d h.1 (omega arith) same)
 
+pub found_read : (vs : List Branch) (id i : ℕ) (v : Branch) → AreFalling vs → IsIndex vs id i → v ≡ get_or vs i v → entry_at branches vs id ≡ Some v
+found_read vs id i v h at read = found_at h.top vs id i v h.falls at.0 (at.1 v) ∙ ap (λ (z : Branch). Some z) (sym read)
+
 falls_drop : (i top : ℕ) (vs : List Branch) → Falls top vs → AreFalling (drop i vs)
 falls_drop zero top vs h = record { top = top; falls = h }
 falls_drop (suc i) top [] h = record { top = top; falls = tt }
 falls_drop (suc i) top (v ∷ vs) h = falls_drop i v.id vs h.1
 
+lower : (low top : ℕ) (vs : List Branch) → low < top → Falls low vs → Falls top vs
+lower low top [] less h = tt
+lower low top (v ∷ vs) less h = (let first : v.id < low = h.0 in omega arith, h.1)
+
+removed_falls : (i top : ℕ) (vs : List Branch) → Falls top vs → i < length vs → Falls top (remove vs i)
+removed_falls i top [] h within = absurd (omega arith)
+removed_falls zero top (v ∷ vs) h within = lower v.id top vs h.0 h.1
+removed_falls (suc i) top (v ∷ vs) h within = (h.0, removed_falls i v.id vs h.1 (omega arith))
+
+-- a version removed
+pub falls_removed : (vs : List Branch) (i : ℕ) → AreFalling vs → i < length vs → AreFalling (remove vs i)
+falls_removed vs i h within = record { top = h.top; falls = removed_falls i h.top vs h.falls within }
+
+-- a version written with its id kept
+falls_written : (i top : ℕ) (vs : List Branch) (w : Branch) → Falls top vs → i < length vs → ((d : Branch) → w.id ≡ (get_or vs i d).id) → Falls top (set vs i w)
+falls_written i top [] w h within is = absurd (omega arith)
+falls_written zero top (v ∷ vs) w h within is = (subst (λ n. n < top) (sym (is v)) h.0, subst (λ n. Falls n vs) (sym (is v)) h.1)
+falls_written (suc i) top (v ∷ vs) w h within is = (h.0, falls_written i v.id vs w h.1 (omega arith) is)
+
+pub falls_set : (vs : List Branch) (i : ℕ) (w : Branch) → AreFalling vs → i < length vs → ((d : Branch) → w.id ≡ (get_or vs i d).id) → AreFalling (set vs i w)
+falls_set vs i w h within is = record { top = h.top; falls = falls_written i h.top vs w h.falls within is }
+
 pub falling_behind : (i : ℕ) (vs : List Branch) → AreFalling vs → AreFalling (drop i vs)
 falling_behind i vs h = falls_drop i h.top vs h.falls
 
 module _ {V : Type 0} where
-  falls_from : (top : ℕ) (vs : List Branch) (es : List (ℕ × V)) → HaveIds vs es → FallFrom top es → Falls top vs
+  pub falls_from : (top : ℕ) (vs : List Branch) (es : List (ℕ × V)) → HaveIds vs es → FallFrom top es → Falls top vs
   falls_from top [] es h f = tt
   falls_from top (v ∷ vs) [] h f = absurd h
   falls_from top (v ∷ vs) (e ∷ es) h f =

@@ -58,4 +58,6 @@ module _ {V : Type 0} where
       record {
         both = record { ids = ids; fall = fall_written values.next values.entries id w h.both.fall };
         rooted = rooted_same vs values.entries (s.written values.entries id w) h.both.ids ids h.rooted;
+        family = h.family;
+        hung = h.hung;
       }

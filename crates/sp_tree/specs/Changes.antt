@@ -1,5 +1,5 @@
 -- What each call does to one version of a tree: it stays, perhaps changed, or it goes.
-use Rattle.std.specs.Prelude.{ℕ, List, Option, Some, None, ◌==◌, if◌then◌else◌}
+use Rattle.std.specs.Prelude.{ℕ, Option, Some, None, ◌==◌, if◌then◌else◌}
 use Rattle.sp_base.specs.Numbers.{with_number}
 use Rattle.sp_group.specs.declared.outcome.Outcome.{Outcome}
 pub use Rattle.sp_group.specs.Deciding.{others, foresaw}

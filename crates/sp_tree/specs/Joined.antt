@@ -1,10 +1,11 @@
 -- How a tree keeps its entries: the versions, and the store of their values, both the newest first. No public clause cites this.
-use Rattle.std.specs.Prelude.{◌≡◌, ℕ, ◌+◌, Bool, true, false, Option, Some, None, List, [], ◌∷◌, ◌++◌, take, drop, slice_set as set, slice_index_or as get_or}
+use Rattle.std.specs.Prelude.{◌≡◌, ℕ, ◌+◌, Bool, true, false, Option, Some, None, List, [], ◌∷◌, ◌++◌, take, drop, map, slice_set as set, slice_index_or as get_or}
 use Rattle.sp_group.specs.Family.{parent_there, prune}
 use Rattle.sp_store.specs.Stored.{Stored, FallFrom}
 use Rattle.sp_tree.specs.declared.version.Version.{Version as Branch}
 use Rattle.sp_tree.specs.Version.{Version}
-use Rattle.sp_tree.specs.Branches.{branches, seen}
+use Rattle.sp_tree.specs.Branches.{branches, seen, AreHung}
+use Rattle.sp_tree.specs.Children.{AreFamily}
 use Rattle.sp_tree.specs.Grown.{Entry, AreRooted, kin, lifted}
 
 module _ {V : Type 0} where
@@ -28,6 +29,8 @@ module _ {V : Type 0} where
   pub record IsTree (versions : List Branch) (values : Stored V) : Type 0 where
     pub both : AreJoined versions values
     pub rooted : AreRooted (joined versions values.entries)
+    pub family : AreFamily (map seen versions)
+    pub hung : AreHung versions
 
   -- the first entries as they were, and then the others under the rule, without those that it takes away and those that have lost their parent
   abbrev pub IsPrunedFrom : ℕ → (Version → Option Version) → List (Entry V) → List (Entry V) → Type 0
@@ -42,6 +45,6 @@ abbrev pub IsStanding : (Version → Option Version) → ℕ → List Branch →
 IsStanding rule i old w d true = (rule (seen (get_or old i d)) ≡ Some (seen w)) × (parent_there branches (drop (i + 1) old) w.parent ≡ true)
 IsStanding rule i old w d false = IsGone (drop (i + 1) old) (rule (seen (get_or old i d)))
 
--- a version of the list is changed, with its id kept; it stays as the rule has it and its parent is behind it, or it is to go
+-- a version of the list is changed, with its id and what is below it kept; it stays as the rule has it and its parent is behind it, or it is to go
 abbrev pub IsKept : (Version → Option Version) → ℕ → List Branch → List Branch → Bool → Type 0
-IsKept rule i old new stays = (w : Branch) × (new ≡ set old i w) × ((d : Branch) → w.id ≡ (get_or old i d).id) × ((d : Branch) → IsStanding rule i old w d stays)
+IsKept rule i old new stays = (w : Branch) × (new ≡ set old i w) × ((d : Branch) → w.id ≡ (get_or old i d).id) × ((d : Branch) → IsStanding rule i old w d stays) × ((d : Branch) → w.below ≡ (get_or old i d).below)

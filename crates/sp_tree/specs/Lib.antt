@@ -1,7 +1,10 @@
 pub mod Version
 pub mod Changes
 pub mod Grown
+pub mod Paths
 pub mod Faults
+pub mod Children
+pub mod Shape
 pub mod Branches
 pub mod Joined
 pub mod Lends

@@ -3,9 +3,11 @@
 //! several decisions come to (`Decided`).
 #![tactic(auto)]
 
+mod hanging;
 pub mod law;
 mod tree;
 mod version;
+mod vertex;
 
 pub use law::{decisions_add_up, openings_change_groups};
 use std::alloc::AllocError;

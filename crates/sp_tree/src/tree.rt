@@ -1,17 +1,23 @@
-ghost use Rattle.std.specs.Prelude.{◌≡◌, ◌≢◌, ◌+◌, ◌<◌, ◌≤◌, false, length, option_copied, IfOk, IfErr, OnOk, OnErr, IsTrue, IsSome, IsNone, IfSome, [], reverse, map};
+ghost use Rattle.std.specs.List.{All};
+ghost use Rattle.std.specs.Prelude.{◌≡◌, ◌≢◌, ◌↔◌, ◌+◌, ◌<◌, ◌≤◌, true, false, length, option_copied, IfOk, IfErr, OnOk, OnErr, IsTrue, IsSome, IsNone, IfSome, [], reverse, map};
 ghost use Rattle.std.specs.Option.{option_copied_mut};
 ghost use Rattle.std.specs.Borrow.{sem};
+ghost use Rattle.sp_base.specs.Numbers.{is_among};
 ghost use Rattle.sp_base.specs.Limits.{live_limit};
 ghost use Rattle.sp_group.specs.Family.{entry_at, prune};
 ghost use Rattle.sp_group.specs.Rising.{IsLabel};
-ghost use Rattle.sp_tree.specs.Branches.{changed_by, AreFalling};
+ghost use Rattle.sp_tree.specs.Branches.{changed_by, kept_shape, AreFalling, AreReshaped};
+ghost use Rattle.sp_tree.specs.Children.{AreFamily};
+ghost use Rattle.sp_tree.specs.Paths.{completed_in, ids_under, path_to};
 ghost use Rattle.sp_tree.specs.Changes.{decided, promoted};
 ghost use Rattle.sp_tree.specs.Grown.{Grown, opened, kin, lifted, pruned, with_child, value_of, is_open, groups_of, root_in, without_root, renewed, answered, parent_of, label_of, with_all_groups, with_group, AreGrown, CanStand, IsChild, LacksChild};
 ghost use Rattle.sp_tree.specs.Joined.{joined, AreJoined, IsPrunedFrom, IsKept};
 ghost use Rattle.sp_tree.specs.Faults.{IsAddFault};
 
 use crate::Memory;
+use crate::hanging::{cut_below, fill, make_missing, make_way, plant, renumber};
 use crate::version::{Change, Version, child_of, find, has_parent, ids_of, index_of, root_of};
+use crate::vertex::Below;
 use sp_group::{Label, Outcome};
 use sp_store::{PutFault, Store};
 use std::alloc::Global;
@@ -153,17 +159,21 @@ impl<V> Tree<V> {
         if live == bound {
             return Err(PutFault::Full { live, bound, value });
         }
+        let Ok(spare) = make_way(alloc, &self.versions, parent, &label) else {
+            return Err(PutFault::Memory(value));
+        };
         if self.versions.reserve(1).is_err() {
             return Err(PutFault::Memory(value));
         }
         match self.values.put(value) {
             Ok(id) => {
-                let groups = Label::empty(alloc);
+                plant(&mut self.versions, parent, &label, id, spare);
                 let version = Version {
                     id,
                     parent,
                     label,
-                    groups,
+                    groups: Label::empty(alloc),
+                    below: Below::Nothing,
                 };
                 // There is room for it.
                 let _ = self.versions.insert(0, version);
@@ -175,42 +185,81 @@ impl<V> Tree<V> {
 
     /// A group of a live version opens, which isn't among its open ones. After want of memory the tree is as
     /// before.
-    pub fn open_group(&mut self, owner: u64, run: u32) -> Result<(), Memory>
+    pub fn open_group(&mut self, alloc: Global, owner: u64, run: u32) -> Result<(), Memory>
         requires live { IsSome (entry_at kin self.old.entries owner) }
         requires given { run ≢ 0 }
         requires new { is_open self.old owner run ≡ false }
         ensures with { OnOk result (self.new ≡ with_group self.old owner run) }
         ensures err { OnErr result (self.new ≡ self.old) }
     {
-        match index_of(&self.versions, owner) {
-            Some(index) => {
-                let version = &mut self.versions[index];
-                version.groups.insert(run)
+        match find(&self.versions, owner) {
+            Some(version) => {
+                let mut groups = version.groups.copy(alloc)?;
+                groups.insert(run)?;
+                self.set_groups(alloc, owner, groups)
             }
             // The owner is live.
             None => Ok(()),
         }
     }
 
-    /// The open groups of a live version are these from now on. Takes no memory.
-    pub fn set_groups(&mut self, owner: u64, groups: Label)
-        requires { IsSome (entry_at kin self.old.entries owner) }
-        ensures { self.new ≡ with_all_groups self.old owner groups }
+    /// The open groups of a live version are these from now on, and those before are among them. After want of
+    /// memory, which comes only where the version has a child, the tree is as before.
+    pub fn set_groups(&mut self, alloc: Global, owner: u64, groups: Label) -> Result<(), Memory>
+        requires live { IsSome (entry_at kin self.old.entries owner) }
+        requires more { All (λ r. is_among groups r ≡ true)
+            (groups_of (entry_at kin self.old.entries owner)) }
+        ensures with { OnOk result (self.new ≡ with_all_groups self.old owner groups) }
+        ensures err { OnErr result (self.new ≡ self.old) }
+        ensures child { OnErr result (ids_under self.old.entries owner ≢ []) }
     {
-        match index_of(&self.versions, owner) {
-            Some(index) => {
-                let branch = &mut self.versions[index];
-                branch.groups = groups;
-            }
-            // The owner is live.
-            None => (),
-        }
+        let spare = make_missing(alloc, &self.versions, owner, &groups)?;
+        fill(&mut self.versions, owner, groups, spare);
+        Ok(())
+    }
+
+    /// The live ids whose parent it is, rising; none where it isn't live.
+    pub fn children(&self, alloc: Global, id: u64) -> Result<Vec<u64>, Memory>
+        ensures { IfOk result (λ ids. ids.items ≡ ids_under self.now.entries id) }
+    {
+        let mut ids = Vec::new(alloc);
+        let Some(version) = find(&self.versions, id) else {
+            return Ok(ids);
+        };
+        version.below.add_ids(&mut ids)?;
+        ids.sort_unstable();
+        Ok(ids)
+    }
+
+    /// For each open group of the parent, by rising run, the edge on the way to the version; None exactly where
+    /// the id isn't live or is the root. The runs that are completed on it are those of the version's label.
+    pub fn path(&self, alloc: Global, id: u64) -> Result<Option<Vec<(u32, Outcome)>>, Memory>
+        ensures none { IfOk result
+            (λ path. IsNone path ↔ parent_of (entry_at kin self.now.entries id) ≡ None) }
+        ensures edges { IfOk result (λ path. IfSome path
+            (λ p. p.items ≡ path_to self.now.entries (entry_at kin self.now.entries id))) }
+        ensures label { IfOk result (λ path. IfSome path
+            (λ p. Some (completed_in p.items) ≡ label_of (entry_at kin self.now.entries id))) }
+    {
+        let Some(version) = find(&self.versions, id) else {
+            return Ok(None);
+        };
+        let Some(parent) = version.parent else {
+            return Ok(None);
+        };
+        let Some(above) = find(&self.versions, parent) else {
+            unreachable!()
+        };
+        let mut path = Vec::new(alloc);
+        above.below.add_way(&version.label, &mut path)?;
+        Ok(Some(path))
     }
 
     /// How many versions are live.
     pub fn live(&self) -> u32
         ensures live { result ≡ length self.now.entries }
         ensures grown { AreGrown self.now }
+        ensures family { AreFamily (map (λ e. e.version) self.now.entries) }
     {
         self.values.live()
     }
@@ -238,6 +287,7 @@ impl<V: Drop> Tree<V> {
             run,
             outcome,
         };
+        cut_below(&mut self.versions, owner, run, outcome);
         prune(&mut self.versions, &mut self.values, 0, change);
         live - self.values.live()
     }
@@ -252,8 +302,10 @@ impl<V: Drop> Tree<V> {
         let index = index_of(&self.versions, id)?;
         let renewed = self.values.renew(id)?;
         let mut version = self.versions.remove(index);
+        renumber(&mut self.versions, version.parent, &version.label, renewed);
         version.id = renewed;
         version.groups.clear();
+        version.below = Below::Nothing;
         // The room of the version that was removed is left.
         let _ = self.versions.insert(0, version);
         prune(&mut self.versions, &mut self.values, 1, Change::Prune);
@@ -286,6 +338,7 @@ fn prune<V: Drop>(versions: &mut Vec<Version>, values: &mut Store<V>, first: usi
         (joined versions.old.items values.old.entries)
         (joined versions.new.items values.new.entries) }
     ensures joined { AreJoined versions.new.items values.new }
+    ensures shapes { AreReshaped kept_shape versions.old.items versions.new.items }
     ensures rest { (values.new.next ≡ values.old.next) × (values.new.bound ≡ values.old.bound) }
 {
     let mut i = versions.len();

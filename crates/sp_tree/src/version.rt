@@ -4,17 +4,19 @@ ghost use Rattle.sp_tree.specs.Branches.{branches, changed_by, root_among, IsSet
 ghost use Rattle.sp_tree.specs.Changes.{decided, promoted};
 
 use crate::Memory;
+use crate::vertex::Below;
 use sp_group::{Label, Outcome};
 use std::alloc::Global;
 
-/// Where a version stands in the tree: under which parent and by which of the parent's groups, and which
-/// groups of its own are open.
+/// Where a version stands in the tree: under which parent and by which of the parent's groups, which groups of
+/// its own are open, and what hangs below it.
 #[derive(Drop)]
 pub(crate) struct Version {
     pub(crate) id: u64,
     pub(crate) parent: Option<u64>,
     pub(crate) label: Label,
     pub(crate) groups: Label,
+    pub(crate) below: Below,
 }
 
 /// What happens to all versions at once.

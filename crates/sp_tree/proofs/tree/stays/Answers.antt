@@ -13,9 +13,9 @@ has_parent-requires c =
 pub returns : goal.returns
 returns c =
     let rest = behind c.args.versions.now.items c.args.i c.settle.new.self c.deref.result.now c.deref.ensures.value in
-    kept_by (changed_by c.args.change) c.args.versions.now.items c.args.i c.settle.new.self c.index_mut-version.result.now c.requires.within c.index_mut-version.ensures.value c.if-not-settle.ensures.0 c.if-not-settle.ensures.1 c.has_parent.result
+    kept_by (changed_by c.args.change) c.args.versions.now.items c.args.i c.settle.new.self c.index_mut-version.result.now c.requires.within c.index_mut-version.ensures.value c.if-not-settle.ensures.0 c.if-not-settle.ensures.1 c.if-not-settle.ensures.2 c.has_parent.result
     (c.has_parent.ensures ∙ ap (λ (l : List Branch). parent_there branches l c.settle.new.self.parent) rest)
 
 pub returns-then-not-settle : goal.returns-then-not-settle
 returns-then-not-settle c =
-    gone_by (changed_by c.args.change) c.args.versions.now.items c.args.i c.settle.new.self c.index_mut-version.result.now c.requires.within c.index_mut-version.ensures.value c.if-not-settle.ensures.0 c.if-not-settle.ensures.1
+    gone_by (changed_by c.args.change) c.args.versions.now.items c.args.i c.settle.new.self c.index_mut-version.result.now c.requires.within c.index_mut-version.ensures.value c.if-not-settle.ensures.0 c.if-not-settle.ensures.1 c.if-not-settle.ensures.2

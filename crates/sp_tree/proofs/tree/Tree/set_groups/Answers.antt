@@ -1,31 +1,47 @@
-use Rattle.std.proofs.Common.{◌≡◌, List, refl, sym, subst}
+use Rattle.std.proofs.Common.{◌≡◌, true, List, length, sym, subst}
 use Rattle.std.specs.Prelude.{IsSome}
+use Rattle.std.specs.List.{All}
+use Rattle.sp_base.specs.Numbers.{is_among}
 use Rattle.sp_group.specs.Family.{entry_at}
 use Rattle.sp_tree.specs.declared.version.Version.{Version as Branch}
-use Rattle.sp_tree.specs.Branches.{branches, IsIndex, AreFalling}
-use Rattle.sp_tree.specs.Grown.{Grown, kin}
-use Rattle.sp_tree.proofs.Opened.{tree_set, groups_set, not_live}
+use Rattle.sp_tree.specs.Branches.{branches, AreFalling, HasMissing, HasBelow}
+use Rattle.sp_tree.specs.Grown.{Grown, kin, groups_of}
 use Rattle.sp_tree.proofs.Searched.{falling}
+use Rattle.sp_tree.proofs.Opened.{on_err}
+use Rattle.sp_tree.proofs.Filled.{live_there, has_child, filled_tree}
 use Rattle.sp_tree.proofs.tree.Tree.set_groups.Goals as goal
 
-pub index_of-requires : goal.index_of-requires
-index_of-requires g c = subst AreFalling (sym c.deref.ensures.value) (falling c.self.inside.versions.items c.self.inside.values c.self.invariant.both)
+pub make_missing-requires-clause-fall : goal.make_missing-requires-clause-fall
+make_missing-requires-clause-fall g c = subst AreFalling (sym c.deref.ensures.value) (falling c.self.inside.versions.items c.self.inside.values c.self.invariant.both)
+
+pub make_missing-requires-clause-live : goal.make_missing-requires-clause-live
+make_missing-requires-clause-live g c =
+    let live = subst (λ (t : Grown g.row.V.Denot). IsSome (entry_at kin t.entries c.args.owner)) (sym c.self.view_is) c.requires.live in
+    subst (λ (z : List Branch). IsSome (entry_at branches z c.args.owner)) (sym c.deref.ensures.value) (live_there c.self.inside.versions.items c.self.inside.values c.args.owner c.self.invariant live)
+
+pub fill-requires-clause-fall : goal.fill-requires-clause-fall
+fill-requires-clause-fall g c = falling c.self.inside.versions.items c.self.inside.values c.self.invariant.both
+
+pub fill-requires-clause-live : goal.fill-requires-clause-live
+fill-requires-clause-live g c =
+    let live = subst (λ (t : Grown g.row.V.Denot). IsSome (entry_at kin t.entries c.args.owner)) (sym c.self.view_is) c.requires.live in
+    live_there c.self.inside.versions.items c.self.inside.values c.args.owner c.self.invariant live
+
+pub fill-requires-clause-spare : goal.fill-requires-clause-spare
+fill-requires-clause-spare g c = subst (λ (z : List Branch). HasMissing z c.args.owner c.args.groups (length c.in_ok-spare.spare.items)) c.deref.ensures.value c.in_ok-spare.ensures.made
 
 pub invariant_of-self : goal.invariant_of-self
 invariant_of-self g c =
-    let v = c.index_mut-branch.result.now in
-    let at = subst (λ (z : List Branch). IsIndex z c.args.owner c.in-Some.index) c.deref.ensures.value c.in-Some.ensures.some in
-    let w : Branch = record { id = v.id; parent = v.parent; label = v.label; groups = c.args.groups } in
-    tree_set c.self.inside.versions.items c.self.inside.values c.in-Some.index v w c.self.invariant at.0 c.index_mut-branch.ensures.value refl refl
+    let more = subst (λ (t : Grown g.row.V.Denot). All (λ r. is_among c.args.groups r ≡ true) (groups_of (entry_at kin t.entries c.args.owner))) (sym c.self.view_is) c.requires.more in
+    (filled_tree c.self.inside.versions.items c.self.inside.values c.args.owner c.args.groups c.fill.new.versions.items c.self.invariant c.fill.ensures more).0
 
-pub returns-in-Some : goal.returns-in-Some
-returns-in-Some g c =
-    let v = c.index_mut-branch.result.now in
-    let at = subst (λ (z : List Branch). IsIndex z c.args.owner c.in-Some.index) c.deref.ensures.value c.in-Some.ensures.some in
-    rw (← c.self.view_is) (groups_set c.self.inside.versions.items c.self.inside.values c.args.owner c.in-Some.index c.args.groups v c.self.invariant at c.index_mut-branch.ensures.value)
+pub returns-clause-with : goal.returns-clause-with
+returns-clause-with g c =
+    let more = subst (λ (t : Grown g.row.V.Denot). All (λ r. is_among c.args.groups r ≡ true) (groups_of (entry_at kin t.entries c.args.owner))) (sym c.self.view_is) c.requires.more in
+    rw (← c.self.view_is) (filled_tree c.self.inside.versions.items c.self.inside.values c.args.owner c.args.groups c.fill.new.versions.items c.self.invariant c.fill.ensures more).1
 
-pub returns-in-None : goal.returns-in-None
-returns-in-None g c =
-    let n = subst (λ (z : List Branch). entry_at branches z c.args.owner ≡ _) c.deref.ensures.value (c.in-None.ensures.none refl) in
-    absurd (not_live c.self.inside.versions.items c.self.inside.values c.args.owner c.self.invariant n
-    (subst (λ (t : Grown g.row.V.Denot). IsSome (entry_at kin t.entries c.args.owner)) (sym c.self.view_is) c.requires))
+pub returns-in_err-spare-clause-child : goal.returns-in_err-spare-clause-child
+returns-in_err-spare-clause-child g c =
+    let live = subst (λ (t : Grown g.row.V.Denot). IsSome (entry_at kin t.entries c.args.owner)) (sym c.self.view_is) c.requires.live in
+    let below = subst (λ (z : List Branch). HasBelow z c.args.owner) c.deref.ensures.value c.in_err-spare.ensures.some in
+    rw (← c.self.view_is) (on_err c.from_residual.result _ (has_child c.self.inside.versions.items c.self.inside.values c.args.owner c.self.invariant live below))
