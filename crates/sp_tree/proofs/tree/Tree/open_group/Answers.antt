@@ -1,6 +1,6 @@
 use Rattle.std.proofs.Common.{◌≡◌, ℕ, List, sym, ap, subst, ◌∙◌}
 use Rattle.std.specs.Prelude.{IsSome}
-use Rattle.sp_base.specs.Numbers.{is_among}
+use Rattle.sp_base.specs.Numbers.{is_among, with_number}
 use Rattle.sp_group.specs.Family.{entry_at}
 use Rattle.sp_tree.specs.declared.version.Version.{Version as Branch}
 use Rattle.sp_tree.specs.Branches.{branches, AreFalling}
