@@ -17,7 +17,7 @@ use Rattle.sp_tree.specs.Grown.{Entry, AreRooted, FallFrom, kin, with_version, l
 use Rattle.sp_tree.specs.Decided.{child_of_decided, rule_of, bare, with_groups, decided_each, DecisionsAddUp, OpeningsChangeGroups}
 
 -- a rule, and then another
-abbrev and_then : {A : Type 0} → (A → Option A) → Option A → Option A
+abbrev pub and_then : {A : Type 0} → (A → Option A) → Option A → Option A
 and_then rule None = None
 and_then rule (Some x) = rule x
 
@@ -92,7 +92,7 @@ module _ {A : Type 0} (kin : Kin A) where
 among_append : (ms ns : List ℕ) (i : ℕ) → is_among (ms ++ ns) i ≡ (is_among ms i || is_among ns i)
 among_append ms ns i = list_any-append (λ (m : ℕ). m == i) ms ns
 
-filter_both : (p q : ℕ → Bool) (ns : List ℕ) → filter p (filter q ns) ≡ filter (λ n. q n && p n) ns
+pub filter_both : (p q : ℕ → Bool) (ns : List ℕ) → filter p (filter q ns) ≡ filter (λ n. q n && p n) ns
 filter_both p q [] = refl
 filter_both p q (n ∷ ns) = one (q n) (filter_both p q ns)
   where
@@ -189,7 +189,7 @@ rule_none owner outcome v = one (v.id == owner) (is_parent owner v.parent)
     one false false = refl
 
 -- the rule keeps ids
-rule_id : (owner : ℕ) (outcome : ℕ → Outcome) (runs : List ℕ) (v w : Version) → rule_of owner outcome runs v ≡ Some w → w.id ≡ v.id
+pub rule_id : (owner : ℕ) (outcome : ℕ → Outcome) (runs : List ℕ) (v w : Version) → rule_of owner outcome runs v ≡ Some w → w.id ≡ v.id
 rule_id owner outcome runs v w h = one (v.id == owner) (is_parent owner v.parent) (foresaw_all outcome runs v.label) h
   where
     one : (a b c : Bool) → cond a (Some (record v { groups = others_than runs v.groups })) (cond b (cond c (Some (record v { label = others_than runs v.label })) None) (Some v)) ≡ Some w → w.id ≡ v.id
@@ -199,7 +199,7 @@ rule_id owner outcome runs v w h = one (v.id == owner) (is_parent owner v.parent
     one false false c h = let is : v ≡ w = cc in ap (λ (z : Version). z.id) (sym is)
 
 -- who is neither the owner nor a child of it stays
-rule_aside : (owner : ℕ) (outcome : ℕ → Outcome) (runs : List ℕ) (v : Version) → (v.id == owner) ≡ false → is_parent owner v.parent ≡ false → rule_of owner outcome runs v ≡ Some v
+pub rule_aside : (owner : ℕ) (outcome : ℕ → Outcome) (runs : List ℕ) (v : Version) → (v.id == owner) ≡ false → is_parent owner v.parent ≡ false → rule_of owner outcome runs v ≡ Some v
 rule_aside owner outcome runs v apart no_child =
     ap (λ (a : Bool). cond a (Some (record v { groups = others_than runs v.groups })) (cond (is_parent owner v.parent) (child_of_decided outcome runs v) (Some v))) apart
     ∙ ap (λ (b : Bool). cond b (child_of_decided outcome runs v) (Some v)) no_child
@@ -229,7 +229,7 @@ rises (x ∷ xs) h = (first_below xs h (rises xs (tail_increases x xs h)), rises
         ⊎_elim (λ (e : (y == r) ≡ true). grind (arith, nat_tests)) (λ (e : is_among ys r ≡ true). let next = up.0 r e in omega arith) (or_cases (y == r) (is_among ys r) m)
 
 module _ {V : Type 0} where
-  lifted_then : (first second : Version → Option Version) (e : Entry V) → and_then (lifted second) (lifted first e) ≡ with_version e.value (and_then second (first e.version))
+  pub lifted_then : (first second : Version → Option Version) (e : Entry V) → and_then (lifted second) (lifted first e) ≡ with_version e.value (and_then second (first e.version))
   lifted_then first second e = one (first e.version)
     where
       one : (o : Option Version) → and_then (lifted second) (with_version e.value o) ≡ with_version e.value (and_then second o)
@@ -237,7 +237,7 @@ module _ {V : Type 0} where
       one (Some v) = refl
 
   -- a decision keeps ids and parents
-  decided_keeps : (owner run : ℕ) (outcome : Outcome) (x y : Entry V) → lifted (decided owner run outcome) x ≡ Some y → (y.version.id ≡ x.version.id) × (y.version.parent ≡ x.version.parent)
+  pub decided_keeps : (owner run : ℕ) (outcome : Outcome) (x y : Entry V) → lifted (decided owner run outcome) x ≡ Some y → (y.version.id ≡ x.version.id) × (y.version.parent ≡ x.version.parent)
   decided_keeps owner run outcome x y h = one (x.version.id == owner) (is_parent owner x.version.parent) (foresaw run outcome x.version.label) h
     where
       v : Version
@@ -314,7 +314,7 @@ module _ {V : Type 0} where
       ap (decided_each owner stays outcome groups) (sym (none_decided owner outcome es rooted)) ∙ each_on owner stays outcome [] groups es (rises groups increasing) (λ r m. refl)
 
   -- an entry that is there has an id below the top
-  id_below : (top : ℕ) (es : List (Entry V)) (id : ℕ) → FallFrom top es → is_some (entry_at kin es id) ≡ true → id < top
+  pub id_below : (top : ℕ) (es : List (Entry V)) (id : ℕ) → FallFrom top es → is_some (entry_at kin es id) ≡ true → id < top
   id_below top [] id fall there = absurd (cc)
   id_below top (e ∷ es) id fall there = one (e.version.id == id) refl there (id_below e.version.id es id fall.1)
     where

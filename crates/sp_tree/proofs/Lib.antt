@@ -18,3 +18,4 @@ pub mod Renewed
 pub mod Written
 pub mod Opened
 pub mod Decided
+pub mod OneFirst

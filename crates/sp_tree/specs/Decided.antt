@@ -1,13 +1,16 @@
 -- What becomes of the versions where several groups of one owner are decided, and where groups of it are opened.
-use Rattle.std.specs.Prelude.{◌≡◌, ℕ, Bool, false, not, List, [], ◌∷◌, ◌++◌, filter, map, Option, Some, None, ◌==◌, if◌then◌else◌}
+use Rattle.std.specs.Prelude.{◌≡◌, ℕ, Bool, true, false, not, List, [], ◌∷◌, ◌++◌, filter, map, Option, Some, None, ◌==◌, if◌then◌else◌}
 use Rattle.std.specs.List.Sorted.{IsStrictlyIncreasing}
 use Rattle.sp_base.specs.Numbers.{is_among, with_number}
 use Rattle.sp_group.specs.declared.outcome.Outcome.{Outcome}
-use Rattle.sp_group.specs.Deciding.{others_than, foresaw_all}
+use Rattle.sp_group.specs.declared.outcome.Outcome.TheVariants.{Completed}
+use Rattle.sp_group.specs.Deciding.{others, others_than, foresaw_all}
 use Rattle.sp_group.specs.Family.{entry_at, is_parent, prune}
 use Rattle.sp_tree.specs.Version.{Version}
 use Rattle.sp_tree.specs.Changes.{decided}
-use Rattle.sp_tree.specs.Grown.{Entry, AreRooted, FallFrom, kin, lifted, opened_for}
+use Rattle.sp_tree.specs.Children.{AreFamily}
+use Rattle.sp_tree.specs.Grown.{Entry, AreRooted, FallFrom, groups_of, kin, lifted, opened_for, regrouped}
+use Rattle.sp_tree.specs.Paths.{ids_under}
 
 -- a child of the owner of decided groups: it stays where its label foresaw each outcome, and its label loses the groups
 abbrev pub child_of_decided : (ℕ → Outcome) → List ℕ → Version → Option Version
@@ -53,3 +56,12 @@ pub record OpeningsChangeGroups (V : Type 0) : Type 0 where
   pub owner : (owner run : ℕ) (es : List (Entry V)) (e : Entry V) → entry_at kin es owner ≡ Some e → entry_at kin (opened_for owner run es) owner ≡ Some (with_groups (with_number e.version.groups run) e)
   pub rooted : (owner run : ℕ) (es : List (Entry V)) → AreRooted es → AreRooted (opened_for owner run es)
   pub fall : (owner run top : ℕ) (es : List (Entry V)) → FallFrom top es → FallFrom top (opened_for owner run es)
+
+-- One group of an owner may be opened and decided before the others are set and decided: that comes to what all come to at once. And where it
+-- completes, no child of the owner stays, since none foresaw a group that wasn't open.
+pub record OneDecisionFirst (V : Type 0) : Type 0 where
+  pub same : (owner : ℕ) (outcome : ℕ → Outcome) (runs : List ℕ) (run : ℕ) (groups : List ℕ) (top : ℕ) (es : List (Entry V)) → FallFrom top es → AreRooted es → is_among runs run ≡ true
+      → prune kin (lifted (rule_of owner outcome (others run runs))) (regrouped owner (others run groups) (prune kin (lifted (decided owner run (outcome run))) (opened_for owner run es)))
+      ≡ prune kin (lifted (rule_of owner outcome runs)) (regrouped owner groups es)
+  pub none_stays : (owner run top : ℕ) (es : List (Entry V)) (e : Entry V) → FallFrom top es → AreRooted es → AreFamily (map (λ x. x.version) es) → entry_at kin es owner ≡ Some e → is_among e.version.groups run ≡ false
+      → ids_under (prune kin (lifted (decided owner run Completed)) (opened_for owner run es)) owner ≡ []

@@ -9,7 +9,7 @@ mod tree;
 mod version;
 mod vertex;
 
-pub use law::{decisions_add_up, openings_change_groups};
+pub use law::{decisions_add_up, one_decision_first, openings_change_groups};
 use std::alloc::AllocError;
 pub use tree::Tree;
 
