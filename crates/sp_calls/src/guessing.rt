@@ -6,6 +6,7 @@ ghost use Rattle.sp_group.specs.Family.{entry_at};
 ghost use Rattle.sp_tree.specs.Grown.{kin, is_open, CanStand};
 
 use crate::given::numbers_of;
+use crate::standing::{push_children, push_path};
 use crate::text::AnswerText;
 use sp_base::Share;
 use sp_chance::Chances;
@@ -116,11 +117,11 @@ impl Guesses {
     }
 
     // Opens a group of a live version, which has none of this run.
-    fn open(&mut self, owner: u64, run: u32) -> Result<(), AllocError> {
+    fn open(&mut self, alloc: Global, owner: u64, run: u32) -> Result<(), AllocError> {
         if run == 0 || !is_live(&self.tree, owner) || has_group(&self.tree, owner, run) {
             return Ok(());
         }
-        self.tree.open_group(owner, run)
+        self.tree.open_group(alloc, owner, run)
     }
 
     // How likely a live version is to survive.
@@ -258,14 +259,28 @@ fn step(
             Ok(push_found(word, survival.map(u64::from), out))
         }
         "next" => push_next(alloc, guesses, word, version, out),
-        _ => set(guesses, what, version, rest),
+        "path" => {
+            out.text(word);
+            push_path(alloc, &guesses.tree, version, out)
+        }
+        "children" => {
+            out.text(word);
+            push_children(alloc, &guesses.tree, version, out)
+        }
+        _ => set(alloc, guesses, what, version, rest),
     }
 }
 
 // Opens a group of a version, or sets the share of one.
-fn set(guesses: &mut Guesses, what: &str, version: u64, numbers: &[u32]) -> Result<(), AllocError> {
+fn set(
+    alloc: Global,
+    guesses: &mut Guesses,
+    what: &str,
+    version: u64,
+    numbers: &[u32],
+) -> Result<(), AllocError> {
     match (what, numbers) {
-        ("open", [run]) => guesses.open(version, *run),
+        ("open", [run]) => guesses.open(alloc, version, *run),
         ("share", [run, share]) => guesses.chances.set(version, *run, Share::new(*share)),
         _ => Ok(()),
     }

@@ -28,6 +28,7 @@ mod rows;
 mod schedule;
 mod sequence;
 mod spoiling;
+mod standing;
 mod stepped;
 mod stepping;
 mod text;

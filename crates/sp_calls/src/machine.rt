@@ -5,6 +5,7 @@ ghost use Rattle.sp_plan.specs.Compiled.{IsCompiled};
 
 use crate::given::{long_number, number, numbers_of};
 use crate::spoiling::{with_other_event, with_other_matcher};
+use crate::standing::{push_children, push_path};
 use crate::stepping::{conflict_of, feed_next};
 use crate::text::AnswerText;
 use sp_core::{Core, CoreFault, Emitted, Given};
@@ -284,6 +285,23 @@ impl Bench<'_> {
         Ok(())
     }
 
+    // The path of edges down to a version.
+    fn path(&self, alloc: Global, version: u64, out: &mut AnswerText) -> Result<(), AllocError> {
+        out.number("path ", i128::from(version));
+        push_path(alloc, self.core.tree(), version, out)
+    }
+
+    // The children of a version.
+    fn children(
+        &self,
+        alloc: Global,
+        version: u64,
+        out: &mut AnswerText,
+    ) -> Result<(), AllocError> {
+        out.number("children ", i128::from(version));
+        push_children(alloc, self.core.tree(), version, out)
+    }
+
     // The versions that can be leased.
     fn ready(&self, alloc: Global, out: &mut AnswerText) -> Result<(), AllocError> {
         let ids = self.core.ready(alloc)?;
@@ -330,6 +348,8 @@ impl Bench<'_> {
             "spoil" => self.spoil(alloc, of, value, out),
             "roll" => Ok(self.roll(of, out)),
             "conflict" => self.conflict(of, out),
+            "path" => self.path(alloc, of, out),
+            "children" => self.children(alloc, of, out),
             _ => Ok(out.text("no such step\n")),
         }
     }

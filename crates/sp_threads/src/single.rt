@@ -69,7 +69,7 @@ fn a_tree_of_two_is_full_with_two(rt: HostRuntime) -> Result<(), Fail> {
         return Err("a full tree".into());
     };
     assert!(rt; live == 2 && bound == 2 && value == 'c');
-    tree.open_group(root, 1)?;
+    tree.open_group(alloc, root, 1)?;
     assert!(rt; tree.decide(root, 1, Outcome::Completed) == 1);
     assert!(rt; tree.child(root, &Label::empty(alloc)).is_none());
     Ok(())
