@@ -3,6 +3,7 @@ use Rattle.std.proofs.Common.{◌≡◌, ℕ, ◌+◌, ◌-◌, ◌≤◌, Bool,
 use Rattle.std.specs.List.{All, flat_map, list_any}
 use Rattle.std.proofs.lemmas.List.{length-take-le, length-drop}
 use Rattle.std.proofs.lemmas.List.Elements.{All-tail}
+use Rattle.sp_base.specs.Numbers.{is_among}
 use Rattle.sp_plan.specs.declared.event.Event.{Event}
 use Rattle.sp_plan.specs.declared.plan.Plan.{Plan}
 use Rattle.sp_plan.specs.Same.{SamePlan}
@@ -33,6 +34,7 @@ use Rattle.sp_core.specs.Homecoming.{completions, is_grouped, spent_run}
 use Rattle.sp_core.specs.Returning.{IsCarried}
 use Rattle.sp_core.specs.Settling.{CanBring, CanSettle, HomeLaws, IsFrom, IsWithin}
 use Rattle.sp_core.proofs.Entries.{found_of_all, local, version_is}
+use Rattle.sp_core.proofs.FirstDecided.{all_among}
 use Rattle.sp_core.proofs.Journal.{reached}
 use Rattle.sp_core.proofs.Later.{completions_are, spent_are, using_given}
 use Rattle.sp_core.proofs.Leased.{live}
@@ -230,4 +232,14 @@ module _ (laws : HomeLaws) (h : Holding) (p : Pieced) (a : Coming h p) where
     live = live_here;
     few = let inside = within_events.1 in let most = a.core.windows.few in let whole = lent_whole in let read = a.within.within in omega arith;
     rising = from.rising;
+    more = all_among b.groups a.entry.version.groups (λ r m. groups_are r ∙ ap (λ (x : Bool). x || is_grouped from.after r || is_among b.completed.items r) m);
+    spent = λ r m. groups_are r ∙ ap (λ (x : Bool). is_among a.entry.version.groups r || is_grouped from.after r || x) m ∙ either (is_among a.entry.version.groups r || is_grouped from.after r);
+    alike = λ m n first second r. grouped_now m first r ∙ sym (grouped_now n second r);
   }
+    where
+      groups_are : (r : ℕ) → is_among b.groups r ≡ (is_among a.entry.version.groups r || is_grouped from.after r || is_among b.completed.items r)
+      groups_are = (from.brought a.entry live_here).groups_are
+
+      either : (x : Bool) → (x || true) ≡ true
+      either true = refl
+      either false = refl

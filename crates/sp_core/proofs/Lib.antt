@@ -15,6 +15,7 @@ pub mod Ended
 pub mod Entries
 pub mod Fed
 pub mod Finished
+pub mod FirstDecided
 pub mod Fresh
 pub mod GivenBack
 pub mod GroupsHeld

@@ -101,6 +101,11 @@ pub record HasRoomFor (held : Version) (passed : List ℕ) (b : Brought) : Type 
   pub matches : length b.matches.items ≤ room held.matches
   pub copies : length b.copies.items ≤ room held.copies
 
+-- there is room in a version for what is brought, and for the numbers of the job that are below what was read, which are these
+pub record IsReady (held : Version) (p : Pieced) (passed : List ℕ) (b : Brought) : Type 0 where
+  pub passed_is : passed ≡ filter (λ i. nat_lt i (p.job.first + p.read)) p.job.snapshot.list
+  pub room_for : HasRoomFor held passed b
+
 -- The version has taken up what was read and brought, and no ticket is out for it.
 pub record IsTakenUp (old : Version) (p : Pieced) (b : Brought) (new : Version) : Type 0 where
   pub window : new.window ≡ old.window

@@ -4,7 +4,7 @@ ghost use Rattle.std.specs.List.{All, flat_map};
 ghost use Rattle.sp_base.specs.Numbers.{with_numbers};
 ghost use Rattle.sp_group.specs.Family.{entry_at};
 ghost use Rattle.sp_tree.specs.Grown.{kin};
-ghost use Rattle.sp_core.specs.Homecoming.{AreLeft, AreNumbered, CanDecide, HasAll, HasOpenRuns, HasRoomFor, HasRuns, IsBrought, IsDecided, IsSameButRooms, IsTakenUp, IsWith, completions, completions_in, has_group, is_grouped, outcome_of, spent_run, unnumbered_told, used_told};
+ghost use Rattle.sp_core.specs.Homecoming.{AreLeft, AreNumbered, CanDecide, HasAll, HasOpenRuns, HasRoomFor, HasRuns, IsBrought, IsDecided, IsReady, IsSameButRooms, IsTakenUp, IsWith, completions, completions_in, has_group, is_grouped, outcome_of, spent_run, unnumbered_told, used_told};
 
 use crate::rooms::count_of;
 use crate::{Memory, law};
@@ -212,36 +212,20 @@ fn put_all(numbers: &mut Numbers, more: &[u32])
     }
 }
 
-// The version takes up what was read and brought; after want of memory it is the same but for its rooms, and
-// the piece is handed back.
-pub(crate) fn take_up(
+// Makes room in a version for what a piece brings, and gives what the version skips by it.
+pub(crate) fn make_ready(
     alloc: Global,
     held: &mut Version,
-    piece: Piece,
-    brought: &mut Brought,
-) -> Result<(), Piece>
-    requires few { held.old.position + piece.read < 4294967296 }
-    ensures ok { OnOk result (IsTakenUp held.old piece brought.old held.new) }
-    ensures rest { OnOk result (AreLeft brought.old brought.new) }
-    ensures err { OnErr result (IsSameButRooms held.old held.new) }
-    ensures back { IfErr result (λ back. back ≡ piece) }
+    piece: &Piece,
+    brought: &Brought,
+) -> Result<Numbers, Memory>
+    ensures same { IsSameButRooms held.old held.new }
+    ensures ready { IfOk result (λ passed. IsReady held.new piece.now passed.list brought.now) }
 {
     let job = piece.job();
-    let Ok(passed) = job.snapshot.cut_to(alloc, 0, job.first + piece.read()) else {
-        return Err(piece);
-    };
-    if make_rooms(held, &passed, brought).is_err() {
-        return Err(piece);
-    }
-    held.position += piece.read();
-    held.done = held.done || piece.closed();
-    held.out = None;
-    held.matcher = piece.into_after();
-    put_all(&mut held.skipped, passed.list());
-    put_all(&mut held.used, brought.used.list());
-    let _ = held.matches.append(&mut brought.matches);
-    let _ = held.copies.append(&mut brought.copies);
-    Ok(())
+    let passed = job.snapshot.cut_to(alloc, 0, job.first + piece.read())?;
+    make_rooms(held, &passed, brought)?;
+    Ok(passed)
 }
 
 // Makes room in a version for what comes.
@@ -253,6 +237,23 @@ fn make_rooms(held: &mut Version, passed: &Numbers, brought: &Brought) -> Result
     held.used.reserve(count_of(&brought.used)?)?;
     held.matches.reserve(brought.matches.len())?;
     held.copies.reserve(brought.copies.len())
+}
+
+// The version, which has room for it, takes up what was read and brought. Takes no memory.
+pub(crate) fn take_up(held: &mut Version, piece: Piece, passed: &Numbers, brought: &mut Brought)
+    requires few { held.old.position + piece.read < 4294967296 }
+    requires ready { IsReady held.old piece passed.now.list brought.old }
+    ensures taken { IsTakenUp held.old piece brought.old held.new }
+    ensures rest { AreLeft brought.old brought.new }
+{
+    held.position += piece.read();
+    held.done = held.done || piece.closed();
+    held.out = None;
+    held.matcher = piece.into_after();
+    put_all(&mut held.skipped, passed.list());
+    put_all(&mut held.used, brought.used.list());
+    let _ = held.matches.append(&mut brought.matches);
+    let _ = held.copies.append(&mut brought.copies);
 }
 
 // What became of a group that is open no more.

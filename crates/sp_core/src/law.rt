@@ -10,7 +10,7 @@ pub(crate) use sp_rules::{
     coming_home_adds_matches, compiled_plans_are_lawful, every_schedule, lent_stays,
     pieces_come_home, readings_and_return, returns_by_groups, versions_have_groups,
 };
-pub(crate) use sp_tree::decisions_add_up;
+pub(crate) use sp_tree::{decisions_add_up, one_decision_first};
 pub(crate) use sp_window::{closed_come_first, windows_are_few, windows_hold};
 
 // Law: all that the layers below say of pieces that come home.

@@ -8,17 +8,20 @@ ghost use Rattle.sp_tree.specs.Grown.{AreGrown};
 ghost use Rattle.sp_core.specs.Returning.{CanComeHome, HasValues, IsCarried, IsGiven, IsHome, IsPlaceOf, reading_entries, with_none_out, without_ticket};
 ghost use Rattle.sp_core.specs.Rooms.{room};
 ghost use Rattle.sp_core.specs.Running.{after, once};
-ghost use Rattle.sp_core.specs.Settling.{CanBring, CanSettle, IsFrom, IsSameTree, IsSettled, IsWithin};
+ghost use Rattle.sp_core.specs.Homecoming.{AreLeft};
+ghost use Rattle.sp_core.specs.Settling.{CanBring, CanSettle, CanTakeUp, HasRooms, HasTakenUp, IsFrom, IsPassing, IsSameTree, IsSettled, IsWithin};
 
-use crate::homecoming::{Brought, bring, decide_ended, take_up};
+use crate::homecoming::{Brought, bring, decide_ended, is_grouped, make_ready, take_up};
 use crate::rooms::{enter, make_room, make_rooms_for};
 use crate::{Core, Given, Lent, Memory, law};
-use sp_group::{Entry, Label, Step};
+use sp_base::Numbers;
+use sp_group::{Entry, Label, Outcome, Step};
 use sp_piece::{Job, Piece};
 use sp_plan::Event;
 use sp_tree::Tree;
 use sp_version::Version;
 use std::alloc::{AllocError, Global};
+use std::mem;
 
 // Whether a job has the values of what went out.
 fn has_values(job: &Job, lent: &Lent) -> bool
@@ -87,13 +90,108 @@ fn brings(alloc: Global, tree: &Tree<Version>, piece: &Piece) -> Result<Brought,
     Ok(brought)
 }
 
+// A group that opened and completed in what a piece read, if there is one. No child of its owner can have foreseen
+// it, so that none stays.
+fn passing_group(tree: &Tree<Version>, piece: &Piece, completed: &[u32]) -> Option<u32>
+    ensures { IfSome result (IsPassing tree.now piece.now completed.now) }
+{
+    let open = tree.groups(piece.job().version);
+    for run in completed {
+        if !open.contains(run) && !is_grouped(piece.after(), *run) {
+            return Some(*run);
+        }
+    }
+    None
+}
+
+// The version of a piece, which has room for it, takes up what was read and brought.
+fn take_up_in(tree: &mut Tree<Version>, piece: Piece, passed: &Numbers, brought: &mut Brought)
+    requires { CanTakeUp tree.old piece passed.now.list brought.old }
+    ensures taken { HasTakenUp tree.old piece brought.old tree.new }
+    ensures rest { AreLeft brought.old brought.new }
+{
+    let Some(held) = tree.get_mut(piece.job().version) else {
+        unreachable!()
+    };
+    take_up(held, piece, passed, brought);
+}
+
+// The version of a piece, which has room for it, gets the groups that are brought, takes up what was read and
+// brought, and its groups that are open no more are decided. After want of memory the tree is as before.
+fn settle_all(
+    alloc: Global,
+    tree: &mut Tree<Version>,
+    piece: Piece,
+    passed: &Numbers,
+    mut brought: Brought,
+) -> Result<(), Piece>
+    requires can { CanSettle tree.old piece brought }
+    requires rooms { HasRooms tree.old piece passed.now.list brought }
+    ensures ok { OnOk result (IsSettled tree.old piece brought tree.new) }
+    ensures grown { OnOk result (AreGrown tree.new) }
+    ensures err { OnErr result (tree.new ≡ tree.old) }
+    ensures back { IfErr result (λ back. back ≡ piece) }
+{
+    let version = piece.job().version;
+    let groups = mem::replace(&mut brought.groups, Label::empty(alloc));
+    let Ok(()) = tree.set_groups(alloc, version, groups) else {
+        return Err(piece);
+    };
+    take_up_in(tree, piece, passed, &mut brought);
+    tree.live();
+    decide_ended(tree, version, &brought.completed);
+    tree.live();
+    Ok(())
+}
+
+// The same, where a group opened and completed in what was read. That one is set and decided first: then no child
+// is left, and the other groups take no memory.
+fn settle_after(
+    alloc: Global,
+    tree: &mut Tree<Version>,
+    piece: Piece,
+    passed: &Numbers,
+    mut brought: Brought,
+    run: u32,
+) -> Result<(), Piece>
+    requires can { CanSettle tree.old piece brought }
+    requires rooms { HasRooms tree.old piece passed.now.list brought }
+    requires passing { IsPassing tree.old piece brought.completed.items run }
+    ensures ok { OnOk result (IsSettled tree.old piece brought tree.new) }
+    ensures grown { OnOk result (AreGrown tree.new) }
+    ensures err { OnErr result (tree.new ≡ tree.old) }
+    ensures back { IfErr result (λ back. back ≡ piece) }
+{
+    // What the one decision comes to, and that it leaves no child.
+    law::one_decision_first::<Version>();
+    law::decisions_add_up::<Version>();
+    tree.live();
+    let version = piece.job().version;
+    let mut groups = mem::replace(&mut brought.groups, Label::empty(alloc));
+    groups.runs();
+    let Ok(()) = tree.open_group(alloc, version, run) else {
+        return Err(piece);
+    };
+    take_up_in(tree, piece, passed, &mut brought);
+    tree.live();
+    tree.decide(version, run, Outcome::Completed);
+    groups.remove(run);
+    groups.runs();
+    // No child is left.
+    let _ = tree.set_groups(alloc, version, groups);
+    tree.live();
+    decide_ended(tree, version, &brought.completed);
+    tree.live();
+    Ok(())
+}
+
 // The version of a piece takes up what was read and brought, and its groups that are open no more are
 // decided. After want of memory the tree is the same but for the version's rooms.
 fn settle(
     alloc: Global,
     tree: &mut Tree<Version>,
     piece: Piece,
-    mut brought: Brought,
+    brought: Brought,
 ) -> Result<(), Piece>
     requires { CanSettle tree.old piece brought }
     ensures ok { OnOk result (IsSettled tree.old piece brought tree.new) }
@@ -101,16 +199,16 @@ fn settle(
     ensures err { OnErr result (IsSameTree tree.old piece.job.version tree.new) }
     ensures back { IfErr result (λ back. back ≡ piece) }
 {
-    let version = piece.job().version;
-    let Some(held) = tree.get_mut(version) else {
+    let Some(held) = tree.get_mut(piece.job().version) else {
         unreachable!()
     };
-    take_up(alloc, held, piece, &mut brought)?;
-    tree.set_groups(version, brought.groups);
-    tree.live();
-    decide_ended(tree, version, &brought.completed);
-    tree.live();
-    Ok(())
+    let Ok(passed) = make_ready(alloc, held, &piece, &brought) else {
+        return Err(piece);
+    };
+    match passing_group(tree, &piece, &brought.completed) {
+        Some(run) => settle_after(alloc, tree, piece, &passed, brought, run),
+        None => settle_all(alloc, tree, piece, &passed, brought),
+    }
 }
 
 impl Core {
