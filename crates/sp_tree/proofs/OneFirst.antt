@@ -8,7 +8,7 @@ use Rattle.sp_base.specs.Numbers.{is_among}
 use Rattle.sp_group.specs.declared.outcome.Outcome.{Outcome}
 use Rattle.sp_group.specs.declared.outcome.Outcome.TheVariants.{Completed, Abandoned}
 use Rattle.sp_group.specs.Deciding.{others, others_than, foresaw, foresaw_all}
-use Rattle.sp_group.specs.Family.{Kin, entry_at, parent_there, kept, prune, is_parent}
+use Rattle.sp_group.specs.Family.{entry_at, parent_there, kept, prune, is_parent}
 use Rattle.sp_tree.specs.Version.{Version}
 use Rattle.sp_tree.specs.Changes.{decided, child_decided, with_run}
 use Rattle.sp_tree.specs.Children.{AreFamily, AreOver, children_of, plain}

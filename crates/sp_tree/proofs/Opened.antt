@@ -4,7 +4,6 @@ use Rattle.std.specs.Prelude.{Result, Ok, Err, OnOk, OnErr, IfSome, IsSome}
 use Rattle.std.proofs.lemmas.List.{drop_more, get_or_default}
 use Rattle.std.proofs.lemmas.Bool.{false≢true}
 use Rattle.std.proofs.lemmas.Bool.Decides.{nat_tests}
-use Rattle.sp_base.specs.Numbers.{is_among, with_number}
 use Rattle.sp_store.specs.Stored.{Stored, FallFrom}
 use Rattle.sp_group.specs.Family.{entry_at, parent_there}
 use Rattle.sp_tree.specs.declared.version.Version.{Version as Branch}

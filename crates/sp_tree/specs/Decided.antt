@@ -9,7 +9,7 @@ use Rattle.sp_group.specs.Family.{entry_at, is_parent, prune}
 use Rattle.sp_tree.specs.Version.{Version}
 use Rattle.sp_tree.specs.Changes.{decided}
 use Rattle.sp_tree.specs.Children.{AreFamily}
-use Rattle.sp_tree.specs.Grown.{Entry, AreRooted, FallFrom, groups_of, kin, lifted, opened_for, regrouped}
+use Rattle.sp_tree.specs.Grown.{Entry, AreRooted, FallFrom, kin, lifted, opened_for, regrouped}
 use Rattle.sp_tree.specs.Paths.{ids_under}
 
 -- a child of the owner of decided groups: it stays where its label foresaw each outcome, and its label loses the groups
