@@ -105,7 +105,11 @@ pub(crate) fn has_parent(versions: &[Version], parent: Option<u64>) -> bool
 {
     match parent {
         None => true,
-        Some(id) => find(versions, id).is_some(),
+        // It is often the next older one.
+        Some(id) => match versions {
+            [next, ..] if next.id == id => true,
+            _ => find(versions, id).is_some(),
+        },
     }
 }
 
