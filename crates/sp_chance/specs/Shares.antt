@@ -1,5 +1,6 @@
 -- The shares of runs.
 use Rattle.std.specs.Prelude.{◌≡◌, ℕ, ◌+◌, ◌*◌, ◌^◌, ◌<◌, ◌≤◌, Bool, List, [], ◌∷◌, length, slice_index_or, ◌==◌, ◌&&◌, if◌then◌else◌}
+use Rattle.sp_base.specs.Limits.{whole_share}
 use Rattle.sp_chance.specs.declared.chances.Chance.{Chance}
 
 -- whether it is that run of that version
@@ -15,6 +16,10 @@ share_of (c ∷ cs) v r = if is_that v r c.version c.run then c.share else share
 abbrev pub SetsOnly : List Chance → List Chance → ℕ → ℕ → ℕ → Type 0
 SetsOnly old new version run share =
     (v r : ℕ) → share_of new v r ≡ (if is_that v r version run then share else share_of old v r)
+
+-- no run has more than the whole
+pub record AreParts (cs : List Chance) : Type 0 where
+  pub most : (version run : ℕ) → share_of cs version run ≤ whole_share
 
 -- versions first, then runs
 abbrev pub key : ℕ → ℕ → ℕ

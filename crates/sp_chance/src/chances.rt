@@ -1,5 +1,5 @@
 ghost use Rattle.std.specs.Prelude.{◌≡◌, ℕ, ◌^◌, ◌<◌, ◌↔◌, [], IsTrue, OnOk, OnErr, if◌then◌else◌};
-ghost use Rattle.sp_chance.specs.Shares.{share_of, SetsOnly, key, AreOrdered, IsPlace, IsAt};
+ghost use Rattle.sp_chance.specs.Shares.{share_of, SetsOnly, key, AreOrdered, AreParts, IsPlace, IsAt};
 
 use sp_base::{Memory, Share};
 use std::alloc::Global;
@@ -22,14 +22,14 @@ pub struct Chances {
 
 impl Model for Chances {
     ghost use Rattle.std.specs.Prelude.{List};
-    ghost use Rattle.sp_chance.specs.Shares.{AreOrdered};
+    ghost use Rattle.sp_chance.specs.Shares.{AreOrdered, AreParts};
     ghost use Rattle.sp_chance.specs.declared.chances.Chance.{Chance};
 
     ghost Value = { List Chance };
 
     ghost view = { λ c. c.list.items };
 
-    ghost invariant = { λ c. AreOrdered c.list.items };
+    ghost invariant = { λ c. AreOrdered c.list.items × AreParts c.list.items };
 }
 
 impl Chances {
@@ -47,6 +47,7 @@ impl Chances {
         ensures ok { OnOk result (SetsOnly self.old self.new version run share) }
         ensures err { OnErr result (self.new ≡ self.old) }
     {
+        share.get();
         let at = place(&self.list, version, run);
         if is_at(&self.list, at, version, run) {
             self.list[at].share = share;
@@ -73,6 +74,13 @@ impl Chances {
         } else {
             Share::new(0)
         }
+    }
+
+    /// Law: no run has more than the whole.
+    pub fn are_parts(&self)
+        ensures { AreParts self.now }
+    {
+        let _ = &self.list;
     }
 }
 

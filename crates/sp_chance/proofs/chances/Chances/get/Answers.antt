@@ -32,5 +32,5 @@ returns-else-is_at c =
     cc
     in
     c.new.ensures
-    ∙ sym (share-absent list c.args.version c.args.run (none-at-all list c.args.version c.args.run c.place-at.result c.self.invariant place missing))
+    ∙ sym (share-absent list c.args.version c.args.run (none-at-all list c.args.version c.args.run c.place-at.result c.self.invariant.0 place missing))
     ∙ ap (λ cs. share_of cs c.args.version c.args.run) c.self.view_is
