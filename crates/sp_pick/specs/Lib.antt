@@ -1,3 +1,4 @@
 pub mod Paths
 pub mod Picking
 pub mod Turning
+pub mod Ranks

@@ -110,8 +110,8 @@ fn passed_down<V>(tree: &Tree<V>, chances: &Chances, id: u64, steps: usize, shar
     share
 }
 
-// The share of a child, from that of its parent.
-fn child_share<V>(tree: &Tree<V>, chances: &Chances, id: u64, share: Share) -> Share
+/// The share of a child, from that of its parent.
+pub(crate) fn child_share<V>(tree: &Tree<V>, chances: &Chances, id: u64, share: Share) -> Share
     requires child { IsSome (parent_of (entry_at kin tree.now.entries id)) }
     requires share { let es = tree.now.entries in share
         ≡ survival_in (share_of chances.now) es (above es id) }
