@@ -61,7 +61,8 @@ fn with_root<V>(
     chances: &Chances,
 ) -> Result<BinaryHeap<Rank>, Memory>
     ensures root { let es = tree.now.entries in IfOk result
-        (λ waiting. IsPermutation (map (rank_in (share_of chances.now) es) (ids_by is_none es)) (heap_items waiting)) }
+        (λ waiting. IsPermutation (map (rank_in (share_of chances.now) es) (ids_by is_none es))
+        (heap_items waiting)) }
     ensures heap { IfOk result (λ waiting. IsHeap rank_cmp (heap_items waiting)) }
 {
     tree.live();
@@ -88,7 +89,9 @@ fn push_children<V>(
 ) -> Result<(), Memory>
     requires { above ≡ rank_in (share_of chances.now) tree.now.entries above.id.0 }
     ensures children { let es = tree.now.entries in OnOk result
-        (IsPermutation (heap_items waiting.old ++ map (rank_in (share_of chances.now) es) (ids_under es above.id.0)) (heap_items waiting.new)) }
+        (IsPermutation (heap_items waiting.old
+        ++ map (rank_in (share_of chances.now) es) (ids_under es above.id.0))
+        (heap_items waiting.new)) }
     ensures heap { OnOk result
         (KeepsHeap rank_cmp (heap_items waiting.old) (heap_items waiting.new)) }
 {
