@@ -8,8 +8,24 @@ pub(crate) struct Place {
     pub(crate) key: usize,
 }
 
-/// The index of an id, searched by halves.
+/// The index of an id. It stands as far behind the newest one as its id is below that one's, where none between them
+/// has gone; else it is searched.
 pub(crate) fn index_of(places: &[Place], id: u64) -> Option<usize>
+    requires { AreFalling places.now }
+    ensures some { IfSome result (HasId places.now id) }
+    ensures none { IsNone result → Lacks places.now id }
+{
+    if let Some(newest) = places.first() {
+        let near = newest.id.saturating_sub(id) as usize;
+        if near < places.len() && places[near].id == id {
+            return Some(near);
+        }
+    }
+    search(places, id)
+}
+
+// The index of an id, searched by halves.
+fn search(places: &[Place], id: u64) -> Option<usize>
     requires { AreFalling places.now }
     ensures some { IfSome result (HasId places.now id) }
     ensures none { IsNone result → Lacks places.now id }

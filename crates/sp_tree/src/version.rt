@@ -125,8 +125,24 @@ pub(crate) fn root_of(versions: &[Version]) -> Option<u64>
     None
 }
 
-/// The index of an id, searched by halves.
+/// The index of an id. It stands as far behind the newest one as its id is below that one's, where none between them
+/// has gone; else it is searched.
 pub(crate) fn index_of(versions: &[Version], id: u64) -> Option<usize>
+    requires { AreFalling versions.now }
+    ensures some { IfSome result (λ index. IsIndex versions.now id index) }
+    ensures none { IsNone result → entry_at branches versions.now id ≡ None }
+{
+    if let Some(newest) = versions.first() {
+        let near = newest.id.saturating_sub(id) as usize;
+        if near < versions.len() && versions[near].id == id {
+            return Some(near);
+        }
+    }
+    search(versions, id)
+}
+
+// The index of an id, searched by halves.
+fn search(versions: &[Version], id: u64) -> Option<usize>
     requires { AreFalling versions.now }
     ensures some { IfSome result (λ index. IsIndex versions.now id index) }
     ensures none { IsNone result → entry_at branches versions.now id ≡ None }

@@ -1,6 +1,6 @@
 use Rattle.std.proofs.Common.{◌-◌}
 use Rattle.sp_store.proofs.Searched.{IsBetween}
-use Rattle.sp_store.proofs.place.index_of.Given as goal
+use Rattle.sp_store.proofs.place.search.Given as goal
 
 abbrev pub invariant-loop-low : goal.invariant-loop-low
 invariant-loop-low l = IsBetween l.places l.id l.low l.high

@@ -1,7 +1,7 @@
 use Rattle.std.proofs.Common.{arith}
 use Rattle.sp_store.proofs.Searched.{rises, sinks, lacks_here, lacks_past}
-use Rattle.sp_store.proofs.place.index_of.Goals as goal
-use Rattle.sp_store.proofs.place.index_of.Goals.{else-low-places-via-then-low-places+else-places-low, else-low-places-via-else-low-places}
+use Rattle.sp_store.proofs.place.search.Goals as goal
+use Rattle.sp_store.proofs.place.search.Goals.{else-low-places-via-then-low-places+else-places-low, else-low-places-via-else-low-places}
 
 pub loop-low-preserved-then-id-places : goal.loop-low-preserved-then-id-places
 loop-low-preserved-then-id-places c =

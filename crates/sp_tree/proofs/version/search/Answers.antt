@@ -4,8 +4,8 @@ use Rattle.std.proofs.lemmas.List.{get_or_default}
 use Rattle.std.proofs.lemmas.List.Sorted.{IsPartitionPoint-from_clause}
 use Rattle.sp_tree.specs.declared.version.Version.{Version as Branch}
 use Rattle.sp_tree.proofs.Searched.{parted, not_there}
-use Rattle.sp_tree.proofs.version.index_of.Goals as goal
-use Rattle.sp_tree.proofs.version.index_of.Goals.{else-index-versions-via-then-index-versions+else-versions-index, else-index-versions-via-else-index-versions}
+use Rattle.sp_tree.proofs.version.search.Goals as goal
+use Rattle.sp_tree.proofs.version.search.Goals.{else-index-versions-via-then-index-versions+else-versions-index, else-index-versions-via-else-index-versions}
 
 pub returns-else-index-versions-clause-none : goal.returns-else-index-versions-clause-none
 returns-else-index-versions-clause-none c = λ _.
