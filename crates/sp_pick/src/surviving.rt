@@ -24,8 +24,8 @@ pub fn survival<V>(tree: &Tree<V>, id: u64, chances: &Chances) -> Share
     survival_at(tree, id, depth(tree, id), chances)
 }
 
-/// The same, where it is known how many versions stand above it.
-pub(crate) fn survival_at<V>(tree: &Tree<V>, id: u64, depth: u32, chances: &Chances) -> Share
+// The same, where it is known how many versions stand above it.
+fn survival_at<V>(tree: &Tree<V>, id: u64, depth: u32, chances: &Chances) -> Share
     requires live { IsSome (entry_at kin tree.now.entries id) }
     requires depth { depth ≡ depth_in tree.now.entries id }
     ensures { result ≡ survival_in (share_of chances.now) tree.now.entries id }
@@ -50,8 +50,8 @@ pub fn survival_with<V>(tree: &Tree<V>, parent: u64, label: &Label, chances: &Ch
     share_under(chances, parent, tree.groups(parent), label, above)
 }
 
-/// How many versions stand above a live version.
-pub(crate) fn depth<V>(tree: &Tree<V>, id: u64) -> u32
+// How many versions stand above a live version.
+fn depth<V>(tree: &Tree<V>, id: u64) -> u32
     requires { IsSome (entry_at kin tree.now.entries id) }
     ensures { result ≡ depth_in tree.now.entries id }
 {

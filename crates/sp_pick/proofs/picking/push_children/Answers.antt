@@ -49,11 +49,13 @@ loop-id-preserved g c =
     c.are_parts.ensures.most
     c.args.above c.deref-id-items.result.now c.loop-id.id-index c.requires (c.deref-id-items.ensures.value ∙ c.in_ok-children.ensures)
     c.loop-id-test.true in
+    let deep = u.depth in
+    let share = c.get-survival.ensures.parts ∙ c.child_share.ensures in
     record {
       children =
           pushed (rank_in (share_of c.args.chances.now) c.args.tree.now.entries) (heap_items c.args.waiting.now) (heap_items c.loop-id.waiting)
           (heap_items c.put.new.waiting)
-          c.deref-id-items.result.now c.loop-id.id-index _ (same_rank _ _ _ _ _ (c.get-survival.ensures.parts ∙ c.child_share.ensures) (sym u.depth))
+          c.deref-id-items.result.now c.loop-id.id-index _ (same_rank _ _ _ _ _ (omega arith) (omega arith))
           c.loop-id-test.true c.loop-id.invariant.children
           c.in_ok-put.ensures.permutation;
       heap = λ h. c.in_ok-put.ensures.heap (c.loop-id.invariant.heap h);
