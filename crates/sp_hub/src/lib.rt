@@ -5,6 +5,7 @@
 
 mod entry;
 mod exchange;
+mod knows;
 pub mod law;
 pub mod locked;
 mod named;
@@ -15,6 +16,7 @@ mod seat;
 mod shared;
 mod taken;
 mod tally;
+mod way;
 
 pub use entry::HubEntry;
 pub use exchange::{History, Hub, Unfinished};
