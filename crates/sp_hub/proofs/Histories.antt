@@ -7,9 +7,9 @@ use Rattle.std.proofs.lemmas.List.Sums.{sum_by-append}
 use Rattle.std.proofs.lemmas.Grind.{flat_map-append}
 use Rattle.std.proofs.Math.Seq.{take-nil}
 use mathlib.Core.List.{IsPrefix}
-use Rattle.sp_hub.specs.declared.entry.HubEntry.TheVariants.{Post, Take, Put, Collect, Close}
+use Rattle.sp_hub.specs.declared.entry.HubEntry.TheVariants.{Post, Take, Close}
 use Rattle.sp_hub.specs.declared.entry.HubEntry.{HubEntry}
-use Rattle.sp_hub.specs.History.{post_of, take_of, put_of, collect_of, posted, taken, brought, collected, is_close, is_call}
+use Rattle.sp_hub.specs.History.{post_of, take_of, posted, taken, is_close, is_call}
 use Rattle.sp_hub.specs.State.{Keeps}
 
 -- what holds of each beginning of a list, and of the list with one more, holds of each beginning of that
@@ -40,101 +40,69 @@ bit_below true = omega arith
 bit_below false = omega arith
 
 -- an entry more
-pub keeps-push : {J P : Type 0} (tj : J → ℕ) (tp : P → ℕ) (jobs jobs' : List J) (home home' : List P) (closed closed' : Bool) (es : List HubEntry) (e : HubEntry) (total total' room room' : ℕ)
-    → Keeps tj tp jobs home closed es total room
+pub keeps-push : {J : Type 0} (tj : J → ℕ) (jobs jobs' : List J) (closed closed' : Bool) (es : List HubEntry) (e : HubEntry) (total total' room room' : ℕ)
+    → Keeps tj jobs closed es total room
     → map tj jobs ++ post_of e ≡ take_of e ++ map tj jobs'
-    → map tp home ++ put_of e ≡ collect_of e ++ map tp home'
     → (if closed then 1 else 0) + cond (is_close e) 1 0 ≡ (if closed' then 1 else 0)
     → total' ≡ total + cond (is_call e) 1 0
-    → length es + 1 + length jobs' + length home' + (if closed' then 0 else 1) ≤ room'
-    → Keeps tj tp jobs' home' closed' (es ++ e ∷ []) total' room'
-keeps-push tj tp jobs jobs' home home' closed closed' es e total total' room room' k listed at_home shut counted spare =
+    → length es + 1 + length jobs' + (if closed' then 0 else 1) ≤ room'
+    → Keeps tj jobs' closed' (es ++ e ∷ []) total' room'
+keeps-push tj jobs jobs' closed closed' es e total total' room room' k listed shut counted spare =
     let l = split-push post_of take_of es e (map tj jobs) (map tj jobs') k.listed listed in
-    let h = split-push put_of collect_of es e (map tp home) (map tp home') k.at_home at_home in
     let s : count_by is_close (es ++ e ∷ []) ≡ (if closed' then 1 else 0) = count-push is_close es e ∙ ap (λ n. n + cond (is_close e) 1 0) k.shut ∙ shut in
     record {
       legal = record {
         takes = each_beginning (λ b. IsPrefix (taken b) (posted b)) es e k.legal.takes (map tj jobs', sym l);
-        collects = each_beginning (λ b. IsPrefix (collected b) (brought b)) es e k.legal.collects (map tp home', sym h);
         closes = subst (λ n. n ≤ 1) (sym s) (bit_le closed');
       };
       listed = l;
-      at_home = h;
       shut = s;
       counted = counted ∙ ap (λ n. n + cond (is_call e) 1 0) k.counted ∙ sym (count-push is_call es e);
       spare = omega (arith, spare, length-append es (e ∷ []));
     }
 
 -- a longer vector
-pub keeps-more : {J P : Type 0} (tj : J → ℕ) (tp : P → ℕ) (jobs : List J) (home : List P) (closed : Bool) (es : List HubEntry) (total room room' : ℕ)
-    → Keeps tj tp jobs home closed es total room → room ≤ room' → Keeps tj tp jobs home closed es total room'
-keeps-more tj tp jobs home closed es total room room' k more = record { legal = k.legal; listed = k.listed; at_home = k.at_home; shut = k.shut; counted = k.counted; spare = omega (arith, k.spare, more) }
+pub keeps-more : {J : Type 0} (tj : J → ℕ) (jobs : List J) (closed : Bool) (es : List HubEntry) (total room room' : ℕ)
+    → Keeps tj jobs closed es total room → room ≤ room' → Keeps tj jobs closed es total room'
+keeps-more tj jobs closed es total room room' k more =
+    record { legal = k.legal; listed = k.listed; shut = k.shut; counted = k.counted; spare = omega (arith, k.spare) }
 
-pub keeps-post : {J P : Type 0} (tj : J → ℕ) (tp : P → ℕ) (jobs jobs' : List J) (job : J) (home home' : List P) (closed : Bool) (es es' : List HubEntry) (ticket total total' room room' : ℕ)
-    → Keeps tj tp jobs home closed es total room
+pub keeps-post : {J : Type 0} (tj : J → ℕ) (jobs jobs' : List J) (job : J) (closed : Bool) (es es' : List HubEntry) (ticket total total' room room' : ℕ)
+    → Keeps tj jobs closed es total room
     → jobs' ≡ jobs ++ job ∷ []
-    → home' ≡ home
     → es' ≡ es ++ Post ticket ∷ []
     → ticket ≡ tj job
     → total' ≡ total + 1
-    → length es + length jobs + length home + 3 ≤ room'
-    → Keeps tj tp jobs' home' closed es' total' room'
-keeps-post tj tp jobs jobs' job home home' closed es es' ticket total total' room room' k listed same noted named counted spare =
-    rw (listed, same, noted, named)
-    (keeps-push tj tp jobs (jobs ++ job ∷ []) home home closed closed es (Post (tj job)) total total' room room' k
-    (sym (map-append tj jobs (job ∷ []))) (append-nil (map tp home)) (add-zero _) counted
+    → length es + length jobs + 3 ≤ room'
+    → Keeps tj jobs' closed es' total' room'
+keeps-post tj jobs jobs' job closed es es' ticket total total' room room' k listed noted named counted spare =
+    rw (listed, noted, named)
+    (keeps-push tj jobs (jobs ++ job ∷ []) closed closed es (Post (tj job)) total total' room room' k
+    (sym (map-append tj jobs (job ∷ []))) (add-zero _) counted
     (omega (arith, length-append jobs (job ∷ []), spare, bit_below closed)))
 
-pub keeps-take : {J P : Type 0} (tj : J → ℕ) (tp : P → ℕ) (jobs jobs' : List J) (job : J) (home : List P) (closed : Bool) (es es' : List HubEntry) (seat ticket total total' room room' : ℕ)
-    → Keeps tj tp jobs home closed es total room
+pub keeps-take : {J : Type 0} (tj : J → ℕ) (jobs jobs' : List J) (job : J) (closed : Bool) (es es' : List HubEntry) (seat ticket total total' room room' : ℕ)
+    → Keeps tj jobs closed es total room
     → jobs ≡ job ∷ jobs'
     → es' ≡ es ++ Take seat ticket ∷ []
     → ticket ≡ tj job
     → total' ≡ total + 1
     → room' ≡ room
-    → Keeps tj tp jobs' home closed es' total' room'
-keeps-take tj tp jobs jobs' job home closed es es' seat ticket total total' room room' k listed noted named counted same =
+    → Keeps tj jobs' closed es' total' room'
+keeps-take tj jobs jobs' job closed es es' seat ticket total total' room room' k listed noted named counted same =
     rw (noted, named, same)
-    (keeps-push tj tp (job ∷ jobs') jobs' home home closed closed es (Take seat (tj job)) total total' room room (subst (λ l. Keeps tj tp l home closed es total room) listed k)
-    (append-nil (map tj (job ∷ jobs'))) (append-nil (map tp home)) (add-zero _) counted
+    (keeps-push tj (job ∷ jobs') jobs' closed closed es (Take seat (tj job)) total total' room room (subst (λ l. Keeps tj l closed es total room) listed k)
+    (append-nil (map tj (job ∷ jobs'))) (add-zero _) counted
     (omega (arith, k.spare, ap length listed)))
 
-pub keeps-put : {J P : Type 0} (tj : J → ℕ) (tp : P → ℕ) (jobs : List J) (home home' : List P) (piece : P) (closed : Bool) (es es' : List HubEntry) (seat ticket total total' room room' : ℕ)
-    → Keeps tj tp jobs home closed es total room
-    → home' ≡ home ++ piece ∷ []
-    → es' ≡ es ++ Put seat ticket ∷ []
-    → ticket ≡ tp piece
-    → total' ≡ total + 1
-    → length es + length jobs + length home + 3 ≤ room'
-    → Keeps tj tp jobs home' closed es' total' room'
-keeps-put tj tp jobs home home' piece closed es es' seat ticket total total' room room' k at_home noted named counted spare =
-    rw (at_home, noted, named)
-    (keeps-push tj tp jobs jobs home (home ++ piece ∷ []) closed closed es (Put seat (tp piece)) total total' room room' k
-    (append-nil (map tj jobs)) (sym (map-append tp home (piece ∷ []))) (add-zero _) counted
-    (omega (arith, length-append home (piece ∷ []), spare, bit_below closed)))
-
-pub keeps-collect : {J P : Type 0} (tj : J → ℕ) (tp : P → ℕ) (jobs : List J) (home home' : List P) (piece : P) (closed : Bool) (es es' : List HubEntry) (ticket total total' room room' : ℕ)
-    → Keeps tj tp jobs home closed es total room
-    → home ≡ piece ∷ home'
-    → es' ≡ es ++ Collect ticket ∷ []
-    → ticket ≡ tp piece
-    → total' ≡ total + 1
-    → room' ≡ room
-    → Keeps tj tp jobs home' closed es' total' room'
-keeps-collect tj tp jobs home home' piece closed es es' ticket total total' room room' k at_home noted named counted same =
-    rw (noted, named, same)
-    (keeps-push tj tp jobs jobs (piece ∷ home') home' closed closed es (Collect (tp piece)) total total' room room (subst (λ l. Keeps tj tp jobs l closed es total room) at_home k)
-    (append-nil (map tj jobs)) (append-nil (map tp (piece ∷ home'))) (add-zero _) counted
-    (omega (arith, k.spare, ap length at_home)))
-
-pub keeps-close : {J P : Type 0} (tj : J → ℕ) (tp : P → ℕ) (jobs : List J) (home : List P) (closed : Bool) (es es' : List HubEntry) (total room room' : ℕ)
-    → Keeps tj tp jobs home closed es total room
+pub keeps-close : {J : Type 0} (tj : J → ℕ) (jobs : List J) (closed : Bool) (es es' : List HubEntry) (total room room' : ℕ)
+    → Keeps tj jobs closed es total room
     → closed ≡ false
     → es' ≡ es ++ Close ∷ []
     → room' ≡ room
-    → Keeps tj tp jobs home true es' total room'
-keeps-close tj tp jobs home closed es es' total room room' k unshut noted same =
+    → Keeps tj jobs true es' total room'
+keeps-close tj jobs closed es es' total room room' k unshut noted same =
     rw (noted, same)
-    (keeps-push tj tp jobs jobs home home false true es Close total total room room (subst (λ b. Keeps tj tp jobs home b es total room) unshut k)
-    (append-nil (map tj jobs)) (append-nil (map tp home)) refl (sym (add-zero total))
-    (let s : length es + length jobs + length home + 1 ≤ room = subst (λ (b : Bool). length es + length jobs + length home + (if b then 0 else 1) ≤ room) unshut k.spare in omega (arith, s)))
+    (keeps-push tj jobs jobs false true es Close total total room room (subst (λ b. Keeps tj jobs b es total room) unshut k)
+    (append-nil (map tj jobs)) refl (sym (add-zero total))
+    (let s : length es + length jobs + 1 ≤ room = subst (λ (b : Bool). length es + length jobs + (if b then 0 else 1) ≤ room) unshut k.spare in omega (arith, s)))

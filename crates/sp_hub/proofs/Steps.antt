@@ -14,6 +14,7 @@ use Rattle.crossbeam_queue.proofs.Lists.{at_set, at_longer, at_last, set_here, s
 use Rattle.sp_hub.specs.declared.knows.Knows.{Knows}
 use Rattle.sp_hub.specs.Collecting.{ticket_by, tickets_by}
 use Rattle.sp_hub.specs.WayHome.{poster, seat, spent, slips, numbers_back, IsBack, FitsSeat, FitsPoster, Bears, IsBorne, Delivers, Told}
+use Rattle.sp_hub.proofs.Tickets.{all_known}
 
 -- ---- lists of views
 
@@ -88,6 +89,10 @@ one_ticket sent number t k = ⊎_elim
     (λ (e : (eqb number k ≡ true) × (number ≡ k)). ap (λ b. sent k ++ ((if b then t ∷ [] else []) ++ [])) e.0 ∙ ap (λ j. sent j ++ t ∷ []) (sym e.1) ∙ sym (ap (λ b. if b then sent number ++ t ∷ [] else sent k) e.0))
     (λ (e : (eqb number k ≡ false) × (number ≢ k)). ap (λ b. sent k ++ ((if b then t ∷ [] else []) ++ [])) e.0 ∙ append-nil (sent k) ∙ sym (ap (λ b. if b then sent number ++ t ∷ [] else sent k) e.0))
     (eqb_tells number k)
+
+nil_left : (a b : List ℕ) → a ++ b ≡ [] → a ≡ []
+nil_left [] b e = refl
+nil_left (x ∷ a) b e = cc
 
 -- ---- numbers that some pass bears
 
@@ -311,6 +316,8 @@ module _ {P : Type 0} where
             (λ q b. ap (λ g. tickets_by q.0 g ++ tickets_by q.0 (slips tk items)) mine.1 ∙ sym (tickets-append q.0 h.got (slips tk items)) ∙ h.delivered q.0 ∙ sym b.1) mine.4;
         below = each_back (IsBack h.place h.sent h.count) (λ back. back.0 < v.made) v.joined (λ q b. let less = b.2 in let same = mine.2 in omega arith) mine.4;
         apart = mine.5;
+        known = all_known v.made v.got (λ k high. nil_left (tickets_by k v.got) (tickets_by k (slips tk items))
+            (ap (λ g. tickets_by k g ++ tickets_by k (slips tk items)) mine.1 ∙ sym (tickets-append k h.got (slips tk items)) ∙ h.delivered k ∙ (mine.3 k high).1));
       }
 
   -- a seat puts a piece, perhaps not for the first time

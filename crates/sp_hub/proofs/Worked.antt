@@ -1,31 +1,33 @@
--- Worked histories, of which the law of what is collected says what it should.
-use Rattle.std.proofs.Common.{◌≡◌, ⊎_elim, ℕ, Bool, true, false, cond, List, [], ◌∷◌, ◌++◌, refl}
-use Rattle.std.specs.Prelude.{◌==◌}
-use Rattle.std.proofs.lemmas.Bool.Decides.{eqb_tells}
+-- Worked rows of what is said of the pieces at the end.
+use Rattle.std.proofs.Common.{ℕ, false, List, [], ◌∷◌, refl}
+use Rattle.std.specs.Prelude.{None}
+use Rattle.std.proofs.lemmas.List.Elements.{All-head}
 use mathlib.Core.List.{IsPrefix}
-use Rattle.sp_hub.specs.declared.entry.HubEntry.{HubEntry}
-use Rattle.sp_hub.specs.declared.entry.HubEntry.TheVariants.{Put, Collect}
-use Rattle.sp_hub.specs.History.{AreCollected, IsLegal}
+use Rattle.sp_hub.specs.State.{Sitting}
+use Rattle.sp_hub.specs.Collecting.{AreCollectedInOrder, tickets_by}
 
--- a seat put a ticket, and another one was collected
-abbrev stray : List HubEntry
-stray = Put 0 5 ∷ Collect 9 ∷ []
+-- a seat that put two tickets
+abbrev two_put : Sitting
+two_put = record { number = 3; holding = None; calls = 2; over = false; put = 5 ∷ 7 ∷ [] }
 
-stray_is_illegal : IsLegal stray → ⊥
-stray_is_illegal legal = let pre : IsPrefix (9 ∷ []) (5 ∷ []) = legal.collects 2 in cc pre.1
+abbrev collected_so : List (ℕ × ℕ) → Type 0
+collected_so got = AreCollectedInOrder got (two_put ∷ [])
 
--- a seat's only ticket is no front of what seat 0 put, where it is another
-no_front : (own by_first : Bool) (ticket : ℕ) → own ≡ true → ticket ≡ 9 → IsPrefix (cond own (ticket ∷ []) [] ++ []) (cond by_first (5 ∷ []) [] ++ []) → ⊥
-no_front true true ticket is nine pre = cc (pre.1, nine)
-no_front true false ticket is nine pre = cc pre.1
-no_front false by_first ticket is nine pre = cc
+-- what is said of the one seat
+prefix_of : (got : List (ℕ × ℕ)) → collected_so got → IsPrefix (tickets_by 3 got) (5 ∷ 7 ∷ [])
+prefix_of got h = All-head (λ (seat : Sitting). IsPrefix (tickets_by seat.number got) seat.put) two_put [] h
 
-is_itself : (n : ℕ) → (n == n) ≡ true
-is_itself n = ⊎_elim (λ same. same.0) (λ other. absurd (other.1 refl)) (eqb_tells n n)
+first_alone : IsPrefix (tickets_by 3 ((3, 5) ∷ (1, 9) ∷ [])) (5 ∷ 7 ∷ [])
+first_alone = (7 ∷ [], refl)
 
--- whatever seat it is said to come from
-pub stray_came_from_no_seat : (pairs : List (ℕ × ℕ)) → AreCollected pairs stray → ⊥
-stray_came_from_no_seat [] are = cc are.tickets
-stray_came_from_no_seat (pair ∷ []) are =
-    let nine : pair.1 ≡ 9 = cc are.tickets in no_front (pair.0 == pair.0) (0 == pair.0) pair.1 (is_itself pair.0) nine (are.first pair.0)
-stray_came_from_no_seat (pair ∷ other ∷ pairs) are = cc are.tickets
+-- the second one before the first is out of order
+pub second_first_is_out_of_order : collected_so ((3, 7) ∷ []) → ⊥
+second_first_is_out_of_order h = let pre : IsPrefix {A = ℕ} (7 ∷ []) (5 ∷ 7 ∷ []) = prefix_of ((3, 7) ∷ []) h in cc pre.1
+
+-- nor is a ticket collected that the seat didn't put
+pub strange_is_out_of_order : collected_so ((3, 5) ∷ (3, 9) ∷ []) → ⊥
+strange_is_out_of_order h = let pre : IsPrefix {A = ℕ} (5 ∷ 9 ∷ []) (5 ∷ 7 ∷ []) = prefix_of ((3, 5) ∷ (3, 9) ∷ []) h in cc pre.1
+
+-- nor one collected twice
+pub twice_is_out_of_order : collected_so ((3, 5) ∷ (3, 5) ∷ []) → ⊥
+twice_is_out_of_order h = let pre : IsPrefix {A = ℕ} (5 ∷ 5 ∷ []) (5 ∷ 7 ∷ []) = prefix_of ((3, 5) ∷ (3, 5) ∷ []) h in cc pre.1

@@ -2,14 +2,10 @@
 use Rattle.std.specs.Prelude.{◌≡◌, ℕ, List, ◌∷◌, ◌++◌, length, Some, slice_get}
 use Rattle.sp_hub.specs.declared.entry.HubEntry.{HubEntry}
 use Rattle.sp_hub.specs.declared.entry.HubEntry.TheVariants.{Take}
-use Rattle.sp_hub.specs.History.{posted, taken, AreCollected, IsLegal}
+use Rattle.sp_hub.specs.History.{posted, taken, IsLegal}
 
 -- The n-th job that was taken is the n-th that was posted, which stands before it.
 abbrev pub TakesFollowPosts : Type 0
 TakesFollowPosts =
     (entries before after : List HubEntry) (seat ticket : ℕ) → IsLegal entries → entries ≡ before ++ Take seat ticket ∷ after
     → slice_get (posted before) (length (taken before)) ≡ Some ticket
-
--- Each ticket that was collected came from a seat, and those of a seat are the first that it put, in its order.
-abbrev pub CollectedInOrder : Type 0
-CollectedInOrder = (entries : List HubEntry) → IsLegal entries → (pairs : List (ℕ × ℕ)) × AreCollected pairs entries

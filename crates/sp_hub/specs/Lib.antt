@@ -1,6 +1,7 @@
+pub mod Names
 pub mod History
 pub mod State
 pub mod Calls
-pub mod Laws
 pub mod Collecting
 pub mod WayHome
+pub mod Laws

@@ -65,8 +65,9 @@ pub record Delivers {P : Type 0} (ticket_of : P → ℕ) (items : List (ℕ × P
   pub borne : (k : ℕ) → k < count → IsBorne views k
 
 -- What the poster learns: of each seat that came back, what was collected is the beginning of what it put, and the rest is in the queue; their
--- numbers are apart, and below the count of seats made.
+-- numbers are apart, and below the count of seats made, as are those of all seats of which something was collected.
 pub record Told {P : Type 0} (ticket_of : P → ℕ) (v : Knows) (items : List (ℕ × P)) : Type 0 where
   pub begins : AllByRecursion (λ back. tickets_by back.0 v.got ++ tickets_by back.0 (slips ticket_of items) ≡ back.1) v.joined
   pub below : AllByRecursion (λ back. back.0 < v.made) v.joined
   pub apart : IsDistinct (λ a b. a == b) (numbers_back v.joined)
+  pub known : AllByRecursion (λ pair. pair.0 < v.made) v.got

@@ -1,8 +1,9 @@
 //! The hub: the locked state with its lock.
-ghost use Rattle.std.specs.Prelude.{◌≡◌, ℕ, ◌+◌, ◌-◌, ◌*◌, ◌<◌, ◌≤◌, ◌^◌, ◌↔◌, true, false, Some, None, IsOk, IfErr, IfOk, if◌then◌else◌, is_ok, [], length, vec_len, vec_capacity};
+ghost use Rattle.std.specs.Prelude.{◌≡◌, ℕ, ◌+◌, ◌<◌, ◌≤◌, ◌↔◌, true, false, Some, None, IsOk, IfErr, IfOk, MatchOption, if◌then◌else◌, is_ok, [], length, sum, vec_len, vec_capacity};
 ghost use Rattle.std.specs.List.{count_by, sum_by};
-ghost use Rattle.sp_hub.specs.History.{IsLegal, is_call, is_take_by, is_put_by};
+ghost use Rattle.sp_hub.specs.History.{IsLegal, is_call, is_take_by};
 ghost use Rattle.sp_hub.specs.Calls.{posts, collects, takes, puts, fresh_seats, fresh_poster, by_seat, told_over};
+ghost use Rattle.sp_hub.specs.Collecting.{AreCollectedInOrder, AreNumbered, AreOfSeats, TellPuts};
 
 use crate::Memory;
 use crate::entry::HubEntry;
@@ -12,8 +13,10 @@ use crate::naming::Naming;
 use crate::opened::Opened;
 use crate::poster::Poster;
 use crate::seat::Seat;
+use crate::settling::{Settled, settle};
 use crate::shared::Shared;
 use crate::taken::Taken;
+use crate::way::{Way, bring, fetch, make_seat};
 use sp_base::Listed;
 use std::alloc::Global;
 use std::marker::Model;
@@ -23,7 +26,7 @@ use std::sync::{Condvar, Mutex, Wait};
 /// come.
 #[derive(Drop)]
 pub struct History {
-    /// Each call that changed the state behind the lock, in the order in which the lock was held.
+    /// Each post, each take and the closing, in the order in which the lock was held.
     pub entries: Listed<HubEntry>,
     /// How many jobs each seat took, by its number.
     pub takes: Listed<u64>,
@@ -36,7 +39,8 @@ pub struct History {
 /// An exchange that threads share. Contracts see the number of its seats and its room.
 #[derive(Drop)]
 pub struct Hub<J: Named, P: Named, L: Naming> {
-    shared: Mutex<Shared<J, P, L>>,
+    way: Way<P>,
+    shared: Mutex<Shared<J, L>>,
     // a job was listed, or the hub closed
     listed: Condvar,
     // a piece came home
@@ -56,7 +60,7 @@ impl<J: Named, P: Named, L: Naming> Model for Hub<J, P, L> {
 
     ghost view = { λ h. record { seats = h.seats; room = h.room } };
 
-    ghost invariant = { λ h. (L.parts ≡ h.seats + 1) × (h.takes.items ≡ []) × (h.puts.items ≡ []) × (h.over.items ≡ []) × (h.seats ≤ vec_capacity h.takes) × (h.seats ≤ vec_capacity h.puts) × (h.seats ≤ vec_capacity h.over) };
+    ghost invariant = { λ h. (h.way.table.shared.table_id ≡ L.table) × (L.parts ≡ h.seats + 1) × (h.takes.items ≡ []) × (h.puts.items ≡ []) × (h.over.items ≡ []) × (h.seats ≤ vec_capacity h.takes) × (h.seats ≤ vec_capacity h.puts) × (h.seats ≤ vec_capacity h.over) };
 }
 
 /// What `finish` hands back where a seat is missing.
@@ -73,35 +77,36 @@ impl<J: Named, P: Named, L: Naming> Hub<J, P, L> {
         alloc: Global,
         opened: Opened<P>,
     ) -> Result<(Hub<J, P, L>, Poster<P, L>, Vec<Seat<P, L>>), Memory>
-        requires { (opened.name ≡ L.name) × (opened.parts ≡ L.parts) }
+        requires { (opened.name ≡ L.name) × (opened.parts ≡ L.parts) × (opened.table ≡ L.table) }
         ensures hub { IfOk result (λ r. r.0 ≡ record { seats = opened.seats; room = opened.room }) }
         ensures by { IfOk result (λ r. r.1 ≡ fresh_poster opened.room) }
         ensures seats { IfOk result (λ r. r.2.items ≡ fresh_seats opened.seats) }
     {
         let Opened {
             blank,
+            way,
+            mut pass,
             seats,
             room,
-            brings: _,
         } = opened;
         let (book, mut rest) = blank.open::<L>();
-        let by = Poster::new(room, rest.split_off(1, 0));
+        let share = rest.split_off(1, 0);
         let mut made = Vec::with_capacity(alloc, seats as usize)?;
         for number in 0..seats {
-            made.push_reserved(Seat::new(number, rest.split_off(1, 0)));
+            let theirs = make_seat(&way, &mut pass);
+            made.push_reserved(Seat::new(number, rest.split_off(1, 0), theirs));
         }
-        let takes = Vec::with_capacity(alloc, seats as usize)?;
-        let puts = Vec::with_capacity(alloc, seats as usize)?;
-        let over = Vec::with_capacity(alloc, seats as usize)?;
+        let by = Poster::new(room, share, pass);
         let hub = Hub {
+            way,
             shared: Mutex::new(Shared::new(Locked::new(alloc, book)?)),
             listed: Condvar::new(),
             home: Condvar::new(),
             seats,
             room,
-            takes,
-            puts,
-            over,
+            takes: Vec::with_capacity(alloc, seats as usize)?,
+            puts: Vec::with_capacity(alloc, seats as usize)?,
+            over: Vec::with_capacity(alloc, seats as usize)?,
         };
         Ok((hub, by, made))
     }
@@ -142,31 +147,31 @@ impl<J: Named, P: Named, L: Naming> Hub<J, P, L> {
         self.shared.lock(rt).state.take(seat)
     }
 
-    /// Brings a piece home, and wakes the poster where it waits.
+    /// Brings a piece home, with no lock held, and wakes the poster where it waits. Where the queue gives the piece
+    /// back it is put again. It is counted once it is home, and the lock is let go before the poster is woken, so
+    /// that it needn't wait for it.
     pub fn put<R: Wait>(&self, rt: &R, seat: &mut Seat<P, L>, piece: P)
         requires { seat.old.holding ≡ Some (P.ticket_of piece) }
-        ensures { seat.new ≡ puts seat.old }
+        ensures { seat.new ≡ puts seat.old (P.ticket_of piece) }
     {
-        let mut piece = piece;
-        for _ in rt.forever() {
-            // The lock is let go before the poster is woken, so that it needn't wait for it.
-            let (answer, wakes) = self.shared.lock(rt).put(seat, piece);
-            if wakes {
-                self.home.notify_one();
-            }
-            match answer {
-                Ok(()) => return,
-                Err(back) => piece = back,
-            }
+        let number = seat.number;
+        bring(rt, &self.way, &mut seat.pass, number, piece);
+        seat.holding = None;
+        let wakes = self.shared.lock(rt).piece_came();
+        if wakes {
+            self.home.notify_one();
         }
-        unreachable!()
     }
 
-    /// Gives the poster the piece that came home first.
+    /// Gives the poster the piece that came home first, with no lock held. None means that none was home at one
+    /// moment of the call.
     pub fn collect<R: Wait>(&self, rt: &R, by: &mut Poster<P, L>) -> Option<P>
-        ensures { by.new ≡ collects by.old result }
+        ensures { MatchOption result (by.new ≡ by.old)
+            (λ piece. (seat : ℕ) × (by.new ≡ collects by.old seat (P.ticket_of piece))) }
     {
-        self.shared.lock(rt).state.collect(by)
+        let (_, piece) = fetch(rt, &self.way, &mut by.pass)?;
+        by.waiting = by.waiting.saturating_sub(1);
+        Some(piece)
     }
 
     /// Closes the hub, and wakes every seat that waits. Jobs that are listed can still be taken.
@@ -186,13 +191,14 @@ impl<J: Named, P: Named, L: Naming> Hub<J, P, L> {
         shared.seat_goes_on();
     }
 
-    /// Returns once a piece is home.
+    /// Returns once a piece is home that was not collected.
     pub fn wait_home<R: Wait>(&self, rt: &R, by: &Poster<P, L>)
         requires { 0 < by.now.waiting }
     {
+        let collected = by.collected();
         let mut shared = self.shared.lock(rt);
         shared.poster_waits();
-        let mut shared = self.home.wait_while(rt, shared, |s| s.state.none_home());
+        let mut shared = self.home.wait_while(rt, shared, |s| s.none_home(collected));
         shared.poster_goes_on();
     }
 
@@ -207,7 +213,12 @@ impl<J: Named, P: Named, L: Naming> Hub<J, P, L> {
         ensures counted { IfOk result
             (λ h. count_by is_call h.entries ≡ by.calls + sum_by (λ s. s.calls) seats.items) }
         ensures takes { IfOk result (λ h. h.takes ≡ by_seat is_take_by self.seats h.entries) }
-        ensures puts { IfOk result (λ h. h.puts ≡ by_seat is_put_by self.seats h.entries) }
+        ensures order { IsOk result → AreCollectedInOrder by.got seats.items }
+        ensures puts { IfOk result (λ h. (length h.puts ≡ self.seats) × TellPuts h.puts seats.items) }
+        ensures numbers { IsOk result → AreNumbered self.seats seats.items }
+        ensures known { IsOk result → AreOfSeats self.seats by.got }
+        ensures enough { IfOk result (λ h. length by.got ≤ sum h.puts) }
+        ensures fewer { IfOk result (λ h. sum h.puts ≤ sum_by (λ s. s.calls) seats.items) }
         ensures over { IfOk result (λ h. h.over ≡ told_over seats.items) }
         ensures back { IfErr result (λ u. (u.hub ≡ self) × (u.by ≡ by) × (u.seats ≡ seats)) }
     {
@@ -219,6 +230,7 @@ impl<J: Named, P: Named, L: Naming> Hub<J, P, L> {
             });
         }
         let Hub {
+            way,
             shared,
             listed: _,
             home: _,
@@ -229,13 +241,10 @@ impl<J: Named, P: Named, L: Naming> Hub<J, P, L> {
             over,
         } = self;
         let over = told_of(over, seats.as_slice());
-        let mut all = by.into_share();
-        for seat in seats {
-            all.merge(seat.into_share());
-        }
+        let puts = none_put(puts, count);
+        let Settled { mut all, puts } = settle(&way, by, seats, puts);
         let entries = shared.into_inner().into_entries(&mut all);
         let takes = takes_by_seat(takes, entries.as_slice(), count);
-        let puts = puts_by_seat(puts, entries.as_slice(), count);
         Ok(History {
             entries: Listed::of(entries),
             takes: Listed::of(takes),
@@ -258,6 +267,18 @@ fn told_of<P: Named, L: Naming>(into: Vec<u32>, seats: &[Seat<P, L>]) -> Vec<u32
     into
 }
 
+fn none_put(into: Vec<u64>, count: u32) -> Vec<u64>
+    requires { (into.items ≡ []) × (count ≤ vec_capacity into) }
+    ensures len { vec_len result ≡ count }
+    ensures none { sum result.items ≡ 0 }
+{
+    let mut into = into;
+    for _ in 0..count {
+        into.push_reserved(0);
+    }
+    into
+}
+
 fn takes_by_seat(into: Vec<u64>, entries: &[HubEntry], count: u32) -> Vec<u64>
     requires { (into.items ≡ []) × (count ≤ vec_capacity into) }
     ensures { result.items ≡ by_seat is_take_by count entries.now }
@@ -269,27 +290,10 @@ fn takes_by_seat(into: Vec<u64>, entries: &[HubEntry], count: u32) -> Vec<u64>
     into
 }
 
-fn puts_by_seat(into: Vec<u64>, entries: &[HubEntry], count: u32) -> Vec<u64>
-    requires { (into.items ≡ []) × (count ≤ vec_capacity into) }
-    ensures { result.items ≡ by_seat is_put_by count entries.now }
-{
-    let mut into = into;
-    for number in 0..count {
-        into.push_reserved(puts_of(entries, number));
-    }
-    into
-}
-
 fn takes_of(entries: &[HubEntry], seat: u32) -> u64
     ensures { result ≡ count_by (is_take_by seat) entries.now }
 {
     entries.iter().filter(|e| is_take(e, seat)).count() as u64
-}
-
-fn puts_of(entries: &[HubEntry], seat: u32) -> u64
-    ensures { result ≡ count_by (is_put_by seat) entries.now }
-{
-    entries.iter().filter(|e| is_put(e, seat)).count() as u64
 }
 
 fn is_take(entry: &HubEntry, seat: u32) -> bool
@@ -297,18 +301,6 @@ fn is_take(entry: &HubEntry, seat: u32) -> bool
 {
     match *entry {
         HubEntry::Take {
-            seat: by,
-            ticket: _,
-        } => by == seat,
-        _ => false,
-    }
-}
-
-fn is_put(entry: &HubEntry, seat: u32) -> bool
-    ensures { result ≡ is_put_by seat entry.now }
-{
-    match *entry {
-        HubEntry::Put {
             seat: by,
             ticket: _,
         } => by == seat,

@@ -1,6 +1,7 @@
-//! The hub: jobs go from one poster to the seats at which they are done, and pieces come back. Its state
-//! stands behind one lock, whose type keeps that the history of all calls replays to it (`specs/State`).
-//! What a history is stands in `specs/History`, what each call does in `specs/Calls`.
+//! The hub: jobs go from one poster to the seats at which they are done, and pieces come back. Jobs and closing
+//! stand behind one lock, whose type keeps that the history of all calls replays to them (`specs/State`); pieces
+//! come home through a queue that no lock guards, under a rule (`specs/WayHome`). What a history is stands in
+//! `specs/History`, what each call does in `specs/Calls`, what is said of the pieces in `specs/Collecting`.
 #![tactic(auto)]
 
 mod entry;
@@ -13,6 +14,7 @@ mod naming;
 mod opened;
 mod poster;
 mod seat;
+mod settling;
 mod shared;
 mod taken;
 mod tally;
@@ -20,7 +22,7 @@ mod way;
 
 pub use entry::HubEntry;
 pub use exchange::{History, Hub, Unfinished};
-pub use law::{collected_in_order, takes_follow_posts};
+pub use law::takes_follow_posts;
 pub use named::Named;
 pub use naming::Naming;
 pub use opened::Opened;

@@ -1,44 +1,47 @@
 //! What stands behind a hub's lock.
-ghost use Rattle.std.specs.Prelude.{◌≡◌, ◌+◌, ◌-◌, ◌^◌, ◌<◌, ◌↔◌, true, false, Some, IfErr, if◌then◌else◌, is_ok, length, min};
+ghost use Rattle.std.specs.Prelude.{◌≡◌, ◌+◌, ◌-◌, ◌^◌, ◌<◌, ◌≤◌, ◌↔◌, true, false, IfErr, if◌then◌else◌, is_ok, length, min};
 ghost use Rattle.std.specs.List.{count_by};
 ghost use Rattle.sp_hub.specs.History.{IsLegal, is_call};
-ghost use Rattle.sp_hub.specs.Calls.{after_post, after_put, posts, puts};
+ghost use Rattle.sp_hub.specs.Calls.{after_post, posts};
 
 use crate::entry::HubEntry;
 use crate::locked::Locked;
 use crate::named::Named;
 use crate::naming::Naming;
 use crate::poster::Poster;
-use crate::seat::Seat;
 use std::sync::ledger::Share;
 
-/// The state, and how many wait for it to change. All stand behind one lock, so that nobody sleeps through a
-/// change: who finds nothing to do is counted while it holds the lock under which it looked, and looks again
-/// whenever it wakes; who changes the state reads the counts while it holds the lock under which it did so.
-/// So a call of the system is made only where somebody waits. The counts stop at their greatest number, which
-/// takes more waiters than there can be threads.
+/// The state, how many wait for it to change, and how many pieces came home so far. All stand behind one lock, so
+/// that nobody sleeps through a change: who finds nothing to do is counted while it holds the lock under which it
+/// looked, and looks again whenever it wakes; who changes the state reads the counts while it holds the lock under
+/// which it did so. A piece is counted behind its push: where the poster finds no more counted than it collected, one
+/// that is pushed and not counted yet wakes it when it is. So a call of the system is made only where somebody waits.
+/// The counts stop at their greatest number, which takes more waiters than there can be threads, and more pieces than
+/// the queue ever takes.
 #[derive(Drop)]
-pub(crate) struct Shared<J: Named, P: Named, L: Naming> {
-    pub(crate) state: Locked<J, P, L>,
+pub(crate) struct Shared<J: Named, L: Naming> {
+    pub(crate) state: Locked<J, L>,
     pub(crate) idle_seats: u32,
     pub(crate) idle_posters: u32,
+    pub(crate) arrived: u64,
 }
 
-impl<J: Named, P: Named, L: Naming> Shared<J, P, L> {
-    /// Nobody waits yet.
-    pub(crate) fn new(state: Locked<J, P, L>) -> Shared<J, P, L>
-        ensures { result ≡ record { state = state; idle_seats = 0; idle_posters = 0 } }
+impl<J: Named, L: Naming> Shared<J, L> {
+    /// Nobody waits yet, and nothing came home.
+    pub(crate) fn new(state: Locked<J, L>) -> Shared<J, L>
+        ensures { result ≡ record { state = state; idle_seats = 0; idle_posters = 0; arrived = 0 } }
     {
         Shared {
             state,
             idle_seats: 0,
             idle_posters: 0,
+            arrived: 0,
         }
     }
 
     /// Lists a job, and answers whether a seat is to be woken for it: where one waits and more than one job is
     /// listed, since the poster's thread does one itself.
-    pub(crate) fn post(&mut self, by: &mut Poster<P, L>, job: J) -> (Result<(), J>, bool)
+    pub(crate) fn post<P: Named>(&mut self, by: &mut Poster<P, L>, job: J) -> (Result<(), J>, bool)
         requires ticket { by.old.last < J.ticket_of job }
         requires room { by.old.waiting < by.old.room }
         requires open { by.old.closed ≡ false }
@@ -47,7 +50,8 @@ impl<J: Named, P: Named, L: Naming> Shared<J, P, L> {
         ensures state { self.new.state ≡ (if is_ok result.0 then
             after_post self.old.state job (J.ticket_of job) else self.old.state) }
         ensures idle { (self.new.idle_seats ≡ self.old.idle_seats)
-            × (self.new.idle_posters ≡ self.old.idle_posters) }
+            × (self.new.idle_posters ≡ self.old.idle_posters)
+            × (self.new.arrived ≡ self.old.arrived) }
         ensures wakes { (result.1 ≡ true) ↔
             ((0 < self.old.idle_seats) × (1 < length self.new.state.jobs)) }
     {
@@ -56,20 +60,22 @@ impl<J: Named, P: Named, L: Naming> Shared<J, P, L> {
         (answer, wakes)
     }
 
-    /// Brings a piece home, and answers whether the poster is to be woken for it.
-    pub(crate) fn put(&mut self, seat: &mut Seat<P, L>, piece: P) -> (Result<(), P>, bool)
-        requires { seat.old.holding ≡ Some (P.ticket_of piece) }
-        ensures seat { seat.new ≡ (if is_ok result.0 then puts seat.old else seat.old) }
-        ensures back { IfErr result.0 (λ p. p ≡ piece) }
-        ensures state { self.new.state ≡ (if is_ok result.0 then
-            after_put self.old.state seat.old.number piece (P.ticket_of piece)
-            else self.old.state) }
-        ensures idle { (self.new.idle_seats ≡ self.old.idle_seats)
-            × (self.new.idle_posters ≡ self.old.idle_posters) }
-        ensures wakes { (result.1 ≡ true) ↔ (0 < self.old.idle_posters) }
+    /// Counts a piece that came home, and answers whether the poster is to be woken for it.
+    pub(crate) fn piece_came(&mut self) -> bool
+        ensures counted { self.new ≡ record self.old {
+          arrived = min (self.old.arrived + 1) (2 ^ 64 - 1);
+        } }
+        ensures wakes { (result ≡ true) ↔ (0 < self.old.idle_posters) }
     {
-        let answer = self.state.put(seat, piece);
-        (answer, self.idle_posters > 0)
+        self.arrived = self.arrived.saturating_add(1);
+        self.idle_posters > 0
+    }
+
+    /// Whether no piece is home, but for those that were collected.
+    pub(crate) fn none_home(&self, collected: u64) -> bool
+        ensures { (result ≡ true) ↔ (self.now.arrived ≤ collected) }
+    {
+        self.arrived <= collected
     }
 
     /// The history, beside the share that has every part of the ledger.
@@ -82,6 +88,7 @@ impl<J: Named, P: Named, L: Naming> Shared<J, P, L> {
             state,
             idle_seats: _,
             idle_posters: _,
+            arrived: _,
         } = self;
         state.into_entries(all)
     }

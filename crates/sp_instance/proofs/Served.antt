@@ -1,12 +1,15 @@
 -- What an instance did, job by job.
-use Rattle.std.proofs.Common.{◌≡◌, ℕ, List, [], ◌∷◌, ◌++◌, length, refl, sym, ap, ◌∙◌, arith}
-use Rattle.std.proofs.lemmas.List.{length-map, map-append}
+use Rattle.std.proofs.Common.{◌≡◌, ℕ, ◌+◌, List, [], ◌∷◌, ◌++◌, length, map, refl, sym, ap, ◌∙◌, append_assoc, arith}
+use Rattle.std.proofs.lemmas.List.{append-nil, length-append, length-map, map-append}
 use Rattle.sp_hub.specs.State.{Sitting}
+use Rattle.sp_hub.specs.Calls.{puts, takes}
+use Rattle.sp_hub.specs.declared.taken.Taken.{Taken}
+use Rattle.sp_hub.specs.declared.taken.Taken.TheVariants as taken
 use Rattle.std.proofs.lemmas.List.Elements.{All-nil, All-cons, All-append}
 use Rattle.sp_piece.specs.declared.job.Job.{Job}
 use Rattle.sp_piece.specs.Pieced.{Pieced}
-use Rattle.sp_instance.specs.Doing.{IsDone, Worked}
-use Rattle.sp_instance.specs.Seats.{CountsLent, PutAll}
+use Rattle.sp_instance.specs.Doing.{given_by, IsDone, Worked}
+use Rattle.sp_instance.specs.Seats.{Counts, CountsLent, PutAll}
 
 -- before the first job nothing was done
 pub none_yet : (did : List Job → List Pieced → Type 0) → did [] [] → Worked did
@@ -24,9 +27,44 @@ one_more did more job piece goes same done w = record {
   done = All-append IsDone w.pieces (piece ∷ []) w.done (All-cons IsDone piece [] done (All-nil IsDone));
 }
 
--- a seat that counts jobs and their pieces counts as many of these as of those
+-- a seat that was given a job more, or none
+pub counts_given : (old mid new : Sitting) (jobs : List Job) (pieces : List Pieced) (answer : Taken Job) → Counts old jobs pieces mid → new ≡ takes (λ (job : Job). job.ticket) mid answer → Counts old (jobs ++ given_by answer) pieces new
+counts_given old mid new jobs pieces (taken.Job job) was is =
+    let calls : new.calls ≡ mid.calls + 1 = ap (λ (s : Sitting). s.calls) is in
+    let before = was.calls in
+    let more = length-append jobs (job ∷ []) in
+    record {
+      number = ap (λ (s : Sitting). s.number) is ∙ was.number;
+      calls = omega (arith, calls, before, more);
+      put = ap (λ (s : Sitting). s.put) is ∙ was.put;
+    }
+counts_given old mid new jobs pieces taken.Empty was is = record {
+  number = ap (λ (s : Sitting). s.number) is ∙ was.number;
+  calls = ap (λ (s : Sitting). s.calls) is ∙ was.calls ∙ ap (λ (l : List Job). old.calls + length l) (sym (append-nil jobs));
+  put = ap (λ (s : Sitting). s.put) is ∙ was.put;
+}
+counts_given old mid new jobs pieces taken.Closed was is = record {
+  number = ap (λ (s : Sitting). s.number) is ∙ was.number;
+  calls = ap (λ (s : Sitting). s.calls) is ∙ was.calls ∙ ap (λ (l : List Job). old.calls + length l) (sym (append-nil jobs));
+  put = ap (λ (s : Sitting). s.put) is ∙ was.put;
+}
+
+-- a seat that put a piece more
+pub counts_put : (old mid new : Sitting) (jobs : List Job) (pieces : List Pieced) (piece : Pieced) → Counts old jobs pieces mid → new ≡ puts mid piece.job.ticket → Counts old jobs (pieces ++ piece ∷ []) new
+counts_put old mid new jobs pieces piece was is =
+    let ticket = λ (p : Pieced). p.job.ticket in
+    record {
+      number = ap (λ (s : Sitting). s.number) is ∙ was.number;
+      calls = ap (λ (s : Sitting). s.calls) is ∙ was.calls;
+      put = ap (λ (s : Sitting). s.put) is ∙ ap (λ (l : List ℕ). l ++ piece.job.ticket ∷ []) was.put ∙ append_assoc old.put (map ticket pieces) (piece.job.ticket ∷ [])
+          ∙ ap (λ (l : List ℕ). old.put ++ l) (sym (map-append ticket pieces (piece ∷ [])));
+    }
+
+-- a seat that counts jobs and their pieces put a ticket for each job
 pub put_all : (old_name new_name : ℕ) (old new : Sitting) → Worked (λ jobs pieces. CountsLent old_name new_name old jobs pieces new) → PutAll old new
 put_all old_name new_name old new w =
     let as_many : length w.pieces ≡ length w.jobs = sym (length-map w.pieces (λ (p : Pieced). p.job)) ∙ ap length w.theirs in
+    let tickets = map (λ (p : Pieced). p.job.ticket) w.pieces in
     let calls = w.were.counts.calls in
-    record { count = length w.jobs; number = w.were.counts.number; calls = omega (arith, calls, as_many) }
+    let many : length tickets ≡ length w.pieces = length-map w.pieces (λ (p : Pieced). p.job.ticket) in
+    record { tickets = tickets; number = w.were.counts.number; calls = omega (arith, calls, as_many, many); put = w.were.counts.put }

@@ -1,17 +1,19 @@
 -- What a seat shows of the jobs that were taken at it and the pieces that were put.
-use Rattle.std.specs.Prelude.{◌≡◌, ℕ, ◌+◌, ◌*◌, List, [], length}
-use Rattle.std.proofs.Common.{arith, refl}
+use Rattle.std.specs.Prelude.{◌≡◌, ℕ, ◌+◌, List, [], ◌++◌, length, map}
+use Rattle.std.proofs.Common.{arith, refl, sym}
+use Rattle.std.proofs.lemmas.List.{append-nil}
 use Rattle.sp_hub.specs.State.{Sitting}
 use Rattle.sp_piece.specs.declared.job.Job.{Job}
 use Rattle.sp_piece.specs.Pieced.{Pieced}
 
--- it counts one call for each of them, and its number stays
+-- it counts one call for each job, it put the tickets of the pieces in their order, and its number stays
 pub record Counts (old : Sitting) (jobs : List Job) (pieces : List Pieced) (new : Sitting) : Type 0 where
   pub number : new.number ≡ old.number
-  pub calls : new.calls ≡ old.calls + length jobs + length pieces
+  pub calls : new.calls ≡ old.calls + length jobs
+  pub put : new.put ≡ old.put ++ map (λ piece. piece.job.ticket) pieces
 
 pub counts_none : (seat : Sitting) → Counts seat [] [] seat
-counts_none seat = record { number = refl; calls = omega arith }
+counts_none seat = record { number = refl; calls = omega arith; put = sym (append-nil seat.put) }
 
 -- the same of a seat that is lent, and it is still the one that was lent: these are the names of the references
 pub record CountsLent (old_name new_name : ℕ) (old : Sitting) (jobs : List Job) (pieces : List Pieced) (new : Sitting) : Type 0 where
@@ -21,8 +23,9 @@ pub record CountsLent (old_name new_name : ℕ) (old : Sitting) (jobs : List Job
 pub lent_none : (name : ℕ) (seat : Sitting) → CountsLent name name seat [] [] seat
 lent_none name seat = record { lent = refl; counts = counts_none seat }
 
--- as many pieces were put as jobs were taken, and its number stays
+-- as many tickets were put as jobs were taken, and its number stays
 pub record PutAll (old new : Sitting) : Type 0 where
-  pub count : ℕ
+  pub tickets : List ℕ
   pub number : new.number ≡ old.number
-  pub calls : new.calls ≡ old.calls + 2 * count
+  pub calls : new.calls ≡ old.calls + length tickets
+  pub put : new.put ≡ old.put ++ tickets

@@ -9,7 +9,7 @@ use Rattle.sp_hub.specs.declared.entry.HubEntry.{HubEntry}
 use Rattle.sp_hub.specs.declared.exchange.History.{History}
 use Rattle.sp_hub.specs.Calls.{by_seat}
 use mathlib.Core.List.{IsPrefix}
-use Rattle.sp_hub.specs.History.{is_take_by, is_put_by, IsLegal, taken, posted, collected, brought}
+use Rattle.sp_hub.specs.History.{is_take_by, IsLegal, taken, posted}
 use Rattle.sp_core.specs.Running.{Running}
 use Rattle.sp_ports.specs.Taking.{OutletState}
 use Rattle.sp_spread.specs.Journaled.{MakesNoChild}
@@ -24,16 +24,18 @@ seats_are : (n : ℕ) → 0 < n → seats_for n ≡ n + 1
 seats_are zero some = absurd (omega (arith, some))
 seats_are (suc n) some = refl
 
-pub came_about : (n : ℕ) (c : Running) (calls : ℕ) (h : History) → 0 < n → CameBy n c calls → WoundUp (n + 1) calls h → ReturnsFollowReadings → CameAbout n c h
-came_about n c calls h some came wound law = record {
+pub came_about : (n : ℕ) (c : Running) (collected : ℕ) (h : History) → 0 < n → CameBy n c collected → WoundUp (n + 1) collected h → ReturnsFollowReadings → CameAbout n c h
+came_about n c collected h some came wound law = record {
   alone = λ none. absurd (omega (arith, some, none));
   spread = λ _. came.spread;
   few = λ _. came.few;
   never = λ _. came.never;
-  calls = λ _. let low = law c.journal in let read = came.read in let enough = wound.called in omega arith;
+  calls = λ _. let low = law c.journal in let read = came.read in let enough = wound.enough in let fewer = wound.fewer in omega arith;
   legal = wound.legal;
   takes = wound.takes ∙ ap (λ (k : ℕ). by_seat is_take_by k h.entries) (sym (seats_are n some));
-  puts = wound.puts ∙ ap (λ (k : ℕ). by_seat is_put_by k h.entries) (sym (seats_are n some));
+  puts = wound.puts ∙ sym (seats_are n some);
+  read = λ _. let low = law c.journal in let read = came.read in let enough = wound.enough in omega arith;
+  fewer = wound.fewer;
   over = λ seat some few. wound.over seat some (omega (arith, few));
 }
 
@@ -44,7 +46,6 @@ take_none (suc k) = refl
 no_entry_legal : IsLegal []
 no_entry_legal = record {
   takes = λ k. subst (λ (l : List HubEntry). IsPrefix (taken l) (posted l)) (sym (take_none k)) ([], refl);
-  collects = λ k. subst (λ (l : List HubEntry). IsPrefix (collected l) (brought l)) (sym (take_none k)) ([], refl);
   closes = omega arith;
 }
 
@@ -59,6 +60,8 @@ came_alone c h alone none = subst (CameAbout 0 c) (sym none) (record {
   legal = no_entry_legal;
   takes = refl;
   puts = refl;
+  read = λ no. absurd (omega (arith, no));
+  fewer = omega arith;
   over = λ seat some few. absurd (omega (arith, some, few));
 })
 
@@ -74,13 +77,13 @@ fell_at_once gave ended q s given = record {
 }
 
 -- what was served, with what the hub did
-pub ends_with : {E : Type 0} (gave : List Event → Type 0) (ended : Bool) (stopped : Type 0) (n batch : ℕ) (c : Running) (old new : OutletState) (end : Result went.Went E) (calls : ℕ) (history : History)
-    → Serves gave ended stopped n batch c old new end calls → 0 < n → WoundUp (n + 1) calls history → ReturnsFollowReadings
+pub ends_with : {E : Type 0} (gave : List Event → Type 0) (ended : Bool) (stopped : Type 0) (n batch : ℕ) (c : Running) (old new : OutletState) (end : Result went.Went E) (collected : ℕ) (history : History)
+    → Serves gave ended stopped n batch c old new end collected → 0 < n → WoundUp (n + 1) collected history → ReturnsFollowReadings
     → Ends gave ended stopped n batch c old new (ending history end)
-ends_with gave ended stopped n batch c old new (Ok w) calls history served some wound law = record {
+ends_with gave ended stopped n batch c old new (Ok w) collected history served some wound law = record {
   drove = served.drove;
-  about = came_about n w.core calls history some served.came wound law;
+  about = came_about n w.core collected history some served.came wound law;
   asked = served.asked;
   short = tt;
 }
-ends_with gave ended stopped n batch c old new (Err e) calls history served some wound law = record { drove = tt; about = tt; asked = tt; short = served.short }
+ends_with gave ended stopped n batch c old new (Err e) collected history served some wound law = record { drove = tt; about = tt; asked = tt; short = served.short }

@@ -1,6 +1,6 @@
 -- What a run of a core comes to, from an intake to an outlet.
-use Rattle.std.specs.Prelude.{◌≡◌, ◌≢◌, ◌⊎◌, ℕ, zero, suc, ◌+◌, ◌<◌, ◌≤◌, Bool, true, false, List, [], ◌∷◌, ◌++◌}
-use Rattle.std.specs.List.{count_by, Contains}
+use Rattle.std.specs.Prelude.{◌≡◌, ◌≢◌, ◌⊎◌, ℕ, zero, suc, ◌+◌, ◌<◌, ◌≤◌, Bool, true, false, List, [], ◌∷◌, ◌++◌, length}
+use Rattle.std.specs.List.{count_by, sum, Contains}
 use Rattle.sp_base.specs.Limits.{batch_limit}
 use Rattle.sp_io.specs.Outside.{Rose}
 use Rattle.sp_plan.specs.declared.event.Event.{Event}
@@ -10,7 +10,7 @@ use Rattle.sp_plan.specs.Sequential.{whole}
 use Rattle.sp_plan.specs.Windows.{closed}
 use Rattle.sp_hub.specs.declared.exchange.History.{History}
 use Rattle.sp_hub.specs.Calls.{by_seat}
-use Rattle.sp_hub.specs.History.{is_call, is_put_by, is_take_by, IsLegal}
+use Rattle.sp_hub.specs.History.{is_call, is_take_by, IsLegal}
 use Rattle.sp_group.specs.Steps.{Spread, out_count}
 use Rattle.sp_core.specs.Running.{Running}
 use Rattle.sp_ports.specs.Taking.{OutletState, Took, TookFirst, FailedAt}
@@ -81,5 +81,8 @@ pub record CameAbout (instances : ℕ) (c : Running) (h : History) : Type 0 wher
   pub calls : 0 < instances → returns_read c.journal ≤ count_by is_call h.entries
   pub legal : IsLegal h.entries
   pub takes : h.takes ≡ by_seat is_take_by (seats_for instances) h.entries
-  pub puts : h.puts ≡ by_seat is_put_by (seats_for instances) h.entries
+  pub puts : length h.puts ≡ seats_for instances
+  -- as many pieces were put at least as were read and came home, and no more than calls
+  pub read : 0 < instances → returns_read c.journal ≤ sum h.puts
+  pub fewer : sum h.puts ≤ count_by is_call h.entries
   pub over : (seat : ℕ) → 0 < seat → seat ≤ instances → Contains h.over seat

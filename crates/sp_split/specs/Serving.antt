@@ -1,13 +1,13 @@
 -- What a splitter does between an intake and an outlet.
-use Rattle.std.specs.Prelude.{◌≡◌, ℕ, ◌+◌, ◌<◌, ◌≤◌, Bool, false, List, None, Ok, Err, IfOk, OnErr}
+use Rattle.std.specs.Prelude.{◌≡◌, ℕ, ◌+◌, ◌<◌, ◌≤◌, Bool, false, List, length, None, Ok, Err, IfOk, OnErr}
 use Rattle.std.specs.declared.result.Result.{Result}
 use Rattle.sp_plan.specs.declared.event.Event.{Event}
 use Rattle.sp_plan.specs.declared.found.Match.{Match}
 use Rattle.sp_plan.specs.declared.plan.Plan.{Plan}
-use Rattle.std.specs.List.{count_by, Contains}
+use Rattle.std.specs.List.{count_by, sum, Contains}
 use Rattle.sp_base.specs.Limits.{batch_limit}
 use Rattle.sp_hub.specs.Calls.{by_seat}
-use Rattle.sp_hub.specs.History.{is_call, is_put_by, is_take_by, IsLegal}
+use Rattle.sp_hub.specs.History.{is_call, is_take_by, IsLegal}
 use Rattle.sp_hub.specs.State.{Posting, Sitting}
 use Rattle.sp_hub.specs.declared.exchange.History.{History}
 use Rattle.sp_piece.specs.declared.job.Job.{Job}
@@ -48,28 +48,29 @@ pub record WentWith (n batch : ℕ) (old new : Running) (fact : List Match → T
   pub went : Went n batch old new
   pub so : fact went.more
 
--- How a run with n instances came about: its journal is spread, no more tickets are out than there may be, and the poster made a call
--- for each reading that stands in the journal.
-pub record CameBy (n : ℕ) (c : Running) (calls : ℕ) : Type 0 where
+-- How a run with n instances came about: its journal is spread, no more tickets are out than there may be, and as many
+-- tickets were collected at least as readings stand in the journal.
+pub record CameBy (n : ℕ) (c : Running) (collected : ℕ) : Type 0 where
   pub spread : Spread c.plan c.bound n c.journal
   pub few : out_count c.machine ≤ n + 1
   -- nor were more out at any time
   pub never : NeverMore c.plan c.bound n c.journal
-  pub read : readings_entered c.journal ≤ calls
+  pub read : readings_entered c.journal ≤ collected
 
--- What a hub of so many seats did, as its history tells it, where its poster made at least so many calls: each seat but that of number 0 was
+-- What a hub of so many seats did, as its history tells it, where its poster collected so many tickets: each seat but that of number 0 was
 -- answered last that no job will come.
-pub record WoundUp (seats calls : ℕ) (h : History) : Type 0 where
+pub record WoundUp (seats collected : ℕ) (h : History) : Type 0 where
   pub legal : IsLegal h.entries
-  pub called : calls ≤ count_by is_call h.entries
+  pub enough : collected ≤ sum h.puts
+  pub fewer : sum h.puts ≤ count_by is_call h.entries
   pub takes : h.takes ≡ by_seat is_take_by seats h.entries
-  pub puts : h.puts ≡ by_seat is_put_by seats h.entries
+  pub puts : length h.puts ≡ seats
   pub over : (seat : ℕ) → 0 < seat → seat < seats → Contains h.over seat
 
--- A splitter served n instances by a batch, and ended so, with so many calls of its poster.
-pub record Serves {E : Type 0} (gave : List Event → Type 0) (ended : Bool) (stopped : Type 0) (n batch : ℕ) (c : Running) (old new : OutletState) (end : Result went.Went E) (calls : ℕ) : Type 0 where
+-- A splitter served n instances by a batch, and ended so, and its poster collected so many tickets.
+pub record Serves {E : Type 0} (gave : List Event → Type 0) (ended : Bool) (stopped : Type 0) (n batch : ℕ) (c : Running) (old new : OutletState) (end : Result went.Went E) (collected : ℕ) : Type 0 where
   pub drove : IfOk end (λ went. Drove gave ended stopped c old new went)
-  pub came : IfOk end (λ went. CameBy n went.core calls)
+  pub came : IfOk end (λ went. CameBy n went.core collected)
   pub asked : IfOk end (λ went. AsksAtMost batch went.core.journal)
   pub short : OnErr end (FellShort gave ended c.plan old new)
 

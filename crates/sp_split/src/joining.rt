@@ -61,7 +61,7 @@ fn beside<L: Naming + Send + Sync, I: Intake, O: Outlet, G: Gate, R: Threads + W
         (I.ended result.2.intake)
         (Rose (I.stops ways.intake) (I.stops result.2.intake))
         desk.splitter.instances desk.splitter.batch desk.splitter.core
-        (O.state ways.outlet) (O.state result.2.outlet) result.1.end result.1.by.calls }
+        (O.state ways.outlet) (O.state result.2.outlet) result.1.end (length result.1.by.got) }
     ensures same { (I.plan result.2.intake ≡ I.plan ways.intake)
         × (I.token result.2.intake ≡ I.token ways.intake) }
     ensures same_out { (O.plan result.2.outlet ≡ O.plan ways.outlet)
@@ -94,7 +94,8 @@ fn beside<L: Naming + Send + Sync, I: Intake, O: Outlet, G: Gate, R: Threads + W
             ensures served { Serves (λ events. I.gave ways.intake events result.1.intake)
                 (I.ended result.1.intake) (Rose (I.stops ways.intake) (I.stops result.1.intake))
                 desk.splitter.instances desk.splitter.batch desk.splitter.core
-                (O.state ways.outlet) (O.state result.1.outlet) result.0.end result.0.by.calls }
+                (O.state ways.outlet) (O.state result.1.outlet) result.0.end
+                (length result.0.by.got) }
             ensures same { (I.plan result.1.intake ≡ I.plan ways.intake)
                 × (I.token result.1.intake ≡ I.token ways.intake) }
             ensures same_out { (O.plan result.1.outlet ≡ O.plan ways.outlet)
@@ -119,7 +120,7 @@ fn wind_up<L: Naming>(
     requires room { vec_len others < vec_capacity others }
     requires numbers { map (λ s. s.number) others.items ≡ range_with_len 1 (vec_len others) }
     requires over { All (λ s. s.over ≡ true) others.items }
-    ensures { WoundUp hub.seats by.calls result }
+    ensures { WoundUp hub.seats (length by.got) result }
 {
     let mut seats = others;
     seats.push_reserved(mine);
@@ -145,7 +146,8 @@ pub(crate) fn under<
     gate: &G,
     ways: Ways<I, O>,
 ) -> (Result<Ended, Memory>, Ways<I, O>)
-    requires name { (opened.name ≡ L.name) × (opened.parts ≡ L.parts) }
+    requires name { (opened.name ≡ L.name) × (opened.parts ≡ L.parts)
+        × (opened.table ≡ L.table) }
     requires places { (opened.seats ≡ splitter.instances + 1)
         × (opened.room ≡ splitter.instances + 1) }
     requires fresh { splitter.core ≡ begun splitter.core.plan splitter.core.bound }

@@ -1,11 +1,11 @@
 // A splitter serves its instances, between an intake and an outlet.
-ghost use Rattle.std.specs.Prelude.{◌≡◌, ◌≢◌, ◌≤◌, true, false, None, List, Err, IfOk, OnOk, OnErr};
+ghost use Rattle.std.specs.Prelude.{◌≡◌, ◌≢◌, ◌≤◌, true, false, None, List, length, Err, IfOk, OnOk, OnErr};
 ghost use Rattle.sp_io.specs.Outside.{Rose};
 ghost use Rattle.sp_ports.specs.Taking.{Took, TookFirst};
 ghost use Rattle.sp_ports.specs.declared.outlet.OutFault.TheVariants as o;
 ghost use Rattle.sp_core.specs.Running.{begun};
 ghost use Rattle.sp_spread.specs.Limiting.{AsksAtMost};
-ghost use Rattle.sp_splitter.specs.Stages.{Goes, ReadByCalls};
+ghost use Rattle.sp_splitter.specs.Stages.{Goes, ReadOfCollected};
 ghost use Rattle.sp_split.specs.Driving.{Drove, FailedWithin, FellShort};
 ghost use Rattle.sp_split.specs.Serving.{CameBy, CanTurn, Serves, WentWith};
 ghost use Rattle.sp_split.specs.Stages.{AllFinished};
@@ -75,7 +75,7 @@ fn turn_once<L: Naming, O: Outlet, R: Wait>(
         → (O.state outlet.new).faults ≡ (O.state outlet.old).faults }
     ensures goes { OnOk result (Goes desk.old.splitter.instances desk.old.splitter.core
         desk.new.splitter.core) }
-    ensures read { ReadByCalls desk.old.splitter.core desk.new.splitter.core
+    ensures read { ReadOfCollected desk.old.splitter.core desk.new.splitter.core
         desk.old.by desk.new.by }
     ensures can { OnOk result (CanTurn desk.new.splitter.instances desk.new.splitter.batch
         desk.new.splitter.kept.items desk.new.splitter.core.machine.next_ticket desk.new.by) }
@@ -160,7 +160,7 @@ fn feed_and_turn<I: Intake, O: Outlet, L: Naming, G: Gate, R: Wait>(
         (Rose (I.stops intake.old) (I.stops intake.new)) desk.old.splitter.core (O.state outlet.old)
         (O.state outlet.new) (record { core = desk.new.splitter.core; why = why })) }
     ensures came { OnOk result (CameBy desk.old.splitter.instances desk.new.splitter.core
-        desk.new.by.calls) }
+        (length desk.new.by.got)) }
     ensures asked { OnOk result (AsksAtMost desk.old.splitter.batch desk.new.splitter.core.journal) }
     ensures short { OnErr result
         (FellShort (λ events. I.gave intake.old events intake.new) (I.ended intake.new)
@@ -210,7 +210,7 @@ pub(crate) fn serve<I: Intake, O: Outlet, L: Naming, G: Gate, R: Wait>(
     requires outlet_plan { O.plan outlet.old ≡ desk.splitter.core.plan }
     ensures served { Serves (λ events. I.gave intake.old events intake.new) (I.ended intake.new)
         (Rose (I.stops intake.old) (I.stops intake.new)) desk.splitter.instances desk.splitter.batch
-        desk.splitter.core (O.state outlet.old) (O.state outlet.new) result.end result.by.calls }
+        desk.splitter.core (O.state outlet.old) (O.state outlet.new) result.end (length result.by.got) }
     ensures same { (I.plan intake.new ≡ I.plan intake.old)
         × (I.token intake.new ≡ I.token intake.old) }
     ensures same_out { (O.plan outlet.new ≡ O.plan outlet.old)

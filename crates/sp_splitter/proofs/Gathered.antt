@@ -1,5 +1,6 @@
 -- What comes of pieces that are given back.
-use Rattle.std.proofs.Common.{◌≡◌, ℕ, ◌+◌, ◌≤◌, true, false, List, [], ◌++◌, Option, Some, None, is_some, refl, sym, ap, ◌∙◌, arith}
+use Rattle.std.proofs.Common.{◌≡◌, ℕ, ◌+◌, ◌≤◌, true, false, List, [], ◌∷◌, ◌++◌, length, Option, Some, None, is_some, refl, sym, ap, ◌∙◌, arith}
+use Rattle.std.proofs.lemmas.List.{length-append}
 use Rattle.std.proofs.lemmas.List.Folds.{flat_map-map}
 use Rattle.sp_chance.proofs.Teaching.{taught_none, taught_then}
 use Rattle.sp_match.specs.declared.moves.Moves.{Moves}
@@ -18,7 +19,7 @@ use Rattle.sp_core.specs.Running.{IsDone, Running}
 use Rattle.sp_spread.specs.Journaled.{readings_entered}
 use Rattle.sp_splitter.specs.Gathering.{AreTold, Gathered, IsLearned, IsLesson, none_back, one_back, wanted_of}
 use Rattle.sp_splitter.specs.Knowing.{Known}
-use Rattle.sp_splitter.specs.Stages.{Collected, Goes, NoneEmitted, ReadByCalls, Went}
+use Rattle.sp_splitter.specs.Stages.{Collected, Goes, NoneEmitted, ReadOfCollected, Went}
 use Rattle.sp_splitter.proofs.Stepping.{back_done, goes_back, goes_homecoming, goes_none, goes_then, none_emitted_back, none_emitted_homecoming, none_read_back, one_read, went_back, went_homecoming, went_none, went_then}
 
 -- a piece was given back, or nothing was done
@@ -68,7 +69,7 @@ pub record BringsAll (old new : Running) (before after : Posting) : Type 0 where
   pub went : (n batch : ℕ) → Went n batch old new
   pub goes : (n : ℕ) → Goes n old new
   pub emitted : NoneEmitted old new
-  pub read : ReadByCalls old new before after
+  pub read : ReadOfCollected old new before after
   pub by : Collected before after
 
 pub brings_all_none : (c : Running) (by : Posting) → BringsAll c c by by
@@ -77,14 +78,14 @@ brings_all_none c by = record {
   goes = λ n. goes_none n c c refl;
   emitted = refl;
   read = omega arith;
-  by = record { last = refl; room = refl; closed = refl };
+  by = record { last = refl; room = refl; closed = refl; calls = refl };
 }
 
 -- one more
-pub brings_all_then : {P : Type 0} (a b c : Running) (first second third : Posting) (piece : P) → BringsAll a b first second → Brings b c → third ≡ collects second (Some piece)
-    → BringsAll a c first third
-brings_all_then a b c first second third piece all one is =
-    let call : third.calls ≡ second.calls + 1 = ap (λ (z : Posting). z.calls) is in
+pub brings_all_then : (a b c : Running) (first second third : Posting) (seat ticket : ℕ) → BringsAll a b first second → Brings b c → third ≡ collects second seat ticket → BringsAll a c first third
+brings_all_then a b c first second third seat ticket all one is =
+    let calls : third.calls ≡ second.calls = ap (λ (z : Posting). z.calls) is in
+    let got : length third.got ≡ length second.got + 1 = ap (λ (z : Posting). length z.got) is ∙ length-append second.got ((seat, ticket) ∷ []) in
     let read = all.read in
     let more = one.read in
     record {
@@ -96,6 +97,7 @@ brings_all_then a b c first second third piece all one is =
         last = ap (λ (z : Posting). z.last) is ∙ all.by.last;
         room = ap (λ (z : Posting). z.room) is ∙ all.by.room;
         closed = ap (λ (z : Posting). z.closed) is ∙ all.by.closed;
+        calls = calls ∙ all.by.calls;
       };
     }
 
@@ -122,15 +124,15 @@ pub gathered_none : (taught : List (ℕ × ℕ) → Type 0) (c : Running) (by : 
 gathered_none taught c by = record { count = 0; pairs = []; back = none_back; collected = omega arith; taught_on = taught_none taught }
 
 -- one piece more
-pub gathered_then : {P : Type 0} (first then last : List (ℕ × ℕ) → Type 0) (a b c : Running) (x y z : Posting) (piece : P) (p : Pieced) (given : Given)
-    → Gathered first then a b x y → IsLearned then last b p → IsGiven b c p given → z ≡ collects y (Some piece) → Gathered first last a c x z
-gathered_then first then last a b c x y z piece p given all one back is =
-    let call : z.calls ≡ y.calls + 1 = ap (λ (w : Posting). w.calls) is in
-    let calls : y.calls ≡ x.calls + all.count = all.collected in
+pub gathered_then : (first then last : List (ℕ × ℕ) → Type 0) (a b c : Running) (x y z : Posting) (seat ticket : ℕ) (p : Pieced) (given : Given)
+    → Gathered first then a b x y → IsLearned then last b p → IsGiven b c p given → z ≡ collects y seat ticket → Gathered first last a c x z
+gathered_then first then last a b c x y z seat ticket p given all one back is =
+    let more : length z.got ≡ length y.got + 1 = ap (λ (w : Posting). length w.got) is ∙ length-append y.got ((seat, ticket) ∷ []) in
+    let before : length y.got ≡ length x.got + all.count = all.collected in
     record {
       count = all.count + 1;
       pairs = all.pairs ++ one.lesson;
       back = one_back b c all.count all.pairs one.lesson p given all.back one.is back;
-      collected = omega (arith, call, calls);
+      collected = omega (arith, more, before);
       taught_on = taught_then first then last all.pairs one.lesson all.taught_on one.taught_on;
     }

@@ -1,5 +1,5 @@
 -- What comes home in a turn, and what is learned of it.
-use Rattle.std.specs.Prelude.{◌≡◌, ℕ, ◌+◌, List, [], ◌++◌, Option, Some, None}
+use Rattle.std.specs.Prelude.{◌≡◌, ℕ, ◌+◌, List, [], ◌++◌, length, Option, Some, None}
 use Rattle.std.specs.List.{flat_map}
 use Rattle.sp_chance.specs.Taught.{TaughtOn}
 use Rattle.sp_plan.specs.Runs.{State}
@@ -45,5 +45,5 @@ pub record Gathered (taught_before taught : List (ℕ × ℕ) → Type 0) (old n
   pub count : ℕ
   pub pairs : List (ℕ × ℕ)
   pub back : GivesBack old new count pairs
-  pub collected : after.calls ≡ before.calls + count
+  pub collected : length after.got ≡ length before.got + count
   pub taught_on : TaughtOn taught_before pairs taught

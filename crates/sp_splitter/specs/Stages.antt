@@ -1,5 +1,5 @@
 -- What each stage of a turn does to a core.
-use Rattle.std.specs.Prelude.{◌≡◌, ℕ, ◌+◌, ◌≤◌, false, List, ◌++◌}
+use Rattle.std.specs.Prelude.{◌≡◌, ℕ, ◌+◌, ◌≤◌, false, List, ◌++◌, length}
 use Rattle.std.specs.List.{All, flat_map}
 use Rattle.sp_plan.specs.declared.found.Match.{Match}
 use Rattle.sp_hub.specs.State.{Posting}
@@ -55,15 +55,16 @@ NoneEmitted old new = new.machine.emitted ≡ old.machine.emitted
 abbrev pub NoneRead : Running → Running → Type 0
 NoneRead old new = readings_entered new.journal ≡ readings_entered old.journal
 
--- each reading that came into the journal has a call of the poster of its own
-abbrev pub ReadByCalls : Running → Running → Posting → Posting → Type 0
-ReadByCalls old new before after = readings_entered new.journal + before.calls ≤ readings_entered old.journal + after.calls
+-- each reading that came into the journal has a ticket of its own that the poster collected
+abbrev pub ReadOfCollected : Running → Running → Posting → Posting → Type 0
+ReadOfCollected old new before after = readings_entered new.journal + length before.got ≤ readings_entered old.journal + length after.got
 
 -- the poster collected, and no more
 pub record Collected (old new : Posting) : Type 0 where
   pub last : new.last ≡ old.last
   pub room : new.room ≡ old.room
   pub closed : new.closed ≡ old.closed
+  pub calls : new.calls ≡ old.calls
 
 -- all matches of windows that were finished
 abbrev pub matches_of : List Emitted → List Match

@@ -15,7 +15,7 @@ use Rattle.sp_splitter.specs.Gathering.{Gathered}
 use Rattle.sp_splitter.specs.Lending.{Leases, DropsStale}
 use Rattle.sp_splitter.specs.Planting.{Plants}
 use Rattle.sp_splitter.specs.Rolling.{Rolls}
-use Rattle.sp_splitter.specs.Stages.{Goes, ReadByCalls, SendsNone, Went, matches_of}
+use Rattle.sp_splitter.specs.Stages.{Goes, ReadOfCollected, SendsNone, Went, matches_of}
 
 -- The state of a splitter behind a turn: how many instances there are and what a lease asks for at most; what the predictor may have been
 -- taught before, and now, and what it means; the chances; the jobs that were kept before, and those that are kept now; and the poster before,
@@ -80,7 +80,7 @@ pub record Turned (o : Outlook) (old new : Running) (finished : List Emitted) : 
   -- then work was sent out
   pub sendable : List Job
   pub sent : SentOut (share_of o.chances) o.instances o.batch planted new o.kept_before sendable
-  -- each reading that came home has a call of its own; then each job was posted by a call, or is kept
-  pub came : ReadByCalls old new o.before collected
+  -- each reading that came home has a ticket of its own that was collected; then each job was posted by a call, or is kept
+  pub came : ReadOfCollected old new o.before collected
   pub each : o.by.calls + length o.kept ≡ collected.calls + length sendable
   pub goes : Goes o.instances old new

@@ -4,7 +4,7 @@ ghost use Rattle.sp_core.specs.declared.given.Given as home;
 ghost use Rattle.sp_core.specs.Returning.{IsGiven};
 ghost use Rattle.sp_spread.specs.Journaled.{readings_entered};
 ghost use Rattle.sp_splitter.specs.Gathering.{Gathered, IsLearned};
-ghost use Rattle.sp_splitter.specs.Stages.{Collected, Goes, NoneEmitted, ReadByCalls, Went};
+ghost use Rattle.sp_splitter.specs.Stages.{Collected, Goes, NoneEmitted, ReadOfCollected, Went};
 
 use crate::learning::learn;
 use crate::unheard::Readings;
@@ -59,7 +59,7 @@ pub(crate) fn gather<L: Naming, R: Wait>(
     ensures went { (n batch : ℕ) → Went n batch core.old core.new }
     ensures goes { OnOk result ((n : ℕ) → Goes n core.old core.new) }
     ensures emitted { NoneEmitted core.old core.new }
-    ensures read { ReadByCalls core.old core.new by.old by.new }
+    ensures read { ReadOfCollected core.old core.new by.old by.new }
     ensures by { Collected by.old by.new }
     ensures gathered { OnOk result (Gathered (taught predictor.old) (taught predictor.new)
         core.old core.new by.old by.new) }

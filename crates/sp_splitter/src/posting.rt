@@ -46,7 +46,7 @@ pub(crate) fn post_kept<L: Naming, R: Wait>(
     requires last { (high : ℕ) × IsBelowKept by.old.last kept.old.items high }
     ensures room { by.new.room ≡ by.old.room }
     ensures open { by.new.closed ≡ false }
-    ensures calls { by.old.calls ≤ by.new.calls }
+    ensures got { by.new.got ≡ by.old.got }
     ensures each { OnOk result (by.new.calls + length kept.new.items
         ≡ by.old.calls + length kept.old.items) }
     ensures all { OnOk result ((kept.new.items ≡ []) ⊎ (by.new.room ≤ by.new.waiting)) }

@@ -6,7 +6,7 @@ ghost use Rattle.sp_group.specs.Steps.{out_count};
 ghost use Rattle.sp_core.specs.Faults.{IsFault};
 ghost use Rattle.sp_core.specs.Running.{IsDone, refused};
 ghost use Rattle.sp_splitter.specs.Splitting.{IsBelowKept};
-ghost use Rattle.sp_splitter.specs.Stages.{Goes, ReadByCalls, StaysWithin, Went};
+ghost use Rattle.sp_splitter.specs.Stages.{Goes, ReadOfCollected, StaysWithin, Went};
 ghost use Rattle.sp_splitter.specs.Turning.{Turned};
 
 use crate::gathering::gather;
@@ -145,7 +145,7 @@ impl Splitter {
         requires last { IsBelowKept by.old.last self.old.kept.items
             self.old.core.machine.next_ticket }
         ensures went { Went self.old.instances self.old.batch self.old.core self.new.core }
-        ensures read { ReadByCalls self.old.core self.new.core by.old by.new }
+        ensures read { ReadOfCollected self.old.core self.new.core by.old by.new }
         ensures rest { (self.new.instances ≡ self.old.instances)
             × (self.new.batch ≡ self.old.batch) }
         ensures room { by.new.room ≡ by.old.room }

@@ -32,7 +32,8 @@ fn by_hand<L: Naming, R: Wait + Abort>(
     alloc: Global,
     opened: Opened<Note>,
 ) -> Result<(), Fail>
-    requires ledger { (opened.name ≡ L.name) × (opened.parts ≡ L.parts) }
+    requires ledger { (opened.name ≡ L.name) × (opened.parts ≡ L.parts)
+        × (opened.table ≡ L.table) }
     requires one { (opened.seats ≡ 1) × (opened.room ≡ 1) }
 {
     let (hub, mut by, mut seats) = Hub::<Note, Note, L>::new(alloc, opened)?;
@@ -114,8 +115,6 @@ fn has_history<L: Naming, R: Abort>(
     let expected = [
         HubEntry::Post { ticket: 1 },
         HubEntry::Take { seat: 0, ticket: 1 },
-        HubEntry::Put { seat: 0, ticket: 1 },
-        HubEntry::Collect { ticket: 1 },
         HubEntry::Close,
     ];
     assert!(rt; history.entries.as_slice() == expected.as_slice());

@@ -1,5 +1,5 @@
 //! What no contract says of the threads, below whole runs: that jobs are done at two seats at once; that those who wait
-//! at a hub are woken; that a turn leases what it made and lets the predictor learn; and single calls of a hub, a store,
+//! at a hub are woken, also where many tickets pass; that a turn leases what it made and lets the predictor learn; and single calls of a hub, a store,
 //! labels and a tree. Tests, and what they and the tests of whole runs look through.
 #![tactic(auto)]
 
@@ -9,6 +9,8 @@ mod feeding;
 #[cfg(test)]
 mod hubs;
 mod meeting;
+#[cfg(test)]
+mod passing;
 #[cfg(test)]
 mod single;
 #[cfg(test)]

@@ -39,7 +39,8 @@ fn leases_what_it_made<L: Naming + Send + Sync, R: Threads + Wait + Abort + Sync
     alloc: Global,
     opened: Opened<Piece>,
 ) -> Result<(), Fail>
-    requires named { (opened.name ≡ L.name) × (opened.parts ≡ L.parts) }
+    requires named { (opened.name ≡ L.name) × (opened.parts ≡ L.parts)
+        × (opened.table ≡ L.table) }
     requires three { (opened.seats ≡ 3) × (opened.room ≡ 3) }
 {
     let even = Box::new(alloc, Even::new())?;
@@ -94,7 +95,7 @@ fn is_home<L: Naming, R: Wait>(
     }
 }
 
-// Two jobs have four entries each, and the closing has one; each seat put what it took.
+// Two jobs have two entries each, and the closing has one; each seat put what it took.
 fn were_done<L: Naming, R: Abort>(
     rt: &R,
     hub: Hub<Job, Piece, L>,
@@ -104,7 +105,7 @@ fn were_done<L: Naming, R: Abort>(
     let Ok(history) = hub.finish(by, seats) else {
         return Err("all seats".into());
     };
-    assert!(rt; history.entries.as_slice().len() == 9);
+    assert!(rt; history.entries.as_slice().len() == 5);
     assert!(rt; history.takes.as_slice() == history.puts.as_slice());
     Ok(())
 }
@@ -120,7 +121,8 @@ fn lets_the_predictor_learn<L: Naming, R: Wait + Abort>(
     alloc: Global,
     opened: Opened<Piece>,
 ) -> Result<(), Fail>
-    requires named { (opened.name ≡ L.name) × (opened.parts ≡ L.parts) }
+    requires named { (opened.name ≡ L.name) × (opened.parts ≡ L.parts)
+        × (opened.table ≡ L.table) }
     requires one { (opened.seats ≡ 1) × (opened.room ≡ 2) }
 {
     let mut splitter = one_short(alloc)?;

@@ -115,7 +115,8 @@ fn meet<L: Naming + Send + Sync, R: Threads + Wait + Abort + Sync>(
     opened: Opened<Note>,
     scene: Scene,
 ) -> Result<(), Fail>
-    requires { (opened.name ≡ L.name) × (opened.parts ≡ L.parts) }
+    requires { (opened.name ≡ L.name) × (opened.parts ≡ L.parts)
+        × (opened.table ≡ L.table) }
 {
     let (hub, by, seats) = Hub::<Note, Note, L>::new(alloc, opened)?;
     let mut parts = parts_of(rt, alloc, &hub, by, seats, scene)?;
@@ -200,7 +201,7 @@ fn act<L: Naming, R: Wait + Abort>(rt: &R, hub: &Hub<Note, Note, L>, part: &mut 
 }
 
 // Posts a job of this ticket.
-fn post<L: Naming, R: Wait + Abort>(
+pub(crate) fn post<L: Naming, R: Wait + Abort>(
     rt: &R,
     hub: &Hub<Note, Note, L>,
     by: &mut Poster<Note, L>,

@@ -1,5 +1,6 @@
 -- The closure that each instance runs captures four references; the hub may be shared since its jobs and pieces may cross.
-use denote.Param.Send.{IsSync}
+use denote.Exit.{no}
+use denote.Param.Send.{IsSync, arg_send, param_send}
 use denote.Param.{param}
 use Rattle.std.proofs.Common.{◌≡◌, ◌∙◌, ℕ, ◌<◌, ◌++◌, List, length, get_or, take, drop, map, ap, rules}
 use Rattle.std.proofs.lemmas.List.{take_at}
@@ -7,6 +8,7 @@ use Rattle.sp_hub.specs.State.{Sitting}
 use Rattle.sp_hub.proofs.Told.{same_numbers}
 use Rattle.std.proofs.alloc.Global.TheSendSync as global
 use Rattle.sp_hub.proofs.exchange.Hub.TheSendSync as hub
+use Rattle.sp_hub.proofs.seat.Seat.TheSendSync as seat
 use Rattle.sp_hub.specs.contracts.exchange.Hub as hub_row
 use Rattle.sp_piece.specs.contracts.job.Job as job
 use Rattle.sp_piece.specs.contracts.piece.Piece as piece
@@ -17,7 +19,7 @@ use Rattle.sp_instance.proofs.working.work_all.Goals as goal
 
 pub for_each_mut-requires-sync-F : goal.for_each_mut-requires-sync-F
 for_each_mut-requires-sync-F g c κs within =
-    let shared : IsSync (hub_row.the_row job.the_row piece.the_row (param 0 g.row.L) job_named.ghosts piece_named.ghosts g.L.Ledger) = hub.the_sync job.the_row piece.the_row (param 0 g.row.L) job_named.ghosts piece_named.ghosts g.L.Ledger job_sent piece_sent in
+    let shared : IsSync (hub_row.the_row job.the_row piece.the_row (param 0 g.row.L) job_named.ghosts piece_named.ghosts g.L.Naming g.L.Ledger) = hub.the_sync job.the_row piece.the_row (param 0 g.row.L) job_named.ghosts piece_named.ghosts g.L.Naming g.L.Ledger job_sent piece_sent in
     record {
       shared = λ x b o κ. (
         (
@@ -30,6 +32,9 @@ for_each_mut-requires-sync-F g c κs within =
         λ q. tt,
       );
     }
+
+pub for_each_mut-requires-send-T : goal.for_each_mut-requires-send-T
+for_each_mut-requires-send-T g c κs within = param_send 1 _ (arg_send _ no _ (seat.the_send piece.the_row (param 0 g.row.L) piece_named.ghosts g.L.Naming g.L.Ledger piece_sent))
 
 pub returns-clause-numbers : goal.returns-clause-numbers
 returns-clause-numbers g c =

@@ -106,6 +106,6 @@ returns-clause-ends g c =
     let new = g.O.Outlet.state c.beside-crew.result.2.outlet in
     let history = c.wind_up-history.result in
     let seats : c.in-Ok.made.0.seats ≡ n + 1 = ap (λ (h : Extent). h.seats) c.in-Ok.ensures.hub ∙ c.requires.places.0 in
-    let wound = subst (λ (k : ℕ). WoundUp k c.beside-crew.result.1.by.calls history) seats c.wind_up-history.ensures in
+    let wound = subst (λ (k : ℕ). WoundUp k (length c.beside-crew.result.1.by.got) history) seats c.wind_up-history.ensures in
     subst (λ r. Ends G all stopped n batch start old new r) (sym c.with_history.ensures)
-    (ends_with G all stopped n batch start old new c.beside-crew.result.1.end c.beside-crew.result.1.by.calls history c.beside-crew.ensures.served c.requires.instances.0 wound c.returns_follow_readings.ensures)
+    (ends_with G all stopped n batch start old new c.beside-crew.result.1.end (length c.beside-crew.result.1.by.got) history c.beside-crew.ensures.served c.requires.instances.0 wound c.returns_follow_readings.ensures)

@@ -15,9 +15,10 @@ finish-requires-send-P g c κs within = search (piece_sent, sendable) depth 20
 pub returns : goal.returns
 returns g c = record {
   legal = c.in-Ok.ensures.legal;
-  called = let counted = c.in-Ok.ensures.counted in omega arith;
+  enough = c.in-Ok.ensures.enough;
+  fewer = let few = c.in-Ok.ensures.fewer in let counted = c.in-Ok.ensures.counted in omega arith;
   takes = c.in-Ok.ensures.takes;
-  puts = c.in-Ok.ensures.puts;
+  puts = c.in-Ok.ensures.puts.0;
   over = λ seat some few.
       let told = each_told c.args.others.items c.args.mine (vec_len c.args.others) c.requires.over c.requires.numbers seat some (let whole = c.requires.whole in omega (arith, whole, few)) in
       subst (λ (l : List ℕ). Contains l seat) (sym (c.in-Ok.ensures.over ∙ ap told_over c.push_reserved.ensures.items)) told;

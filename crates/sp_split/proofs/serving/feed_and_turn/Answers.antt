@@ -1,4 +1,4 @@
-use Rattle.std.proofs.Common.{◌≡◌, ℕ, List, ◌++◌, refl, sym, ◌∙◌, ap, subst, arith}
+use Rattle.std.proofs.Common.{◌≡◌, ℕ, List, ◌++◌, length, refl, sym, ◌∙◌, ap, subst, arith}
 use Rattle.std.proofs.lemmas.Result.{err_from_is_err_and}
 use Rattle.sp_io.specs.Outside.{Rose}
 use Rattle.sp_plan.specs.declared.event.Event.{Event}
@@ -24,7 +24,7 @@ loop-init g c =
       never = never_first start c.requires.fresh c.args.desk.now.splitter.instances;
       asked = asked_first start c.requires.fresh c.args.desk.now.splitter.batch;
       few = few_first start c.requires.fresh c.args.desk.now.splitter.instances;
-      read = read_first start c.requires.fresh c.args.desk.now.by.calls;
+      read = read_first start c.requires.fresh (length c.args.desk.now.by.got);
       can = c.requires.can;
       instances = refl;
       batch = refl;

@@ -1,4 +1,4 @@
-use Rattle.std.proofs.Common.{◌≡◌, ◌+◌, ◌≤◌, None}
+use Rattle.std.proofs.Common.{◌≡◌, ◌+◌, ◌≤◌, length, None}
 use Rattle.sp_io.specs.Outside.{Rose}
 use Rattle.sp_group.specs.Steps.{out_count}
 use Rattle.sp_spread.specs.Journaled.{readings_entered}
@@ -19,7 +19,7 @@ invariant-loop g l = record {
   never : NeverMore l.desk.splitter.core.plan l.desk.splitter.core.bound l.initial.desk.splitter.instances l.desk.splitter.core.journal;
   asked : AsksAtMost l.initial.desk.splitter.batch l.desk.splitter.core.journal;
   few : out_count l.desk.splitter.core.machine ≤ l.initial.desk.splitter.instances + 1;
-  read : readings_entered l.desk.splitter.core.journal ≤ l.desk.by.calls;
+  read : readings_entered l.desk.splitter.core.journal ≤ length l.desk.by.got;
   can : CanTurn l.desk.splitter.instances l.desk.splitter.batch l.desk.splitter.kept.items l.desk.splitter.core.machine.next_ticket l.desk.by;
   instances : l.desk.splitter.instances ≡ l.initial.desk.splitter.instances;
   batch : l.desk.splitter.batch ≡ l.initial.desk.splitter.batch;

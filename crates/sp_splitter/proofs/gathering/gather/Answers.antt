@@ -26,7 +26,17 @@ returns-in_err-give_back-clause-went g c =
       emitted = c.give_back.ensures.emitted;
       read = c.give_back.ensures.read;
     } in
-    (brings_all_then c.args.core.now c.loop.core c.give_back.new.core c.args.by.now c.loop.by c.collect.new.by c.in-Some.piece c.loop.invariant.brings brings c.in-Some.ensures).went
+    (brings_all_then c.args.core.now c.loop.core c.give_back.new.core c.args.by.now c.loop.by c.collect.new.by c.in-Some.ensures.0 _ c.loop.invariant.brings brings c.in-Some.ensures.1).went
+
+pub returns-in_err-give_back-clause-read : goal.returns-in_err-give_back-clause-read
+returns-in_err-give_back-clause-read g c =
+    let brings : Brings c.loop.core c.give_back.new.core = record {
+      went = c.give_back.ensures.went;
+      goes = c.give_back.ensures.goes;
+      emitted = c.give_back.ensures.emitted;
+      read = c.give_back.ensures.read;
+    } in
+    (brings_all_then c.args.core.now c.loop.core c.give_back.new.core c.args.by.now c.loop.by c.collect.new.by c.in-Some.ensures.0 _ c.loop.invariant.brings brings c.in-Some.ensures.1).read
 
 pub loop-preserved : goal.loop-preserved
 loop-preserved g c =
@@ -39,9 +49,9 @@ loop-preserved g c =
     let of = goal.Predictor-dyn g in
     let given = c.in_ok-give_back.ensures.given in
     record {
-      brings = brings_all_then c.args.core.now c.loop.core c.give_back.new.core c.args.by.now c.loop.by c.collect.new.by c.in-Some.piece c.loop.invariant.brings brings c.in-Some.ensures;
+      brings = brings_all_then c.args.core.now c.loop.core c.give_back.new.core c.args.by.now c.loop.by c.collect.new.by c.in-Some.ensures.0 _ c.loop.invariant.brings brings c.in-Some.ensures.1;
       gathered =
           gathered_then ((of c.args.predictor.now).taught c.args.predictor.now.1) ((of c.loop.predictor.now).taught c.loop.predictor.now.1)
-          ((of (c.loop.predictor.now.0, c.learn_from.new.predictor)).taught c.learn_from.new.predictor) c.args.core.now c.loop.core c.give_back.new.core c.args.by.now c.loop.by c.collect.new.by c.in-Some.piece
-          c.in-Some.piece given.0 c.loop.invariant.gathered c.learn_from.ensures given.1 c.in-Some.ensures;
+          ((of (c.loop.predictor.now.0, c.learn_from.new.predictor)).taught c.learn_from.new.predictor) c.args.core.now c.loop.core c.give_back.new.core c.args.by.now c.loop.by c.collect.new.by c.in-Some.ensures.0 _ c.in-Some.piece
+          given.0 c.loop.invariant.gathered c.learn_from.ensures given.1 c.in-Some.ensures.1;
     }

@@ -9,6 +9,8 @@ loop-number-preserved g c =
     record {
       parts = search rules;
       amount = search rules;
+      pass = search rules;
+      knows = search rules;
       made = cc (more, c.push_reserved.ensures.items, c.loop-number.invariant.made, c.new.ensures);
       len = search rules;
       room = search rules;

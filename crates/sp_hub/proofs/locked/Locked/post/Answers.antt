@@ -4,5 +4,5 @@ use Rattle.sp_hub.proofs.locked.Locked.post.Goals as goal
 
 pub invariant_of-self-2 : goal.invariant_of-self-2
 invariant_of-self-2 g c =
-    keeps-post _ _ c.self.inside.jobs.items _ c.args.job c.self.inside.home.items _ _ c.self.inside.history.items _ _ c.self.inside.book.total _ _ _ c.self.invariant
-    (search rules) (search rules) (search rules) c.ticket-ticket.ensures c.count.ensures.total (search rules)
+    keeps-post _ c.self.inside.jobs.items _ c.args.job _ c.self.inside.history.items _ _ c.self.inside.book.total _ _ _ c.self.invariant
+    (search rules) (search rules) c.ticket-ticket.ensures c.count.ensures.total (search rules)

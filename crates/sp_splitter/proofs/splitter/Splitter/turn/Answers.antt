@@ -1,9 +1,9 @@
-use Rattle.std.proofs.Common.{◌≡◌, ◌⊎◌, inl, inr, ℕ, ◌+◌, ◌≤◌, List, [], ◌++◌, subst, sym, ◌∙◌, ap, arith}
+use Rattle.std.proofs.Common.{◌≡◌, ◌⊎◌, inl, inr, ℕ, ◌+◌, ◌≤◌, List, [], ◌++◌, length, subst, sym, ◌∙◌, ap, arith}
 use Rattle.sp_plan.specs.declared.found.Match.{Match}
 use Rattle.sp_piece.specs.declared.job.Job.{Job}
 use Rattle.sp_splitter.specs.Gathering.{Gathered}
 use Rattle.sp_splitter.specs.Splitting.{IsBelowKept}
-use Rattle.sp_splitter.specs.Stages.{ReadByCalls, matches_of}
+use Rattle.sp_splitter.specs.Stages.{ReadOfCollected, matches_of}
 use Rattle.sp_splitter.proofs.Below.{below_later}
 use Rattle.sp_splitter.proofs.SentNone.{sends_gathered, sends_then, sends_tidied}
 use Rattle.sp_splitter.proofs.Stepping.{goes_then, went_then}
@@ -41,6 +41,12 @@ returns-in_err-post_kept-clause-went g c =
     went_then n batch c.args.self.now.core c.gather.new.core c.guess_and_send.new.core (c.in_ok-read.ensures.goes n) (c.gather.ensures.went n batch)
     (went_then n batch c.gather.new.core c.tidy.new.core c.guess_and_send.new.core (c.in_ok-finished.ensures.goes n) (c.tidy.ensures.went n batch) c.guess_and_send.ensures.went)
 
+pub returns-in_err-post_kept-clause-read : goal.returns-in_err-post_kept-clause-read
+returns-in_err-post_kept-clause-read g c = let same = ap length c.post_kept.ensures.got in omega arith
+
+pub returns-clause-read : goal.returns-clause-read
+returns-clause-read g c = let same = ap length c.post_kept.ensures.got in omega arith
+
 pub returns-clause-went : goal.returns-clause-went
 returns-clause-went g c =
     let n = c.args.self.now.instances in
@@ -62,7 +68,7 @@ returns-clause-turned g c =
     c.in_ok-finished.ensures.emitted ∙ ap (λ (z : List Match). z ++ matches_of finished) c.gather.ensures.emitted in
     let gathered = c.in_ok-read.ensures.gathered in
     let taught_then = (goal.Predictor-dyn g (c.deref_box_mut-1.result.now.0, c.gather.new.predictor)).taught c.gather.new.predictor in
-    let came : ReadByCalls c.args.self.now.core c.guess_and_send.new.core c.args.by.now c.gather.new.by = omega arith in
+    let came : ReadOfCollected c.args.self.now.core c.guess_and_send.new.core c.args.by.now c.gather.new.by = omega arith in
     record {
       emitted = c.guess_and_send.ensures.emitted ∙ emitted;
       settled = c.in_ok-self.ensures.settled;
