@@ -120,6 +120,42 @@ fn two_instances_are_at_work_at_once(rt: HostRuntime) -> Result<(), Fail> {
     meet(&rt, rt.alloc(), asked, Meeting::of_instances())
 }
 
+// Delays every other job, so that pieces come home in another order than jobs were taken.
+#[derive(Drop)]
+struct Delaying {
+    looks: AtomicU64,
+}
+
+impl Gate for Delaying {
+    fn enter(&self, _seat: u32, ticket: u64) {
+        if ticket % 2 == 1 {
+            for _ in 0..200 {
+                self.looks.fetch_add(1, SeqCst);
+            }
+        }
+    }
+
+    fn leave(&self, _seat: u32, _ticket: u64) {}
+}
+
+#[test]
+fn three_hundred_runs_with_sixteen_instances_end(rt: HostRuntime) -> Result<(), Fail> {
+    let gate = Delaying {
+        looks: AtomicU64::new(0),
+    };
+    for _ in 0..300 {
+        let asked = Asked {
+            words: "run --instances 16 --batch 4 --predictor even -q",
+            query: ALL_USED,
+            rows: 24,
+        };
+        let predictors = even(rt.alloc())?;
+        let status = status_of(&rt, rt.alloc(), asked, &gate, predictors, &mut None)?;
+        assert!(rt; status == 0);
+    }
+    Ok(())
+}
+
 // What a call of a predictor counts that is not to be asked or taught.
 const FAR: u64 = 1_000_000;
 
