@@ -60,9 +60,3 @@ reads_input q before after old new result from all is =
       fault = tt;
       told = tt;
     }
-
--- what was read of a source that was lent
-pub so_far_at : (q : Plan) (before after : SourceState) (old new : Standing) (why : Option Stop) → ReadsFrom q before old → ((events : List Event) × Gives old events new) → after ≡ new.source → why ≡ stop_in new.state
-    → (events : List Event) × ReadSoFar q before after events why
-so_far_at q before after old new why from gave is stop =
-    (gave.0, subst (λ (s : SourceState). ReadSoFar q before s gave.0 why) (sym is) (subst (λ (w : Option Stop). ReadSoFar q before new.source gave.0 w) (sym stop) (from gave.0 new gave.1)))

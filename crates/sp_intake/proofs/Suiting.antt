@@ -15,8 +15,7 @@ use Rattle.sp_rows.proofs.FitEvents.{PlacesFit, GivesFit, row_fits}
 use Rattle.sp_intake.specs.declared.kept.Kept.{Kept}
 use Rattle.sp_intake.specs.Following.{ComeNext}
 use Rattle.sp_intake.specs.Kept.{plan_in, last_in, event_in, SuitsPlan}
-use Rattle.sp_intake.specs.Laws.{none_next}
-use Rattle.sp_intake.proofs.Orderly.{one_next, same_next}
+use Rattle.sp_intake.specs.Orderly.{none_next, one_next, same_next}
 
 time_is : (columns : List Column) (place : ℕ) (found : Option Column) → slice_get columns place ≡ found → option_map (λ column. column.kind) found ≡ Some Int → IsTimeOf columns (Some place)
 time_is columns place (Some column) is kind = (column, is, cc kind)

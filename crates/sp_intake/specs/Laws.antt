@@ -1,35 +1,56 @@
--- Laws of what an input gives: where it was not asked it gave nothing, and what it gives is good.
-use Rattle.std.specs.Prelude.{◌≡◌, ℤ, ◌≤ℤ◌, true, List, [], refl}
-use Rattle.std.proofs.Common.{sym, subst, arith}
+-- Laws of what an input gives: where it was not asked it gave nothing, what it gives is good, and what it gives from one standing on comes behind what it gave before.
+use Rattle.std.specs.Prelude.{◌≡◌, ◌≤◌, ℕ, List, [], ◌++◌, length, refl}
+use Rattle.std.proofs.Common.{inl, inr, sym, ◌∙◌, subst, append_assoc, length-append, arith}
 use Rattle.std.proofs.lemmas.Int.{ints}
 use Rattle.std.proofs.lemmas.List.{append-nil}
-use Rattle.std.proofs.lemmas.List.Elements.{All-nil}
-use Rattle.sp_plan.specs.Events.{fits}
+use Rattle.sp_base.specs.Limits.{event_limit}
 use Rattle.sp_plan.specs.declared.event.Event.{Event}
 use Rattle.sp_plan.specs.declared.plan.Plan.{Plan}
 use Rattle.sp_ports.specs.Giving.{AreGood}
 use Rattle.sp_intake.specs.Following.{ComeNext}
 use Rattle.sp_intake.specs.Kept.{plan_in, last_in}
-use Rattle.sp_intake.specs.Standing.{Standing, Since, Gives}
+use Rattle.sp_intake.specs.Orderly.{none_next, next_more}
+use Rattle.sp_intake.specs.Pieces.{Asked}
+use Rattle.sp_intake.specs.Standing.{Standing, Since, Reads, Gives}
 
--- no event comes next, where the last time is none before
-pub none_next : (q : Plan) (old new : ℤ) → old ≤ℤ new → ComeNext q old [] new
-none_next q old new le = record {
-  fit = All-nil (λ x. fits q x ≡ true);
-  ordered = λ i j x y le xi yj. absurd (cc xi);
-  after = All-nil (λ e. old ≤ℤ e.time);
-  before = All-nil (λ e. e.time ≤ℤ new);
-  onward = le;
-}
-
-pub gives_none : (now : Standing) → Gives now [] now
-gives_none now = record {
+pub reads_none : (now : Standing) → Reads now [] [] now
+reads_none now = record {
   plan = refl;
   count = omega arith;
   few = omega arith;
   next = none_next (plan_in now.reader.kept) (last_in now.reader.kept) (last_in now.reader.kept) (omega (arith, ints));
-  since = λ q origin first since. subst (λ (events : List Event). Since q origin events now) (sym (append-nil first)) since;
+  since = λ q origin taken first since.
+      subst (λ (bytes : List ℕ). Since q origin bytes (first ++ []) now) (sym (append-nil taken))
+      (subst (λ (events : List Event). Since q origin taken events now) (sym (append-nil first)) since);
 }
 
+-- one reading behind another
+pub reads_more : (a b c : Standing) (front piece : List ℕ) (xs ys : List Event) → length (xs ++ ys) ≤ event_limit → Reads a front xs b → Reads b piece ys c → Reads a (front ++ piece) (xs ++ ys) c
+reads_more a b c front piece xs ys few one two = record {
+  plan = two.plan ∙ one.plan;
+  count = omega (arith, length-append xs ys, one.count, two.count);
+  few = few;
+  next = next_more (plan_in a.reader.kept) (last_in a.reader.kept) (last_in b.reader.kept) (last_in c.reader.kept) xs ys one.next
+      (subst (λ (q : Plan). ComeNext q (last_in b.reader.kept) ys (last_in c.reader.kept)) one.plan two.next);
+  since = λ q origin taken first since.
+      subst (λ (bytes : List ℕ). Since q origin bytes (first ++ (xs ++ ys)) c) (append_assoc taken front piece)
+      (subst (λ (events : List Event). Since q origin ((taken ++ front) ++ piece) events c) (append_assoc first xs ys)
+      (two.since q origin (taken ++ front) (first ++ xs) (one.since q origin taken first since)));
+}
+
+pub gives_none : (now : Standing) → Gives now [] now
+gives_none now = ([], reads_none now)
+
 pub gives_good : (old new : Standing) (events : List Event) → Gives old events new → AreGood (plan_in old.reader.kept) events
-gives_good old new events gives = record { good = (gives.next.fit, gives.next.ordered); few = gives.few }
+gives_good old new events gives = record { good = (gives.1.next.fit, gives.1.next.ordered); few = gives.1.few }
+
+pub asked_none : (now : Standing) → Asked now [] [] now
+asked_none now = inl (refl, reads_none now)
+
+pub asked_gives : (old : Standing) (before events : List Event) (new : Standing) → Asked old before events new → Gives old events new
+asked_gives old before events new (inl none) = ([], none.1)
+asked_gives old before events new (inr behind) = (
+  behind.front ++ behind.piece,
+  subst (λ (l : List Event). Reads old (behind.front ++ behind.piece) l new) (sym behind.are)
+      (reads_more old behind.between new behind.front behind.piece before behind.others (subst (λ (l : List Event). length l ≤ event_limit) behind.are behind.few) behind.first behind.last),
+)

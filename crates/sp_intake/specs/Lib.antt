@@ -1,9 +1,11 @@
 pub mod Reading
 pub mod Kept
 pub mod Following
+pub mod Orderly
 pub mod Coming
 pub mod Intake
 pub mod Standing
+pub mod Pieces
 pub mod Asked
 pub mod ReadAll
 pub mod Laws

@@ -74,20 +74,23 @@ pub record Leads (q : Plan) (taken : List ℕ) (events : List Event) (now : Stan
   pub coming : now.reader.cutter.ended ≡ false → (more : List ℕ) (ended : Bool) → comes_to events now.reader more ended ≡ read q (taken ++ more) ended
   pub ends : now.reader.cutter.ended ≡ true → ends_as events now.reader ≡ read q taken true
 
--- an input has given these events since its source stood so
-pub record Since (q : Plan) (origin : SourceState) (events : List Event) (now : Standing) : Type 0 where
-  pub taken : List ℕ
+-- since its source stood so an input has taken these bytes, and given these events
+pub record Since (q : Plan) (origin : SourceState) (taken : List ℕ) (events : List Event) (now : Standing) : Type 0 where
   pub plan : plan_in now.reader.kept ≡ q
   pub has : HasRead q origin now.source taken events (stop_in now.state)
   pub leads : now.state ≡ Going → Leads q taken events now
 
--- From one standing on an input gave these events, and came to another: whatever it was read from before, it gave these behind those.
-pub record Gives (old : Standing) (events : List Event) (new : Standing) : Type 0 where
+-- From one standing to another an input took these bytes of its source and gave these events: whatever it was read from before, these come behind those.
+pub record Reads (old : Standing) (bytes : List ℕ) (events : List Event) (new : Standing) : Type 0 where
   pub plan : plan_in new.reader.kept ≡ plan_in old.reader.kept
   pub count : new.reader.kept.given ≡ old.reader.kept.given + length events
   pub few : length events ≤ event_limit
   pub next : ComeNext (plan_in old.reader.kept) (last_in old.reader.kept) events (last_in new.reader.kept)
-  pub since : (q : Plan) (origin : SourceState) (first : List Event) → Since q origin first old → Since q origin (first ++ events) new
+  pub since : (q : Plan) (origin : SourceState) (taken : List ℕ) (first : List Event) → Since q origin taken first old → Since q origin (taken ++ bytes) (first ++ events) new
+
+-- from one standing to another an input gave these events
+abbrev pub Gives : Standing → List Event → Standing → Type 0
+Gives old events new = (bytes : List ℕ) × Reads old bytes events new
 
 -- whatever an input gives from here on, it has read that of a source that stood so
 abbrev pub ReadsFrom : Plan → SourceState → Standing → Type 0

@@ -3,6 +3,7 @@ ghost use Rattle.std.specs.Arc.{arc_value};
 ghost use Rattle.sp_base.specs.Limits.{event_limit};
 ghost use Rattle.sp_io.specs.Outside.{SourceState, Rose};
 ghost use Rattle.sp_plan.specs.Compiled.{IsCompiled};
+ghost use Rattle.sp_ports.specs.Giving.{given_at};
 ghost use Rattle.sp_intake.specs.declared.events.State.TheVariants.{Going};
 ghost use Rattle.sp_intake.specs.Coming.{IsReady};
 ghost use Rattle.sp_intake.specs.Standing.{is_halted};
@@ -12,6 +13,7 @@ use crate::reader::Reader;
 use crate::step::{Polled, Step, answer, take_step};
 use sp_io::Failed;
 use sp_plan::{Event, Memory, Plan};
+use sp_ports::Next;
 use std::alloc::Global;
 use std::sync::Arc;
 
@@ -37,14 +39,16 @@ pub struct EventReader {
 }
 
 impl EventReader {
-    ghost use Rattle.sp_intake.specs.Standing.{Gives, WasRead, stop_in, polled_in};
-    ghost use Rattle.sp_intake.specs.Asked.{standing, IsFresh, IsAsking};
+    ghost use Rattle.sp_intake.specs.Standing.{Reads, WasRead, stop_in, polled_in};
+    ghost use Rattle.sp_intake.specs.Pieces.{TakesPiece};
+    ghost use Rattle.sp_intake.specs.Asked.{standing, IsFresh, IsUnasked, IsAsking};
     ghost use Rattle.sp_intake.specs.Kept.{plan_in};
 
     /// Nothing was read yet.
     pub fn new(alloc: Global, plan: &Arc<Plan>) -> Result<EventReader, Memory>
         requires { IsCompiled (arc_value plan.now) }
         ensures fresh { IfOk result (λ events. IsFresh (arc_value plan.now) events) }
+        ensures unasked { IfOk result (λ events. IsUnasked (arc_value plan.now) events) }
         ensures plan { IfOk result (λ events. plan_in events.reader.kept ≡ arc_value plan.now) }
         ensures none { IfOk result (λ events. events.stops ≡ 0) }
     {
@@ -68,8 +72,8 @@ impl EventReader {
     /// Puts in the next event, or tells why there is none.
     #[inline(always)]
     pub(crate) fn poll(&mut self, alloc: Global, event: &mut Option<Event>) -> Polled
-        ensures gives { (source : SourceState)
-            → Gives (standing source self.old) (polled_in result event.new)
+        ensures reads { (source : SourceState)
+            → Reads (standing source self.old) [] (polled_in result event.new)
             (standing source self.new) }
         ensures some { result ≡ Polled.Event → IsSome event.new }
         ensures asks { result ≡ Polled.Ask → IsAsking self.new }
@@ -78,6 +82,7 @@ impl EventReader {
         ensures never_falls { self.old.stops ≤ self.new.stops }
         ensures uncounted { result ≡ Polled.Memory → self.new.stops ≡ self.old.stops }
         ensures unasked { result ≡ Polled.Ask → self.new.stops ≡ self.old.stops }
+        ensures still { result ≡ Polled.Ask → self.new.state ≡ self.old.state }
     {
         match self.state {
             State::Going => {}
@@ -98,12 +103,35 @@ impl EventReader {
         }
     }
 
+    /// The next answer that needs no more bytes; none where no whole row is left and the input may go on.
+    #[inline(always)]
+    pub(crate) fn at_hand(&mut self, alloc: Global) -> Option<Next>
+        ensures reads { (source : SourceState)
+            → Reads (standing source self.old) [] (given_at result) (standing source self.new) }
+        ensures asks { result ≡ None → IsAsking self.new }
+        ensures end { result ≡ Some Next.End → stop_in self.new.state ≡ Some Stop.End }
+        ensures stop { result ≡ Some Next.Stop → Rose self.old.stops self.new.stops }
+        ensures never_falls { self.old.stops ≤ self.new.stops }
+        ensures memory { result ≡ Some Next.Memory → self.new.stops ≡ self.old.stops }
+        ensures unasked { result ≡ None → self.new.stops ≡ self.old.stops }
+        ensures still { result ≡ None → self.new.state ≡ self.old.state }
+    {
+        let mut event = None;
+        match self.poll(alloc, &mut event) {
+            Polled::Event => Some(Next::Event(event.unwrap())),
+            Polled::End => Some(Next::End),
+            Polled::Stop => Some(Next::Stop),
+            Polled::Memory => Some(Next::Memory),
+            Polled::Ask => None,
+        }
+    }
+
     /// What a call of the source answered, which wrote to the front of this buffer.
     pub(crate) fn take(&mut self, buffer: &[u8], read: Result<usize, Failed>)
         requires asks { IsAsking self.old }
         requires count { IfOk read (λ n. n ≤ length buffer.now) }
-        ensures gives { (before next : SourceState) → WasRead before buffer.now read next
-            → Gives (standing before self.old) [] (standing next self.new) }
+        ensures takes { (before next : SourceState) → WasRead before buffer.now read next
+            → TakesPiece (standing before self.old) (standing next self.new) }
         ensures stops { self.new.stops ≡ self.old.stops }
     {
         match read {

@@ -1,7 +1,6 @@
-ghost use Rattle.std.specs.Prelude.{◌≡◌, ◌<◌, List, [], true, false, IfOk};
-ghost use Rattle.std.specs.Arc.{arc_value};
-ghost use Rattle.sp_plan.specs.Compiled.{IsCompiled};
-ghost use Rattle.sp_intake.specs.Standing.{Gives, ReadsFrom, stop_in, is_whole, is_halted};
+ghost use Rattle.std.specs.Prelude.{◌≡◌, ◌<◌, [], true};
+ghost use Rattle.sp_intake.specs.Standing.{Gives, stop_in, is_whole, is_halted};
+ghost use Rattle.sp_intake.specs.Pieces.{TakesPiece, Asked};
 ghost use Rattle.sp_intake.specs.Asked.{standing, IsAsking};
 ghost use Rattle.sp_intake.specs.ReadAll.{ReadsAll};
 
@@ -10,10 +9,9 @@ use crate::input::{InputEvents, Stop};
 use crate::step::Polled;
 use sp_base::limits::PIECE_LIMIT;
 use sp_io::Source;
-use sp_plan::{Memory, Plan};
+use sp_plan::Memory;
 use sp_ports::{Intake, Next};
 use std::alloc::{AllocError, Global};
-use std::sync::Arc;
 
 /// The input of a source as an intake: the events that its rows give, one a call. The source is asked for
 /// a piece of 4,096 bytes only where no whole row is left of those before. After a faulty row, a limit or
@@ -27,19 +25,6 @@ pub struct Input<'a, S: Source> {
 }
 
 impl<'a, S: Source> Input<'a, S> {
-    /// An input of which nothing was read yet.
-    pub fn new(alloc: Global, plan: &Arc<Plan>, source: &'a mut S) -> Result<Input<'a, S>, Memory>
-        requires compiled { IsCompiled (arc_value plan.now) }
-        requires not_ended { (S.state source.old).ended ≡ false }
-        ensures same { IfOk result (λ input. input.source.ghost_name ≡ source.entry.ghost_name) }
-        ensures reads { IfOk result
-            (λ input. ReadsFrom (arc_value plan.now) (S.state source.old)
-            (standing (S.state input.source.now) input.events)) }
-    {
-        let events = EventReader::new(alloc, plan)?;
-        Ok(Input::over(source, events))
-    }
-
     /// The input of a source that is read by these.
     pub fn over(source: &'a mut S, events: EventReader) -> Input<'a, S>
         ensures same { result.source.ghost_name ≡ source.entry.ghost_name }
@@ -64,7 +49,7 @@ impl<'a, S: Source> Input<'a, S> {
     // Asks the source for a piece, which the events are read of next.
     fn ask(&mut self)
         requires asks { IsAsking self.old.events }
-        ensures gives { Gives (standing (S.state self.old.source.now) self.old.events) []
+        ensures takes { TakesPiece (standing (S.state self.old.source.now) self.old.events)
             (standing (S.state self.new.source.now) self.new.events) }
         ensures stops { self.new.events.stops ≡ self.old.events.stops }
         ensures same { self.new.source.ghost_name ≡ self.old.source.ghost_name }
@@ -111,7 +96,7 @@ impl<'a, S: Source> Input<'a, S> {
 }
 
 impl<'a, S: Source> Intake for Input<'a, S> {
-    ghost use Rattle.sp_intake.specs.Laws.{gives_none, gives_good};
+    ghost use Rattle.sp_intake.specs.Laws as law;
     ghost use Rattle.sp_intake.specs.Kept.{plan_in};
 
     ghost plan = { λ input. plan_in input.events.reader.kept };
@@ -124,24 +109,31 @@ impl<'a, S: Source> Intake for Input<'a, S> {
 
     ghost gave = { λ old events new. Gives (standing (S.state old.source.now) old.events) events (standing (S.state new.source.now) new.events) };
 
-    ghost gave_none = { λ input. gives_none (standing (S.state input.source.now) input.events) };
+    ghost gave_none = { λ input. law.gives_none (standing (S.state input.source.now) input.events) };
 
-    ghost good = { λ old events new gave. gives_good (standing (S.state old.source.now) old.events) (standing (S.state new.source.now) new.events) events gave };
+    ghost good = { λ old events new gave. law.gives_good (standing (S.state old.source.now) old.events) (standing (S.state new.source.now) new.events) events gave };
+
+    ghost asked = { λ old before events new. Asked (standing (S.state old.source.now) old.events) before events (standing (S.state new.source.now) new.events) };
+
+    ghost asked_none = { λ input. law.asked_none (standing (S.state input.source.now) input.events) };
+
+    ghost asked_gave = { λ old before events new asked. law.asked_gives (standing (S.state old.source.now) old.events) before events (standing (S.state new.source.now) new.events) asked };
+
+    ghost must_ask = { λ input. IsAsking input.events };
 
     fn next(&mut self, alloc: Global) -> Next {
-        let mut event = None;
         for _ in 0..u64::MAX {
-            match self.events.poll(alloc, &mut event) {
-                Polled::Event => return Next::Event(event.unwrap()),
-                Polled::End => return Next::End,
-                Polled::Stop => return Next::Stop,
-                Polled::Memory => return Next::Memory,
-                Polled::Ask => {}
+            if let Some(next) = self.events.at_hand(alloc) {
+                return next;
             }
             // As `ask` does, of which the prover takes no call here: an intake may go to another thread.
             let read = self.source.read(&mut self.piece);
             self.events.take(&self.piece, read);
         }
         Next::Memory
+    }
+
+    fn at_hand(&mut self, alloc: Global) -> Option<Next> {
+        self.events.at_hand(alloc)
     }
 }

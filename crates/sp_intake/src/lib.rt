@@ -7,7 +7,6 @@ mod events;
 mod giving;
 mod input;
 mod kept;
-mod lending;
 mod reader;
 mod step;
 

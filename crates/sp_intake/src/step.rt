@@ -5,7 +5,7 @@ ghost use Rattle.sp_plan.specs.declared.event.Event as events;
 ghost use Rattle.sp_intake.specs.declared.events.State.TheVariants.{Going};
 ghost use Rattle.sp_intake.specs.Coming.{IsReady};
 ghost use Rattle.sp_intake.specs.Reading.{is_end};
-ghost use Rattle.sp_intake.specs.Standing.{Gives, IsHungry, state_after, given_in, polled_in};
+ghost use Rattle.sp_intake.specs.Standing.{Reads, IsHungry, state_after, given_in, polled_in};
 
 use crate::input::Stop;
 use crate::reader::Reader;
@@ -30,8 +30,8 @@ pub(crate) fn take_step(
     event: &mut Option<Event>,
 ) -> Result<Step, Memory>
     requires ready { IsReady reader.old }
-    ensures gives { (source : SourceState)
-        → Gives (record { source = source; state = Going; reader = reader.old })
+    ensures reads { (source : SourceState)
+        → Reads (record { source = source; state = Going; reader = reader.old }) []
         (given_in result event.new)
         (record { source = source; state = state_after result; reader = reader.new }) }
     ensures some { result ≡ Ok Step.Event → IsSome event.new }

@@ -1,8 +1,8 @@
-ghost use Rattle.std.specs.Prelude.{◌≡◌, ◌≤◌, ℕ, Bool, true, List, [], ◌++◌};
+ghost use Rattle.std.specs.Prelude.{◌≡◌, ◌≤◌, ◌⊎◌, ℕ, Bool, true, List, [], ◌++◌};
 ghost use Rattle.sp_io.specs.Outside.{Rose};
 ghost use Rattle.sp_plan.specs.declared.event.Event as event;
 ghost use Rattle.sp_plan.specs.declared.plan.Plan.{Plan};
-ghost use Rattle.sp_ports.specs.Giving.{given_by, AreGood};
+ghost use Rattle.sp_ports.specs.Giving.{given_by, given_at, AreGood};
 
 use sp_plan::Event;
 use std::alloc::Global;
@@ -43,7 +43,21 @@ pub trait Intake: Send + Drop {
     /// What it gives fits its plan, the times never go back, and there are at most 1,048,576 events.
     ghost good: { (old : Self) (events : List event.Event) (new : Self) → gave old events new → AreGood (plan old) events };
 
-    /// The next event, or why there is none.
+    /// From one state on it gave events and came to another; the first list are those that it had given when it last
+    /// asked the outside for more, none where it did not ask since. The second are all that it gave.
+    ghost asked: { Self → List event.Event → List event.Event → Self → Type 0 };
+
+    /// From where it stands it has not asked.
+    ghost asked_none: { (intake : Self) → asked intake [] [] intake };
+
+    /// What it gave, whenever it asked.
+    ghost asked_gave: { (old : Self) (before events : List event.Event) (new : Self) → asked old before events new → gave old events new };
+
+    /// What it gives next it has to ask the outside for.
+    ghost must_ask: { Self → Type 0 };
+
+    /// The next event, or why there is none. It asks the outside where no answer is at hand, and gives nothing
+    /// between the first time that it asks and the last.
     fn next(&mut self, alloc: Global) -> Next
         ensures plan { plan self.new ≡ plan self.old }
         ensures token { token self.new ≡ token self.old }
@@ -52,5 +66,26 @@ pub trait Intake: Send + Drop {
         ensures end { result ≡ Next.End → ended self.new ≡ true }
         ensures stop { result ≡ Next.Stop → Rose (stops self.old) (stops self.new) }
         ensures never_falls { stops self.old ≤ stops self.new }
-        ensures memory { result ≡ Next.Memory → stops self.new ≡ stops self.old };
+        ensures memory { result ≡ Next.Memory → stops self.new ≡ stops self.old }
+        ensures asked { (from : Self) (before events : List event.Event)
+            → asked from before events self.old
+            → (asked from before (events ++ given_by result) self.new)
+            ⊎ (asked from events (events ++ given_by result) self.new) };
+
+    /// The next answer, if it is there without asking the outside. Where it is not, all is as before.
+    fn at_hand(&mut self, alloc: Global) -> Option<Next>
+        ensures plan { plan self.new ≡ plan self.old }
+        ensures token { token self.new ≡ token self.old }
+        ensures given { (from : Self) (events : List event.Event) → gave from events self.old
+            → gave from (events ++ given_at result) self.new }
+        ensures end { result ≡ Some Next.End → ended self.new ≡ true }
+        ensures stop { result ≡ Some Next.Stop → Rose (stops self.old) (stops self.new) }
+        ensures never_falls { stops self.old ≤ stops self.new }
+        ensures memory { result ≡ Some Next.Memory → stops self.new ≡ stops self.old }
+        ensures asked { (from : Self) (before events : List event.Event)
+            → asked from before events self.old
+            → asked from before (events ++ given_at result) self.new }
+        ensures none { result ≡ None → must_ask self.new }
+        ensures still_ended { result ≡ None → ended self.new ≡ ended self.old }
+        ensures still_stops { result ≡ None → stops self.new ≡ stops self.old };
 }

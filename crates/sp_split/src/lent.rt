@@ -27,8 +27,20 @@ impl<'a, I: Intake> Intake for LentIntake<'a, I> {
 
     ghost good = { λ old events new gave. I.good old.inner.now events new.inner.now gave };
 
+    ghost asked = { λ old before events new. I.asked old.inner.now before events new.inner.now };
+
+    ghost asked_none = { λ l. I.asked_none l.inner.now };
+
+    ghost asked_gave = { λ old before events new asked. I.asked_gave old.inner.now before events new.inner.now asked };
+
+    ghost must_ask = { λ l. I.must_ask l.inner.now };
+
     fn next(&mut self, alloc: Global) -> Next {
         self.inner.next(alloc)
+    }
+
+    fn at_hand(&mut self, alloc: Global) -> Option<Next> {
+        self.inner.at_hand(alloc)
     }
 }
 

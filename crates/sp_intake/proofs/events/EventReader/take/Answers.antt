@@ -1,10 +1,11 @@
-use Rattle.std.proofs.Common.{◌≡◌, ◌≢◌, ℕ, ◌<◌, [], take, false, sym, subst, arith, rules}
+use Rattle.std.proofs.Common.{◌≡◌, ◌≢◌, ℕ, ◌<◌, ◌≤◌, List, [], take, false, sym, subst, arith, rules}
 use Rattle.std.specs.Prelude.{⊤, Result, Ok, Err, OnOk, is_err}
 use Rattle.std.specs.declared.alloc.AllocError.{AllocError}
+use Rattle.sp_base.specs.Limits.{piece_limit}
 use Rattle.sp_io.specs.Outside.{Gave}
 use Rattle.sp_intake.specs.declared.events.State.TheVariants.{Stopped, Broken}
 use Rattle.sp_intake.specs.declared.input.Stop.TheVariants.{Open}
-use Rattle.sp_intake.proofs.Since.{few_taken, gives_open, gives_piece, gives_lost, gives_end, gives_going, gives_on}
+use Rattle.sp_intake.proofs.Since.{few_taken, reads_open, reads_piece, reads_lost, reads_end, reads_going, reads_on}
 use Rattle.sp_intake.proofs.events.EventReader.take.Goals as goal
 
 -- what holds where a call succeeds
@@ -12,8 +13,8 @@ where_ok : {P : Type 0} (r : Result ⊤ AllocError) → is_err r ≡ false → O
 where_ok (Ok x) done p = p
 where_ok (Err e) done p = absurd (cc done)
 
-pub returns-in-Ok-eq0-clause-gives : goal.returns-in-Ok-eq0-clause-gives
-returns-in-Ok-eq0-clause-gives c before next was =
+pub returns-in-Ok-eq0-clause-takes : goal.returns-in-Ok-eq0-clause-takes
+returns-in-Ok-eq0-clause-takes c before next was =
     let at = c.requires.asks in
     let reader = c.args.self.now.reader in
     let is = c.in-Ok-eq0.is in
@@ -22,11 +23,15 @@ returns-in-Ok-eq0-clause-gives c before next was =
     let gave = subst (λ (n : ℕ). Gave before.left (take n c.args.buffer.now) next.left) none bytes in
     let ended = rw is at was.ended in
     let quiet = rw is at was.no_fault in
-    gives_on c.args.self.now.state at.going before next reader c.end.new.self []
-    (gives_end before next reader at.hungry.settled at.hungry.going at.hungry.open_ c.end.new.self c.end.ensures.kept gave (ended none) quiet c.end.ensures.ended c.end.ensures.ends)
+    record {
+      piece = [];
+      short = omega arith;
+      reads = reads_on c.args.self.now.state at.going before next reader c.end.new.self [] []
+          (reads_end before next reader at.hungry.settled at.hungry.going at.hungry.open_ c.end.new.self c.end.ensures.kept gave (ended none) quiet c.end.ensures.ended c.end.ensures.ends);
+    }
 
-pub returns-then-is_err-clause-gives : goal.returns-then-is_err-clause-gives
-returns-then-is_err-clause-gives c before next was =
+pub returns-then-is_err-clause-takes : goal.returns-then-is_err-clause-takes
+returns-then-is_err-clause-takes c before next was =
     let at = c.requires.asks in
     let reader = c.args.self.now.reader in
     let is = c.in-Ok.is in
@@ -35,12 +40,17 @@ returns-then-is_err-clause-gives c before next was =
     let quiet = rw is at was.no_fault in
     let more : c.in-Ok.count ≢ 0 = rw is at c.in-Ok.count-test.1 in
     let some : 0 < c.in-Ok.count = omega (arith, more) in
-    gives_going c.args.self.now.state at.going before reader [] (record { source = next; state = Broken; reader = c.feed.new.self })
-    (gives_lost before next reader at.hungry.settled at.hungry.going at.hungry.open_ (take c.in-Ok.count c.args.buffer.now) (few_taken c.in-Ok.count c.args.buffer.now was.size)
-    bytes (goes_on some) quiet c.feed.new.self c.feed.ensures.kept)
+    let piece = take c.in-Ok.count c.args.buffer.now in
+    let short = few_taken c.in-Ok.count c.args.buffer.now was.size in
+    record {
+      piece = piece;
+      short = short;
+      reads = reads_going c.args.self.now.state at.going before reader piece [] (record { source = next; state = Broken; reader = c.feed.new.self })
+          (reads_lost before next reader at.hungry.settled at.hungry.going at.hungry.open_ piece short bytes (goes_on some) quiet c.feed.new.self c.feed.ensures.kept);
+    }
 
-pub returns-else-is_err-clause-gives : goal.returns-else-is_err-clause-gives
-returns-else-is_err-clause-gives c before next was =
+pub returns-else-is_err-clause-takes : goal.returns-else-is_err-clause-takes
+returns-else-is_err-clause-takes c before next was =
     let at = c.requires.asks in
     let reader = c.args.self.now.reader in
     let is = c.in-Ok.is in
@@ -50,17 +60,27 @@ returns-else-is_err-clause-gives c before next was =
     let more : c.in-Ok.count ≢ 0 = rw is at c.in-Ok.count-test.1 in
     let some : 0 < c.in-Ok.count = omega (arith, more) in
     let done = sym c.if-is_err.ensures.value in
-    gives_on c.args.self.now.state at.going before next reader c.feed.new.self []
-    (gives_piece before next reader at.hungry.settled at.hungry.going at.hungry.open_ (take c.in-Ok.count c.args.buffer.now) (few_taken c.in-Ok.count c.args.buffer.now was.size) bytes (goes_on some) quiet
-    c.feed.new.self c.feed.ensures.kept (where_ok c.feed.result done c.feed.ensures.open) (where_ok c.feed.result done c.feed.ensures.leads))
+    let piece = take c.in-Ok.count c.args.buffer.now in
+    let short = few_taken c.in-Ok.count c.args.buffer.now was.size in
+    record {
+      piece = piece;
+      short = short;
+      reads = reads_on c.args.self.now.state at.going before next reader c.feed.new.self piece []
+          (reads_piece before next reader at.hungry.settled at.hungry.going at.hungry.open_ piece short bytes (goes_on some) quiet c.feed.new.self c.feed.ensures.kept
+          (where_ok c.feed.result done c.feed.ensures.open) (where_ok c.feed.result done c.feed.ensures.leads));
+    }
 
-pub returns-in-Err-clause-gives : goal.returns-in-Err-clause-gives
-returns-in-Err-clause-gives c before next was =
+pub returns-in-Err-clause-takes : goal.returns-in-Err-clause-takes
+returns-in-Err-clause-takes c before next was =
     let at = c.requires.asks in
     let reader = c.args.self.now.reader in
     let is = c.in-Err.is in
     let untaken = rw is at was.untaken in
     let failed = rw is at was.failed_before_end in
     let fault = rw is at was.fault in
-    gives_going c.args.self.now.state at.going before reader [] (record { source = next; state = Stopped Open; reader = reader })
-    (gives_open before next reader at.hungry.settled at.hungry.going at.hungry.open_ untaken failed fault was.never_falls)
+    record {
+      piece = [];
+      short = omega arith;
+      reads = reads_going c.args.self.now.state at.going before reader [] [] (record { source = next; state = Stopped Open; reader = reader })
+          (reads_open before next reader at.hungry.settled at.hungry.going at.hungry.open_ untaken failed fault was.never_falls);
+    }

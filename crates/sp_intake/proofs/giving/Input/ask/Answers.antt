@@ -2,8 +2,8 @@ use Rattle.std.proofs.Common.{arith}
 use Rattle.sp_intake.specs.Standing.{WasRead}
 use Rattle.sp_intake.proofs.giving.Input.ask.Goals as goal
 
-pub returns-clause-gives : goal.returns-clause-gives
-returns-clause-gives g c =
+pub returns-clause-takes : goal.returns-clause-takes
+returns-clause-takes g c =
     let before = g.S.Source.state c.args.self.now.source.now in
     let next = g.S.Source.state c.read-read.new.self in
     let read = c.read-read.ensures in
@@ -18,4 +18,4 @@ returns-clause-gives g c =
       fault = read.fault;
       never_falls = read.never_falls;
     } in
-    c.take.ensures.gives before next was
+    c.take.ensures.takes before next was

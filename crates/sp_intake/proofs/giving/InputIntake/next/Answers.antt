@@ -1,64 +1,34 @@
-use Rattle.std.proofs.Common.{[], ◌∷◌, refl, ◌∙◌, subst, arith}
-use Rattle.std.specs.Prelude.{Option}
-use Rattle.sp_plan.specs.declared.event.Event.{Event}
+use Rattle.std.proofs.Common.{◌≡◌, inr, [], ◌∙◌, subst, arith}
+use Rattle.std.specs.Prelude.{Option, None}
+use Rattle.sp_ports.specs.Giving.{given_by, given_at}
+use Rattle.sp_ports.specs.declared.intake.Next.{Next}
 use Rattle.sp_intake.specs.Asked.{standing}
-use Rattle.sp_intake.specs.Kept.{event_in}
-use Rattle.sp_intake.specs.Standing.{Gives, WasRead}
+use Rattle.sp_intake.specs.Standing.{Reads, Gives, WasRead}
+use Rattle.sp_intake.proofs.Asking.{asked_piece, either_gives, either_still}
 use Rattle.sp_intake.proofs.Since.{gives_more, gives_still}
 use Rattle.sp_intake.proofs.giving.InputIntake.next.Goals as goal
 
-pub returns-in-Event-clause-plan : goal.returns-in-Event-clause-plan
-returns-in-Event-clause-plan g c = (c.in-Event.ensures.gives (g.S.Source.state c.loop.self.source.now)).plan ∙ c.loop.invariant.gives.plan
+pub returns-in-Some-clause-plan : goal.returns-in-Some-clause-plan
+returns-in-Some-clause-plan g c = (c.in-Some.ensures.reads (g.S.Source.state c.loop.self.source.now)).plan ∙ c.loop.invariant.gives.1.plan
 
-pub returns-in-Event-clause-given : goal.returns-in-Event-clause-given
-returns-in-Event-clause-given g c from events before =
+pub returns-in-Some-clause-given : goal.returns-in-Some-clause-given
+returns-in-Some-clause-given g c from events before =
     let source = g.S.Source.state c.loop.self.source.now in
     let old = standing (g.S.Source.state c.args.self.now.source.now) c.args.self.now.events in
     let here = standing source c.loop.self.events in
-    let new = standing source c.poll.new.self in
-    let few = c.poll.new.self.few in
-    let given : Gives here (c.unwrap.result ∷ []) new = subst (λ (put : Option Event). Gives here (event_in put) new) c.unwrap.ensures (c.in-Event.ensures.gives source) in
-    gives_more (standing (g.S.Source.state from.source.now) from.events) old new events (c.unwrap.result ∷ []) few before
-    (gives_more old here new [] (c.unwrap.result ∷ []) few c.loop.invariant.gives given)
+    let new = standing source c.at_hand.new.self in
+    let few = c.at_hand.new.self.few in
+    let given = given_by c.in-Some.next in
+    gives_more (standing (g.S.Source.state from.source.now) from.events) old new events given few before
+    (gives_more old here new [] given few c.loop.invariant.gives ([], c.in-Some.ensures.reads source))
 
-pub returns-in-End-clause-plan : goal.returns-in-End-clause-plan
-returns-in-End-clause-plan g c = (c.in-End.ensures.gives (g.S.Source.state c.loop.self.source.now)).plan ∙ c.loop.invariant.gives.plan
-
-pub returns-in-End-clause-given : goal.returns-in-End-clause-given
-returns-in-End-clause-given g c from events before =
+pub returns-in-Some-clause-asked : goal.returns-in-Some-clause-asked
+returns-in-Some-clause-asked g c from before events asked =
     let source = g.S.Source.state c.loop.self.source.now in
-    let old = standing (g.S.Source.state c.args.self.now.source.now) c.args.self.now.events in
+    let first = standing (g.S.Source.state from.source.now) from.events in
     let here = standing source c.loop.self.events in
-    let new = standing source c.poll.new.self in
-    let few = c.poll.new.self.few in
-    gives_more (standing (g.S.Source.state from.source.now) from.events) old new events [] few before
-    (gives_more old here new [] [] few c.loop.invariant.gives (c.in-End.ensures.gives source))
-
-pub returns-in-Stop-clause-plan : goal.returns-in-Stop-clause-plan
-returns-in-Stop-clause-plan g c = (c.in-Stop.ensures.gives (g.S.Source.state c.loop.self.source.now)).plan ∙ c.loop.invariant.gives.plan
-
-pub returns-in-Stop-clause-given : goal.returns-in-Stop-clause-given
-returns-in-Stop-clause-given g c from events before =
-    let source = g.S.Source.state c.loop.self.source.now in
-    let old = standing (g.S.Source.state c.args.self.now.source.now) c.args.self.now.events in
-    let here = standing source c.loop.self.events in
-    let new = standing source c.poll.new.self in
-    let few = c.poll.new.self.few in
-    gives_more (standing (g.S.Source.state from.source.now) from.events) old new events [] few before
-    (gives_more old here new [] [] few c.loop.invariant.gives (c.in-Stop.ensures.gives source))
-
-pub returns-in-Memory-clause-plan : goal.returns-in-Memory-clause-plan
-returns-in-Memory-clause-plan g c = (c.in-Memory.ensures.gives (g.S.Source.state c.loop.self.source.now)).plan ∙ c.loop.invariant.gives.plan
-
-pub returns-in-Memory-clause-given : goal.returns-in-Memory-clause-given
-returns-in-Memory-clause-given g c from events before =
-    let source = g.S.Source.state c.loop.self.source.now in
-    let old = standing (g.S.Source.state c.args.self.now.source.now) c.args.self.now.events in
-    let here = standing source c.loop.self.events in
-    let new = standing source c.poll.new.self in
-    let few = c.poll.new.self.few in
-    gives_more (standing (g.S.Source.state from.source.now) from.events) old new events [] few before
-    (gives_more old here new [] [] few c.loop.invariant.gives (c.in-Memory.ensures.gives source))
+    let new = standing source c.at_hand.new.self in
+    either_still first here new before events (given_by c.in-Some.next) c.at_hand.new.self.few (c.in-Some.ensures.reads source) (c.loop.invariant.asked first before events asked)
 
 pub returns-clause-given : goal.returns-clause-given
 returns-clause-given g c from events before =
@@ -72,8 +42,11 @@ loop-preserved g c =
     let next = g.S.Source.state c.read-read.new.self in
     let old = standing (g.S.Source.state c.args.self.now.source.now) c.args.self.now.events in
     let here = standing before c.loop.self.events in
-    let asked = standing before c.poll.new.self in
-    let polled : Gives here [] asked = c.in-Ask.ensures.gives before in
+    let between = standing before c.at_hand.new.self in
+    let new = standing next c.take.new.self in
+    let none : c.at_hand.result ≡ None = c.in_default.is in
+    let polled : Reads here [] [] between = subst (λ (answer : Option Next). Reads here [] (given_at answer) between) none (c.at_hand.ensures.reads before) in
+    let asking = c.at_hand.ensures.asks none in
     let read = c.read-read.ensures in
     let was : WasRead before c.read-read.new.into c.read-read.result next = record {
       size = omega (arith, read.size, c.loop.invariant.size);
@@ -86,9 +59,13 @@ loop-preserved g c =
       fault = read.fault;
       never_falls = read.never_falls;
     } in
+    let takes = c.take.ensures.takes before next was in
     record {
-      gives = gives_still old asked (standing next c.take.new.self) [] (gives_still old here asked [] c.loop.invariant.gives polled) (c.take.ensures.gives before next was);
-      stops = c.take.ensures.stops ∙ c.in-Ask.ensures.unasked refl ∙ c.loop.invariant.stops;
+      gives = gives_still old between new [] (gives_still old here between [] c.loop.invariant.gives ([], polled)) (takes.piece, takes.reads);
+      asked = λ from first events asked.
+          let gave : Gives from events here = either_gives from first events here (c.loop.invariant.asked from first events asked) in
+          inr (asked_piece from between new events asking.going asking.hungry (gives_still from here between events gave ([], polled)) takes);
+      stops = c.take.ensures.stops ∙ c.at_hand.ensures.unasked none ∙ c.loop.invariant.stops;
       token = c.loop.invariant.token;
       size = read.size ∙ c.loop.invariant.size;
     }

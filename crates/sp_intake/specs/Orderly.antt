@@ -9,7 +9,6 @@ use Rattle.sp_plan.specs.Events.{fits, NeverGoesBack}
 use Rattle.sp_plan.specs.declared.event.Event.{Event}
 use Rattle.sp_plan.specs.declared.plan.Plan.{Plan}
 use Rattle.sp_intake.specs.Following.{ComeNext}
-use Rattle.sp_intake.specs.Laws.{none_next}
 
 -- what stands in a list is one of its items
 item_is : (P : Event → Type 0) (events : List Event) (i : ℕ) (x : Event) → All P events → slice_get events i ≡ Some x → P x
@@ -26,6 +25,16 @@ ordered_one e zero zero x y le xi yj =
     subst (λ (z : Event). x.time ≤ℤ z.time) same (omega (arith, ints))
 ordered_one e zero (suc j) x y le xi yj = absurd (cc yj)
 ordered_one e (suc i) j x y le xi yj = absurd (cc xi)
+
+-- no event comes next, where the last time is none before
+pub none_next : (q : Plan) (old new : ℤ) → old ≤ℤ new → ComeNext q old [] new
+none_next q old new le = record {
+  fit = All-nil (λ x. fits q x ≡ true);
+  ordered = λ i j x y le xi yj. absurd (cc xi);
+  after = All-nil (λ e. old ≤ℤ e.time);
+  before = All-nil (λ e. e.time ≤ℤ new);
+  onward = le;
+}
 
 pub same_next : (q : Plan) (old new : ℤ) → new ≡ old → ComeNext q old [] new
 same_next q old new is = none_next q old new (omega (arith, ints, is))

@@ -1,0 +1,111 @@
+-- What an input had given when it last asked its source.
+use Rattle.std.proofs.Common.{◌≡◌, ◌⊎◌, inl, inr, ◌≤◌, ℕ, false, List, [], ◌++◌, length, refl, sym, ◌∙◌, ap, subst, append_assoc, length-append, arith}
+use Rattle.std.proofs.lemmas.List.{append-nil}
+use Rattle.sp_base.specs.Limits.{event_limit}
+use Rattle.sp_plan.specs.declared.event.Event.{Event}
+use Rattle.sp_plan.specs.declared.plan.Plan.{Plan}
+use Rattle.sp_ports.specs.Giving.{AreGood}
+use Rattle.sp_intake.specs.declared.events.State.TheVariants.{Going}
+use Rattle.sp_intake.specs.Laws.{reads_more, gives_good, asked_gives}
+use Rattle.sp_intake.specs.Pieces.{TakesPiece, Asked, AskedSoFar, AsksFrom}
+use Rattle.sp_intake.specs.Reading.{Reading, read}
+use Rattle.sp_intake.specs.Standing.{Standing, IsHungry, Leads, Since, Reads, Gives, stop_in}
+use Rattle.sp_intake.proofs.Since.{settled_read, read_goes}
+
+-- what is given of bytes that were there, behind what was given before
+pub reads_still : (a b c : Standing) (bytes : List ℕ) (xs ys : List Event) → length (xs ++ ys) ≤ event_limit → Reads a bytes xs b → Reads b [] ys c → Reads a bytes (xs ++ ys) c
+reads_still a b c bytes xs ys few one two =
+    subst (λ (l : List ℕ). Reads a l (xs ++ ys) c) (append-nil bytes) (reads_more a b c bytes [] xs ys few one two)
+
+module _ (old here new : Standing) (before events : List Event) where
+  -- more was given, and the source was not asked
+  pub asked_still : (more : List Event) → new.reader.kept.given ≤ event_limit → Reads here [] more new → Asked old before events here → Asked old before (events ++ more) new
+  asked_still more small reads (inl none) =
+      let few : length (events ++ more) ≤ event_limit = omega (arith, length-append events more, none.1.count, reads.count, small) in
+      inl (none.0, reads_still old here new [] events more few none.1 reads)
+  asked_still more small reads (inr behind) =
+      let gave = asked_gives old before events here (inr behind) in
+      let few : length (events ++ more) ≤ event_limit = omega (arith, length-append events more, gave.1.count, reads.count, small) in
+      let all : events ++ more ≡ before ++ (behind.others ++ more) = ap (λ (l : List Event). l ++ more) behind.are ∙ append_assoc before behind.others more in
+      let last_few : length (behind.others ++ more) ≤ event_limit = omega (arith, few, ap length all, length-append before (behind.others ++ more)) in
+      inr (record {
+        front = behind.front;
+        between = behind.between;
+        first = behind.first;
+        going = behind.going;
+        hungry = behind.hungry;
+        piece = behind.piece;
+        short = behind.short;
+        others = behind.others ++ more;
+        last = reads_still behind.between here new behind.piece behind.others more last_few behind.last reads;
+        are = all;
+        few = few;
+      })
+
+-- the source was asked, where no whole row was left
+pub asked_piece : (old between new : Standing) (events : List Event) → between.state ≡ Going → IsHungry between.reader → Gives old events between → TakesPiece between new → Asked old events events new
+asked_piece old between new events going hungry gave takes = inr (record {
+  front = gave.0;
+  between = between;
+  first = gave.1;
+  going = going;
+  hungry = hungry;
+  piece = takes.piece;
+  short = takes.short;
+  others = [];
+  last = takes.reads;
+  are = sym (append-nil events);
+  few = gave.1.few;
+})
+
+-- what was given, whenever the source was asked
+pub either_gives : (old : Standing) (before events : List Event) (new : Standing) → Asked old before events new ⊎ Asked old events events new → Gives old events new
+either_gives old before events new (inl asked) = asked_gives old before events new asked
+either_gives old before events new (inr asked) = asked_gives old events events new asked
+
+-- more was given, and the source was not asked
+pub either_still : (old here new : Standing) (before events more : List Event) → new.reader.kept.given ≤ event_limit → Reads here [] more new → Asked old before events here ⊎ Asked old events events here
+    → Asked old before (events ++ more) new ⊎ Asked old events (events ++ more) new
+either_still old here new before events more small reads (inl asked) = inl (asked_still old here new before events more small reads asked)
+either_still old here new before events more small reads (inr asked) = inr (asked_still old here new events events more small reads asked)
+
+-- what was given when the source was last asked is just what the bytes before the last piece give
+pub asks_from : (q : Plan) (first : Standing) → Since q first.source [] [] first → AsksFrom q first.source first
+asks_from q first since before events last asked = by asked
+  where
+    good : AreGood q events
+    good = subst (λ (p : Plan). AreGood p events) since.plan (gives_good first last events (asked_gives first before events last asked))
+
+    by : Asked first before events last → AskedSoFar q first.source last.source before events (stop_in last.state)
+    by (inl none) = record {
+      taken = [];
+      has = (none.1.since q first.source [] [] since).has;
+      good = good;
+      last = record {
+        front = [];
+        piece = [];
+        are = refl;
+        short = omega arith;
+        goes_on = refl;
+      };
+      are = none.0;
+    }
+    by (inr behind) =
+        let one : Since q first.source behind.front before behind.between = behind.first.since q first.source [] [] since in
+        let two : Since q first.source (behind.front ++ behind.piece) (before ++ behind.others) last = behind.last.since q first.source behind.front before one in
+        let all : Since q first.source (behind.front ++ behind.piece) events last = subst (λ (l : List Event). Since q first.source (behind.front ++ behind.piece) l last) (sym behind.are) two in
+        let leads : Leads q behind.front before behind.between = one.leads behind.going in
+        let settled = settled_read q behind.front before behind.between leads behind.hungry.settled in
+        record {
+          taken = behind.front ++ behind.piece;
+          has = all.has;
+          good = good;
+          last = record {
+            front = behind.front;
+            piece = behind.piece;
+            are = refl;
+            short = behind.short;
+            goes_on = read_goes q behind.front before behind.between leads behind.hungry.settled behind.hungry.going behind.hungry.open_;
+          };
+          are = ap (λ (r : Reading). r.events) (settled ∙ ap (read q behind.front) (leads.ended ∙ behind.hungry.open_));
+        }

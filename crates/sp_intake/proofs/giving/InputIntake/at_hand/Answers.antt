@@ -1,0 +1,23 @@
+use Rattle.std.proofs.Common.{[]}
+use Rattle.sp_ports.specs.Giving.{given_at}
+use Rattle.sp_intake.specs.Asked.{standing}
+use Rattle.sp_intake.proofs.Asking.{asked_still}
+use Rattle.sp_intake.proofs.Since.{gives_more}
+use Rattle.sp_intake.proofs.giving.InputIntake.at_hand.Goals as goal
+
+pub returns-clause-plan : goal.returns-clause-plan
+returns-clause-plan g c = (c.at_hand.ensures.reads (g.S.Source.state c.args.self.now.source.now)).plan
+
+pub returns-clause-given : goal.returns-clause-given
+returns-clause-given g c from events before =
+    let source = g.S.Source.state c.args.self.now.source.now in
+    let old = standing source c.args.self.now.events in
+    let new = standing source c.at_hand.new.self in
+    gives_more (standing (g.S.Source.state from.source.now) from.events) old new events (given_at c.at_hand.result) c.at_hand.new.self.few before ([], c.at_hand.ensures.reads source)
+
+pub returns-clause-asked : goal.returns-clause-asked
+returns-clause-asked g c from before events asked =
+    let source = g.S.Source.state c.args.self.now.source.now in
+    let old = standing source c.args.self.now.events in
+    let new = standing source c.at_hand.new.self in
+    asked_still (standing (g.S.Source.state from.source.now) from.events) old new before events (given_at c.at_hand.result) c.at_hand.new.self.few (c.at_hand.ensures.reads source) asked
