@@ -1,5 +1,5 @@
 -- Laws of what an input gives: where it was not asked it gave nothing, what it gives is good, and what it gives from one standing on comes behind what it gave before.
-use Rattle.std.specs.Prelude.{◌≡◌, ◌≤◌, ℕ, List, [], ◌++◌, length, refl}
+use Rattle.std.specs.Prelude.{◌≤◌, ℕ, List, [], ◌++◌, length, refl}
 use Rattle.std.proofs.Common.{inl, inr, sym, ◌∙◌, subst, append_assoc, length-append, arith}
 use Rattle.std.proofs.lemmas.Int.{ints}
 use Rattle.std.proofs.lemmas.List.{append-nil}

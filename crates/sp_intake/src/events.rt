@@ -3,6 +3,7 @@ ghost use Rattle.std.specs.Arc.{arc_value};
 ghost use Rattle.sp_base.specs.Limits.{event_limit};
 ghost use Rattle.sp_io.specs.Outside.{SourceState, Rose};
 ghost use Rattle.sp_plan.specs.Compiled.{IsCompiled};
+ghost use Rattle.sp_plan.specs.declared.event.Event as event;
 ghost use Rattle.sp_ports.specs.Giving.{given_at};
 ghost use Rattle.sp_intake.specs.declared.events.State.TheVariants.{Going};
 ghost use Rattle.sp_intake.specs.Coming.{IsReady};
@@ -39,7 +40,7 @@ pub struct EventReader {
 }
 
 impl EventReader {
-    ghost use Rattle.sp_intake.specs.Standing.{Reads, WasRead, stop_in, polled_in};
+    ghost use Rattle.sp_intake.specs.Standing.{Reads, WasRead, stop_in, is_whole, polled_in};
     ghost use Rattle.sp_intake.specs.Pieces.{TakesPiece};
     ghost use Rattle.sp_intake.specs.Asked.{standing, IsFresh, IsUnasked, IsAsking};
     ghost use Rattle.sp_intake.specs.Kept.{plan_in};
@@ -83,6 +84,8 @@ impl EventReader {
         ensures uncounted { result ≡ Polled.Memory → self.new.stops ≡ self.old.stops }
         ensures unasked { result ≡ Polled.Ask → self.new.stops ≡ self.old.stops }
         ensures still { result ≡ Polled.Ask → self.new.state ≡ self.old.state }
+        ensures event { result ≡ Polled.Event
+            → (self.new.state ≡ self.old.state) × (self.new.stops ≡ self.old.stops) }
     {
         match self.state {
             State::Going => {}
@@ -108,6 +111,8 @@ impl EventReader {
     pub(crate) fn at_hand(&mut self, alloc: Global) -> Option<Next>
         ensures reads { (source : SourceState)
             → Reads (standing source self.old) [] (given_at result) (standing source self.new) }
+        ensures event { (given : event.Event) → result ≡ Some (Next.Event given)
+            → (self.new.state ≡ self.old.state) × (self.new.stops ≡ self.old.stops) }
         ensures asks { result ≡ None → IsAsking self.new }
         ensures end { result ≡ Some Next.End → stop_in self.new.state ≡ Some Stop.End }
         ensures stop { result ≡ Some Next.Stop → Rose self.old.stops self.new.stops }
@@ -133,6 +138,7 @@ impl EventReader {
         ensures takes { (before next : SourceState) → WasRead before buffer.now read next
             → TakesPiece (standing before self.old) (standing next self.new) }
         ensures stops { self.new.stops ≡ self.old.stops }
+        ensures more { is_whole (stop_in self.new.state) ≡ false }
     {
         match read {
             Ok(0) => self.reader.end(),

@@ -70,7 +70,9 @@ pub trait Intake: Send + Drop {
         ensures asked { (from : Self) (before events : List event.Event)
             → asked from before events self.old
             → (asked from before (events ++ given_by result) self.new)
-            ⊎ (asked from events (events ++ given_by result) self.new) };
+            ⊎ (asked from events (events ++ given_by result) self.new) }
+        ensures event { (given : event.Event) → result ≡ Next.Event given
+            → (ended self.new ≡ ended self.old) × (stops self.new ≡ stops self.old) };
 
     /// The next answer, if it is there without asking the outside. Where it is not, all is as before.
     fn at_hand(&mut self, alloc: Global) -> Option<Next>
@@ -85,6 +87,8 @@ pub trait Intake: Send + Drop {
         ensures asked { (from : Self) (before events : List event.Event)
             → asked from before events self.old
             → asked from before (events ++ given_at result) self.new }
+        ensures event { (given : event.Event) → result ≡ Some (Next.Event given)
+            → (ended self.new ≡ ended self.old) × (stops self.new ≡ stops self.old) }
         ensures none { result ≡ None → must_ask self.new }
         ensures still_ended { result ≡ None → ended self.new ≡ ended self.old }
         ensures still_stops { result ≡ None → stops self.new ≡ stops self.old };

@@ -1,7 +1,6 @@
-use Rattle.std.proofs.Common.{◌≡◌, ◌≢◌, ℕ, ◌<◌, ◌≤◌, List, [], take, false, sym, subst, arith, rules}
+use Rattle.std.proofs.Common.{◌≡◌, ◌≢◌, ℕ, ◌<◌, [], take, false, sym, subst, arith, rules}
 use Rattle.std.specs.Prelude.{⊤, Result, Ok, Err, OnOk, is_err}
 use Rattle.std.specs.declared.alloc.AllocError.{AllocError}
-use Rattle.sp_base.specs.Limits.{piece_limit}
 use Rattle.sp_io.specs.Outside.{Gave}
 use Rattle.sp_intake.specs.declared.events.State.TheVariants.{Stopped, Broken}
 use Rattle.sp_intake.specs.declared.input.Stop.TheVariants.{Open}

@@ -1,6 +1,8 @@
-use Rattle.std.proofs.Common.{[]}
+use Rattle.std.proofs.Common.{[], ap}
 use Rattle.sp_ports.specs.Giving.{given_at}
+use Rattle.sp_intake.specs.declared.events.State.{State}
 use Rattle.sp_intake.specs.Asked.{standing}
+use Rattle.sp_intake.specs.Standing.{stop_in, is_whole}
 use Rattle.sp_intake.proofs.Asking.{asked_still}
 use Rattle.sp_intake.proofs.Since.{gives_more}
 use Rattle.sp_intake.proofs.giving.InputIntake.at_hand.Goals as goal
@@ -14,6 +16,11 @@ returns-clause-given g c from events before =
     let old = standing source c.args.self.now.events in
     let new = standing source c.at_hand.new.self in
     gives_more (standing (g.S.Source.state from.source.now) from.events) old new events (given_at c.at_hand.result) c.at_hand.new.self.few before ([], c.at_hand.ensures.reads source)
+
+pub returns-clause-event : goal.returns-clause-event
+returns-clause-event g c given is =
+    let at = c.at_hand.ensures.event given is in
+    (ap (λ (state : State). is_whole (stop_in state)) at.0, at.1)
 
 pub returns-clause-asked : goal.returns-clause-asked
 returns-clause-asked g c from before events asked =

@@ -1,12 +1,17 @@
-use Rattle.std.proofs.Common.{◌≡◌, inr, [], ◌∙◌, subst, arith}
-use Rattle.std.specs.Prelude.{Option, None}
+use Rattle.std.proofs.Common.{◌≡◌, inr, [], Bool, sym, ◌∙◌, ap, subst, arith}
+use Rattle.std.specs.Prelude.{Option, Some, None}
 use Rattle.sp_ports.specs.Giving.{given_by, given_at}
 use Rattle.sp_ports.specs.declared.intake.Next.{Next}
+use Rattle.sp_intake.specs.declared.events.State.{State}
 use Rattle.sp_intake.specs.Asked.{standing}
-use Rattle.sp_intake.specs.Standing.{Reads, Gives, WasRead}
+use Rattle.sp_intake.specs.Standing.{Reads, Gives, WasRead, stop_in, is_whole}
 use Rattle.sp_intake.proofs.Asking.{asked_piece, either_gives, either_still}
 use Rattle.sp_intake.proofs.Since.{gives_more, gives_still}
 use Rattle.sp_intake.proofs.giving.InputIntake.next.Goals as goal
+
+-- whether the input was read to its end, where it stands so
+abbrev is_whole_in : State → Bool
+is_whole_in state = is_whole (stop_in state)
 
 pub returns-in-Some-clause-plan : goal.returns-in-Some-clause-plan
 returns-in-Some-clause-plan g c = (c.in-Some.ensures.reads (g.S.Source.state c.loop.self.source.now)).plan ∙ c.loop.invariant.gives.1.plan
@@ -29,6 +34,11 @@ returns-in-Some-clause-asked g c from before events asked =
     let here = standing source c.loop.self.events in
     let new = standing source c.at_hand.new.self in
     either_still first here new before events (given_by c.in-Some.next) c.at_hand.new.self.few (c.in-Some.ensures.reads source) (c.loop.invariant.asked first before events asked)
+
+pub returns-in-Some-clause-event : goal.returns-in-Some-clause-event
+returns-in-Some-clause-event g c given is =
+    let at = c.in-Some.ensures.event given (ap (λ (answer : Next). Some answer) is) in
+    (ap is_whole_in at.0 ∙ c.loop.invariant.ended, at.1 ∙ c.loop.invariant.stops)
 
 pub returns-clause-given : goal.returns-clause-given
 returns-clause-given g c from events before =
@@ -65,6 +75,7 @@ loop-preserved g c =
       asked = λ from first events asked.
           let gave : Gives from events here = either_gives from first events here (c.loop.invariant.asked from first events asked) in
           inr (asked_piece from between new events asking.going asking.hungry (gives_still from here between events gave ([], polled)) takes);
+      ended = c.take.ensures.more ∙ sym (ap is_whole_in (sym (c.at_hand.ensures.still none) ∙ asking.going)) ∙ c.loop.invariant.ended;
       stops = c.take.ensures.stops ∙ c.at_hand.ensures.unasked none ∙ c.loop.invariant.stops;
       token = c.loop.invariant.token;
       size = read.size ∙ c.loop.invariant.size;
