@@ -24,21 +24,9 @@ use Rattle.sp_split.specs.declared.feeding.Fed.{Fed}
 use Rattle.sp_split.specs.declared.feeding.Fed.TheVariants as f
 use Rattle.sp_split.specs.Driving.{Drove, FailedWithin, FellShort}
 use Rattle.sp_spread.specs.Journaled.{fed, makes_child, MakesNoChild}
-use Rattle.sp_split.specs.Stages.{AllFinished, FedOn, IsFed, WorkedOn, WorkedTaken, WorkedUntilRefused, WorkedUntilShort}
+use Rattle.sp_split.specs.Going.{Going, Ran}
+use Rattle.sp_split.specs.Stages.{AllFinished, Advanced, AdvancedWith, FedOn, GoesOn, IsFed}
 use Rattle.sp_split.proofs.Taken.{took_none, took_more, took_first, failed_behind, first_behind}
-
--- the core was fed what the intake gave
-pub record Ran (gave : List Event → Type 0) (first c : Running) : Type 0 where
-  pub plan : c.plan ≡ first.plan
-  pub bound : c.bound ≡ first.bound
-  pub given : gave c.machine.events
-  pub fed_are : fed c.journal ≡ c.machine.events
-
--- between two stages: the outlet took all that was emitted
-pub record Going (gave : List Event → Type 0) (first c : Running) (old new : OutletState) : Type 0 where
-  pub run : Ran gave first c
-  pub took : Took first.plan c.machine.emitted old new
-  pub no_fault : new.faults ≡ old.faults
 
 -- before the first stage
 pub going_none : (gave : List Event → Type 0) (c : Running) (s : OutletState) → c ≡ begun c.plan c.bound → gave [] → Going gave c c s s
@@ -72,7 +60,7 @@ going_fed gave gave' first c d old s going more given = record {
 
 module _ (gave : List Event → Type 0) (first c d : Running) (old s t : OutletState) (going : Going gave first c old s) where
   -- the core did steps that feed nothing
-  pub ran_on : d.plan ≡ c.plan → d.bound ≡ c.bound → d.machine.events ≡ c.machine.events → (fed c.journal ≡ c.machine.events → fed d.journal ≡ d.machine.events) → Ran gave first d
+  ran_on : d.plan ≡ c.plan → d.bound ≡ c.bound → d.machine.events ≡ c.machine.events → (fed c.journal ≡ c.machine.events → fed d.journal ≡ d.machine.events) → Ran gave first d
   ran_on plan bound events fed_are = record {
     plan = plan ∙ going.run.plan;
     bound = bound ∙ going.run.bound;
@@ -80,61 +68,62 @@ module _ (gave : List Event → Type 0) (first c d : Running) (old s t : OutletS
     fed_are = fed_are going.run.fed_are;
   }
 
-  module _ (ms : List Match) (emitted : d.machine.emitted ≡ c.machine.emitted ++ ms) where
-    pub took_on : Took c.plan ms s t → Took first.plan d.machine.emitted old t
-    took_on so =
-        subst (λ (l : List Match). Took first.plan l old t) (sym emitted)
-        (took_more first.plan c.machine.emitted ms old s t going.took (subst (λ (q : Plan). Took q ms s t) going.run.plan so))
+  -- it worked
+  pub ran_worked : (ms : List Match) → Advanced c d ms → Ran gave first d
+  ran_worked ms w = ran_on w.plan w.bound w.events w.fed_are
 
-    pub failed_on : FailedWithin c.plan ms s t → FailedWithin first.plan d.machine.emitted old t
-    failed_on so =
-        subst (λ (l : List Match). FailedWithin first.plan l old t) (sym emitted)
-        (failed_behind first.plan c.machine.emitted ms old s t going.took (subst (λ (q : Plan). FailedWithin q ms s t) going.run.plan so))
+  -- of the matches that it emitted this is so, by the plan of the outlet
+  module _ (p : Plan) (same : p ≡ first.plan) where
+    pub took_worked : AdvancedWith c d (λ ms. Took p ms s t) → Took first.plan d.machine.emitted old t
+    took_worked w =
+        subst (λ (l : List Match). Took first.plan l old t) (sym w.1.emitted)
+        (took_more first.plan c.machine.emitted w.0 old s t going.took (subst (λ (q : Plan). Took q w.0 s t) same w.2))
 
-    pub short_on : TookFirst c.plan ms s t → TookFirst first.plan d.machine.emitted old t
-    short_on so =
-        subst (λ (l : List Match). TookFirst first.plan l old t) (sym emitted)
-        (first_behind first.plan c.machine.emitted ms old s t going.took (subst (λ (q : Plan). TookFirst q ms s t) going.run.plan so))
+    pub failed_worked : AdvancedWith c d (λ ms. FailedWithin p ms s t) → FailedWithin first.plan d.machine.emitted old t
+    failed_worked w =
+        subst (λ (l : List Match). FailedWithin first.plan l old t) (sym w.1.emitted)
+        (failed_behind first.plan c.machine.emitted w.0 old s t going.took (subst (λ (q : Plan). FailedWithin q w.0 s t) same w.2))
 
-  -- the core worked alone
-  pub ran_worked : WorkedOn c d → Ran gave first d
-  ran_worked w = ran_on w.on.plan w.on.bound w.events w.on.fed_are
+    pub short_worked : AdvancedWith c d (λ ms. TookFirst p ms s t) → TookFirst first.plan d.machine.emitted old t
+    short_worked w =
+        subst (λ (l : List Match). TookFirst first.plan l old t) (sym w.1.emitted)
+        (first_behind first.plan c.machine.emitted w.0 old s t going.took (subst (λ (q : Plan). TookFirst q w.0 s t) same w.2))
 
-  pub took_worked : WorkedTaken c d s t → Took first.plan d.machine.emitted old t
-  took_worked w = took_on w.matches w.emitted w.so
+-- why feeding ended, by what was told of an end and of a stop
+abbrev pub WasFed : Fed → Bool → Bool → Type 0 → Type 0
+WasFed f.More told all stopped = told ≡ false
+WasFed f.Dry told all stopped = told ≡ false
+WasFed f.End told all stopped = (told ≡ true) × (all ≡ true)
+WasFed f.Stop told all stopped = (told ≡ false) × stopped
 
-  pub failed_worked : WorkedUntilRefused c d s t → FailedWithin first.plan d.machine.emitted old t
-  failed_worked w = failed_on w.matches w.emitted w.so
-
-  pub short_worked : WorkedUntilShort c d s t → TookFirst first.plan d.machine.emitted old t
-  short_worked w = short_on w.matches w.emitted w.so
-
-  pub going_worked : WorkedTaken c d s t → t.faults ≡ s.faults → Going gave first d old t
-  going_worked w same = record { run = ran_worked w.on; took = took_worked w; no_fault = same ∙ going.no_fault }
+pub was_fed : {A : Type 0} (ended : A → Bool) (stops : A → ℕ) (from now : A) (fed : Fed) (told : Bool) → IsFed ended stops from now fed told → WasFed fed told (ended now) (Rose (stops from) (stops now))
+was_fed ended stops from now f.More told is = is.0
+was_fed ended stops from now f.Dry told is = is.0
+was_fed ended stops from now f.End told is = is
+was_fed ended stops from now f.Stop told is = is
 
 -- the end of input is told only where it was reached
-ends_fed : (fed : Fed) (ended all : Bool) (stopped : Type 0) → IsFed fed ended all stopped → ended ≡ true → all ≡ true
+ends_fed : (fed : Fed) (ended all : Bool) (stopped : Type 0) → WasFed fed ended all stopped → ended ≡ true → all ≡ true
 ends_fed f.More ended all stopped is told = absurd (cc)
+ends_fed f.Dry ended all stopped is told = absurd (cc)
 ends_fed f.End ended all stopped is told = is.1
 ends_fed f.Stop ended all stopped is told = let no = is.0 in absurd (cc)
-
-rose_since : (before old new : ℕ) → before ≤ old → Rose old new → Rose before new
-rose_since before old new low (inl up) = inl (omega arith)
-rose_since before old new low (inr top) = inr top
 
 pub rose_from : (before old new : ℕ) → old ≡ before → Rose old new → Rose before new
 rose_from before old new same rose = subst (λ (n : ℕ). Rose n new) same rose
 
--- why feeding ended, seen from before
-pub fed_since : (fed : Fed) (ended later all : Bool) (before old new : ℕ) → later ≡ ended → before ≤ old → IsFed fed ended all (Rose old new) → IsFed fed later all (Rose before new)
-fed_since f.More ended later all before old new same low is = same ∙ is
-fed_since f.End ended later all before old new same low is = (same ∙ is.0, is.1)
-fed_since f.Stop ended later all before old new same low is = (same ∙ is.0, rose_since before old new low is.1)
+-- an intake that went on since, and was fed so
+pub goes_fed : {A : Type 0} (ended : A → Bool) (stops : A → ℕ) (from mid now : A) (fed : Fed) (told : Bool) → GoesOn ended stops from mid → IsFed ended stops mid now fed told → IsFed ended stops from now fed told
+goes_fed ended stops from mid now f.More told on is = (is.0, (is.1.0 ∙ on.0, is.1.1 ∙ on.1))
+goes_fed ended stops from mid now f.Dry told on is = (is.0, (is.1.0 ∙ on.0, is.1.1 ∙ on.1))
+goes_fed ended stops from mid now f.End told on is = is
+goes_fed ended stops from mid now f.Stop told on is = (is.0, rose_from (stops from) (stops mid) (stops now) on.1 is.1)
 
-pub fed_as : (fed other : Fed) (ended all : Bool) (stopped : Type 0) → fed ≡ other → IsFed fed ended all stopped → IsFed other ended all stopped
-fed_as fed other ended all stopped same is = subst (λ (f : Fed). IsFed f ended all stopped) same is
+-- why feeding ended stays while nothing is fed
+pub fed_later : {A : Type 0} (ended : A → Bool) (stops : A → ℕ) (from now : A) (fed : Fed) (told later : Bool) → later ≡ told → IsFed ended stops from now fed told → IsFed ended stops from now fed later
+fed_later ended stops from now fed told later same is = subst (λ (b : Bool). IsFed ended stops from now fed b) (sym same) is
 
-module _ (gave : List Event → Type 0) (all : Bool) (stopped : Type 0) (first c : Running) (old new : OutletState) (fed : Fed) (is : IsFed fed c.machine.ended all stopped)
+module _ (gave : List Event → Type 0) (all : Bool) (stopped : Type 0) (first c : Running) (old new : OutletState) (fed : Fed) (is : WasFed fed c.machine.ended all stopped)
     (run : Ran gave first c) where
   ends : c.machine.ended ≡ true → all ≡ true
   ends = ends_fed fed c.machine.ended all stopped is

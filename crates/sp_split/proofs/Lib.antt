@@ -9,5 +9,7 @@ pub mod Behind
 pub mod FedThen
 pub mod Finished
 pub mod Added
+pub mod Advanced
 pub mod Going
 pub mod Over
+pub mod Prompt

@@ -4,3 +4,5 @@ pub mod Serving
 pub mod Stages
 pub mod Stopping
 pub mod Crews
+pub mod Going
+pub mod Prompt

@@ -2,7 +2,6 @@
 use Rattle.std.specs.Prelude.{◌≡◌, ℕ, ◌+◌, ◌<◌, ◌≤◌, Bool, false, List, length, None, Ok, Err, IfOk, OnErr}
 use Rattle.std.specs.declared.result.Result.{Result}
 use Rattle.sp_plan.specs.declared.event.Event.{Event}
-use Rattle.sp_plan.specs.declared.found.Match.{Match}
 use Rattle.sp_plan.specs.declared.plan.Plan.{Plan}
 use Rattle.std.specs.List.{count_by, sum, Contains}
 use Rattle.sp_base.specs.Limits.{batch_limit}
@@ -17,7 +16,7 @@ use Rattle.sp_ports.specs.Taking.{OutletState}
 use Rattle.sp_spread.specs.Journaled.{readings_entered}
 use Rattle.sp_spread.specs.Limiting.{AsksAtMost, NeverMore}
 use Rattle.sp_splitter.specs.Splitting.{IsBelowKept}
-use Rattle.sp_splitter.specs.Stages.{Goes, StaysWithin, Went}
+use Rattle.sp_splitter.specs.Stages.{Goes, IsSpreading, StaysWithin}
 use Rattle.sp_split.specs.declared.ended.Ended as ended_as
 use Rattle.sp_split.specs.declared.ended.Went as went
 use Rattle.sp_split.specs.Driving.{CameAbout, Drove, FellShort}
@@ -43,11 +42,6 @@ pub record CanTurn (instances batch : ℕ) (kept : List Job) (next_ticket : ℕ)
   pub unclosed : by.closed ≡ false
   pub last : IsBelowKept by.last kept next_ticket
 
--- A turn for n instances and a batch, and of the matches that it emitted this is so.
-pub record WentWith (n batch : ℕ) (old new : Running) (fact : List Match → Type 0) : Type 0 where
-  pub went : Went n batch old new
-  pub so : fact went.more
-
 -- How a run with n instances came about: its journal is spread, no more tickets are out than there may be, and as many
 -- tickets were collected at least as readings stand in the journal.
 pub record CameBy (n : ℕ) (c : Running) (collected : ℕ) : Type 0 where
@@ -56,6 +50,30 @@ pub record CameBy (n : ℕ) (c : Running) (collected : ℕ) : Type 0 where
   -- nor were more out at any time
   pub never : NeverMore c.plan c.bound n c.journal
   pub read : readings_entered c.journal ≤ collected
+
+-- A splitter may be fed, and take a turn: its journal is spread, no more tickets are out than there may be, nor were at any time, and no lease
+-- asked for more than a batch; its poster collected a ticket for each reading, and may post; and its seat holds nothing.
+pub record IsServing (instances batch : ℕ) (kept : List Job) (c : Running) (by : Posting) (seat : Sitting) : Type 0 where
+  pub spreading : IsSpreading instances c
+  pub never : NeverMore c.plan c.bound instances c.journal
+  pub asked : AsksAtMost batch c.journal
+  pub few : out_count c.machine ≤ instances + 1
+  pub read : readings_entered c.journal ≤ length by.got
+  pub can : CanTurn instances batch kept c.machine.next_ticket by
+  pub free : seat.holding ≡ None
+
+-- How a splitter came to where it stands: no lease asked for more than a batch, and its poster has not closed the hub.
+pub record CameServing (instances batch : ℕ) (c : Running) (by : Posting) : Type 0 where
+  pub came : CameBy instances c (length by.got)
+  pub asked : AsksAtMost batch c.journal
+  pub unclosed : by.closed ≡ false
+
+pub serving_came : (instances batch : ℕ) (kept : List Job) (c : Running) (by : Posting) (seat : Sitting) → IsServing instances batch kept c by seat → CameServing instances batch c by
+serving_came instances batch kept c by seat is = record {
+  came = record { spread = is.spreading.spread; few = is.few; never = is.never; read = is.read };
+  asked = is.asked;
+  unclosed = is.can.unclosed;
+}
 
 -- What a hub of so many seats did, as its history tells it, where its poster collected so many tickets: each seat but that of number 0 was
 -- answered last that no job will come.

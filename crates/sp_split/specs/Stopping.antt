@@ -11,6 +11,7 @@ use Rattle.sp_split.specs.declared.feeding.Fed.TheVariants as f
 -- why a run is over where every closed window is finished: by how feeding ended
 abbrev pub why_fed : Fed → Option Why
 why_fed f.More = None
+why_fed f.Dry = None
 why_fed f.End = Some why.Whole
 why_fed f.Stop = Some why.Stopped
 

@@ -1,59 +1,108 @@
 // A core on one thread: events are fed, and the root is read, window after window.
-ghost use Rattle.std.specs.Prelude.{◌≡◌, ◌≤◌, IfOk, OnErr, List};
+ghost use Rattle.std.specs.Prelude.{◌≡◌, ◌≤◌, IfOk, OnOk, OnErr};
 ghost use Rattle.sp_base.specs.Limits.{batch_limit};
 ghost use Rattle.sp_io.specs.Outside.{Rose};
 ghost use Rattle.sp_core.specs.Running.{begun};
 ghost use Rattle.sp_spread.specs.Journaled.{MakesNoChild};
 ghost use Rattle.sp_spread.specs.Limiting.{AsksAtMost};
 ghost use Rattle.sp_split.specs.Driving.{Drove, FellShort};
+ghost use Rattle.sp_split.specs.Prompt.{IsPrompt};
+ghost use Rattle.sp_split.specs.Stages.{CameAlone};
 
-use crate::feeding::feed;
-use crate::stopping::why_over;
+use crate::driver::Driver;
+use crate::feeding::Fed;
+use crate::running::round;
 use crate::working::work_off;
-use crate::{Memory, Went, Why, law};
+use crate::{Memory, Went, Why};
 use sp_chance::Predictor;
-use sp_core::Core;
+use sp_core::{Core, CoreFault, Emitted};
+use sp_plan::Event;
 use sp_ports::{Intake, Outlet};
-use std::alloc::Global;
+use std::alloc::{AllocError, Global};
 
-// Feeds a core that has done no step and works off what was fed, until the run is over; answers why it is.
-fn feed_and_work<I: Intake, O: Outlet>(
-    alloc: Global,
-    core: &mut Core,
+// A core for which no instance works, and what learns from it.
+#[derive(Drop)]
+struct Lone {
+    core: Core,
     batch: u32,
-    predictor: &mut dyn Predictor,
+    predictor: Box<dyn Predictor>,
+}
+
+impl Driver for Lone {
+    ghost use Rattle.sp_split.specs.Stages.{IsAlone, CameAlone, alone_came};
+
+    ghost core = { λ lone. lone.core };
+
+    ghost instances = { λ lone. 0 };
+
+    ghost batch = { λ lone. lone.batch };
+
+    ghost ready = { λ lone. IsAlone lone.core };
+
+    ghost came = { λ lone. CameAlone lone.core };
+
+    ghost ready_came = { λ lone ready. alone_came lone.core ready };
+
+    fn core(&self) -> &Core {
+        &self.core
+    }
+
+    fn batch(&self) -> u32 {
+        self.batch
+    }
+
+    fn feed(&mut self, alloc: Global, event: Event) -> Result<(), Memory> {
+        match self.core.feed(alloc, event) {
+            Ok(_) => Ok(()),
+            Err(CoreFault::Memory) => Err(AllocError),
+            Err(CoreFault::Refused(_)) => unreachable!(),
+        }
+    }
+
+    fn end(&mut self) {
+        if self.core.end().is_err() {
+            unreachable!()
+        }
+    }
+
+    fn work(&mut self, alloc: Global) -> Result<Vec<Emitted>, Memory> {
+        work_off(alloc, &mut self.core, &mut *self.predictor)
+    }
+}
+
+// Round after round, until the run is over; answers why it is.
+fn run_alone<I: Intake, O: Outlet>(
+    alloc: Global,
+    lone: &mut Lone,
     intake: &mut I,
     outlet: &mut O,
 ) -> Result<Why, Memory>
-    requires fresh { core.old ≡ begun core.old.plan core.old.bound }
-    requires some { 1 ≤ batch }
-    requires most { batch ≤ batch_limit }
-    requires intake_plan { I.plan intake.old ≡ core.old.plan }
-    requires outlet_plan { O.plan outlet.old ≡ core.old.plan }
+    requires fresh { lone.old.core ≡ begun lone.old.core.plan lone.old.core.bound }
+    requires intake_plan { I.plan intake.old ≡ lone.old.core.plan }
+    requires outlet_plan { O.plan outlet.old ≡ lone.old.core.plan }
     ensures ended { IfOk result (λ why. Drove (λ events. I.gave intake.old events intake.new)
         (I.ended intake.new)
-        (Rose (I.stops intake.old) (I.stops intake.new)) core.old (O.state outlet.old)
-        (O.state outlet.new)
-        (record { core = core.new; why = why })) }
-    ensures alone { IfOk result (λ why. MakesNoChild core.new.journal) }
-    ensures asked { IfOk result (λ why. AsksAtMost batch_limit core.new.journal) }
+        (Rose (I.stops intake.old) (I.stops intake.new)) lone.old.core (O.state outlet.old)
+        (O.state outlet.new) (record { core = lone.new.core; why = why })) }
+    ensures alone { CameAlone lone.new.core }
     ensures short { OnErr result
         (FellShort (λ events. I.gave intake.old events intake.new) (I.ended intake.new)
-        core.old.plan (O.state outlet.old) (O.state outlet.new)) }
+        lone.old.core.plan (O.state outlet.old) (O.state outlet.new)) }
+    ensures prompt { IsPrompt (I.asked intake.old) intake.new lone.old.core.plan
+        (O.state outlet.old) (O.state outlet.new) }
     ensures same { (I.plan intake.new ≡ I.plan intake.old)
         × (I.token intake.new ≡ I.token intake.old) }
     ensures same_out { (O.plan outlet.new ≡ O.plan outlet.old)
         × (O.token outlet.new ≡ O.token outlet.old) }
 {
-    // An intake ends long before so many turns.
+    let mut fed = Fed::More;
+    // An intake ends long before so many rounds.
     for _ in 0..u64::MAX {
-        law::steps_lead_to(core);
-        law::finished_windows_stay();
-        let fed = feed(alloc, core, batch, intake)?;
-        let put = work_off(alloc, core, predictor, outlet);
-        if let Some(why) = why_over(fed, put, true) {
+        let round = round(alloc, lone, fed, intake, outlet)?;
+        if let Some(why) = round.over {
             return Ok(why);
         }
+        fed = round.fed;
     }
     Ok(Why::Memory)
 }
@@ -62,15 +111,16 @@ fn feed_and_work<I: Intake, O: Outlet>(
 /// It always returns, and no speculative version is made. `Whole` comes only where the intake reached the end of
 /// its input, `Stopped` only where its count of stops rose, `Refused` only where the outlet's count of faults did;
 /// the windows that are closed are finished for the first two, and all their matches were taken. After want of
-/// memory the outlet took the first matches of what the events given come to.
+/// memory the outlet took the first matches of what the events given come to. However it ends, the intake asked the
+/// outside for more only where the outlet had taken all matches of the windows that were closed by then.
 ///
 /// Besides, and no clause says so: at most `batch` events, 1 to 1,024, are fed before the windows that they closed
 /// are finished, and the predictor learns from what was read.
 pub(crate) fn drive_alone<I: Intake, O: Outlet>(
     alloc: Global,
-    mut core: Core,
+    core: Core,
     batch: u32,
-    mut predictor: Box<dyn Predictor>,
+    predictor: Box<dyn Predictor>,
     intake: &mut I,
     outlet: &mut O,
 ) -> Result<Went, Memory>
@@ -88,11 +138,21 @@ pub(crate) fn drive_alone<I: Intake, O: Outlet>(
     ensures short { OnErr result
         (FellShort (λ events. I.gave intake.old events intake.new) (I.ended intake.new)
         core.plan (O.state outlet.old) (O.state outlet.new)) }
+    ensures prompt { IsPrompt (I.asked intake.old) intake.new core.plan (O.state outlet.old)
+        (O.state outlet.new) }
     ensures same { (I.plan intake.new ≡ I.plan intake.old)
         × (I.token intake.new ≡ I.token intake.old) }
     ensures same_out { (O.plan outlet.new ≡ O.plan outlet.old)
         × (O.token outlet.new ≡ O.token outlet.old) }
 {
-    let why = feed_and_work(alloc, &mut core, batch, &mut *predictor, intake, outlet)?;
-    Ok(Went { core, why })
+    let mut lone = Lone {
+        core,
+        batch,
+        predictor,
+    };
+    let why = run_alone(alloc, &mut lone, intake, outlet)?;
+    Ok(Went {
+        core: lone.core,
+        why,
+    })
 }

@@ -5,6 +5,7 @@ ghost use Rattle.sp_io.specs.Outside.{Rose};
 ghost use Rattle.sp_core.specs.Running.{begun};
 ghost use Rattle.sp_spread.specs.Limiting.{AsksAtMost};
 ghost use Rattle.sp_split.specs.Driving.{CameAbout, Drove, FellShort, most_asked};
+ghost use Rattle.sp_split.specs.Prompt.{IsPrompt};
 ghost use Rattle.sp_split.specs.Serving.{Ends};
 
 use crate::alone::drive_alone;
@@ -29,7 +30,8 @@ use std::thread::Threads;
 /// comes only where the intake reached the end of its input, `Stopped` only where its count of stops rose,
 /// `Refused` only where the outlet's count of faults did; the windows that are closed are finished for the first
 /// two, and all their matches were taken. After want of memory the outlet took the first matches of what the
-/// events given come to. The history of the hub names the seats of the instances, which are those from 1 on, as told at
+/// events given come to. However it ends, the intake asked the outside for more only where the outlet had taken all
+/// matches of the windows that were closed by then. The history of the hub names the seats of the instances, which are those from 1 on, as told at
 /// the end that no job will come.
 ///
 /// Besides, and no clause says so: an instance has a thread of its own where one can be made, and does each job inside
@@ -62,6 +64,8 @@ pub fn drive<I: Intake, O: Outlet, G: Gate, R: Threads + Wait + Sync>(
     ensures short { OnErr result
         (FellShort (λ events. I.gave intake.old events intake.new) (I.ended intake.new)
         core.plan (O.state outlet.old) (O.state outlet.new)) }
+    ensures prompt { IsPrompt (I.asked intake.old) intake.new core.plan (O.state outlet.old)
+        (O.state outlet.new) }
     ensures same { (I.plan intake.new ≡ I.plan intake.old)
         × (I.token intake.new ≡ I.token intake.old) }
     ensures same_out { (O.plan outlet.new ≡ O.plan outlet.old)
@@ -92,6 +96,8 @@ fn drive_lone<I: Intake, O: Outlet>(
     ensures ends { Ends (λ events. I.gave intake.old events intake.new) (I.ended intake.new)
         (Rose (I.stops intake.old) (I.stops intake.new)) 0 batch_limit core (O.state outlet.old)
         (O.state outlet.new) result }
+    ensures prompt { IsPrompt (I.asked intake.old) intake.new core.plan (O.state outlet.old)
+        (O.state outlet.new) }
     ensures same { (I.plan intake.new ≡ I.plan intake.old)
         × (I.token intake.new ≡ I.token intake.old) }
     ensures same_out { (O.plan outlet.new ≡ O.plan outlet.old)
@@ -132,6 +138,8 @@ fn drive_shared<I: Intake, O: Outlet, G: Gate, R: Threads + Wait + Sync>(
     ensures ends { Ends (λ events. I.gave intake.old events intake.new) (I.ended intake.new)
         (Rose (I.stops intake.old) (I.stops intake.new)) splitter.instances splitter.batch
         splitter.core (O.state outlet.old) (O.state outlet.new) result }
+    ensures prompt { IsPrompt (I.asked intake.old) intake.new splitter.core.plan
+        (O.state outlet.old) (O.state outlet.new) }
     ensures same { (I.plan intake.new ≡ I.plan intake.old)
         × (I.token intake.new ≡ I.token intake.old) }
     ensures same_out { (O.plan outlet.new ≡ O.plan outlet.old)

@@ -5,6 +5,7 @@ ghost use Rattle.std.specs.Thread.{IsSync};
 ghost use Rattle.sp_base.specs.Limits.{batch_limit};
 ghost use Rattle.sp_io.specs.Outside.{Rose};
 ghost use Rattle.sp_core.specs.Running.{begun};
+ghost use Rattle.sp_split.specs.Prompt.{IsPrompt};
 ghost use Rattle.sp_split.specs.Serving.{Ends, MayServe, Serves, WoundUp, ending};
 
 use crate::attending::{Crew, attend_all};
@@ -62,6 +63,8 @@ fn beside<L: Naming + Send + Sync, I: Intake, O: Outlet, G: Gate, R: Threads + W
         (Rose (I.stops ways.intake) (I.stops result.2.intake))
         desk.splitter.instances desk.splitter.batch desk.splitter.core
         (O.state ways.outlet) (O.state result.2.outlet) result.1.end (length result.1.by.got) }
+    ensures prompt { IsPrompt (I.asked ways.intake) result.2.intake desk.splitter.core.plan
+        (O.state ways.outlet) (O.state result.2.outlet) }
     ensures same { (I.plan result.2.intake ≡ I.plan ways.intake)
         × (I.token result.2.intake ≡ I.token ways.intake) }
     ensures same_out { (O.plan result.2.outlet ≡ O.plan ways.outlet)
@@ -96,6 +99,8 @@ fn beside<L: Naming + Send + Sync, I: Intake, O: Outlet, G: Gate, R: Threads + W
                 desk.splitter.instances desk.splitter.batch desk.splitter.core
                 (O.state ways.outlet) (O.state result.1.outlet) result.0.end
                 (length result.0.by.got) }
+            ensures prompt { IsPrompt (I.asked ways.intake) result.1.intake
+                desk.splitter.core.plan (O.state ways.outlet) (O.state result.1.outlet) }
             ensures same { (I.plan result.1.intake ≡ I.plan ways.intake)
                 × (I.token result.1.intake ≡ I.token ways.intake) }
             ensures same_out { (O.plan result.1.outlet ≡ O.plan ways.outlet)
@@ -160,6 +165,8 @@ pub(crate) fn under<
         (I.ended result.1.intake)
         (Rose (I.stops ways.intake) (I.stops result.1.intake)) splitter.instances splitter.batch
         splitter.core (O.state ways.outlet) (O.state result.1.outlet) result.0 }
+    ensures prompt { IsPrompt (I.asked ways.intake) result.1.intake splitter.core.plan
+        (O.state ways.outlet) (O.state result.1.outlet) }
     ensures same { (I.plan result.1.intake ≡ I.plan ways.intake)
         × (I.token result.1.intake ≡ I.token ways.intake) }
     ensures same_out { (O.plan result.1.outlet ≡ O.plan ways.outlet)

@@ -3,15 +3,16 @@
 
 mod alone;
 mod attending;
+mod driver;
 mod driving;
 mod ended;
 mod feeding;
-mod filling;
 mod handing;
 mod joining;
 mod law;
 mod lent;
 mod office;
+mod running;
 mod serving;
 mod stopping;
 mod turning;

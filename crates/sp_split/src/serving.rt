@@ -1,26 +1,23 @@
 // A splitter serves its instances, between an intake and an outlet.
-ghost use Rattle.std.specs.Prelude.{◌≡◌, ◌≢◌, ◌≤◌, true, false, None, List, length, Err, IfOk, OnOk, OnErr};
+ghost use Rattle.std.specs.Prelude.{◌≡◌, ◌++◌, ◌∷◌, [], None, true, false, length, IfOk, OnOk, OnErr};
 ghost use Rattle.sp_io.specs.Outside.{Rose};
-ghost use Rattle.sp_ports.specs.Taking.{Took, TookFirst};
-ghost use Rattle.sp_ports.specs.declared.outlet.OutFault.TheVariants as o;
+ghost use Rattle.sp_ports.specs.Giving.{AreGood};
 ghost use Rattle.sp_core.specs.Running.{begun};
-ghost use Rattle.sp_spread.specs.Limiting.{AsksAtMost};
-ghost use Rattle.sp_splitter.specs.Stages.{Goes, ReadOfCollected};
-ghost use Rattle.sp_split.specs.Driving.{Drove, FailedWithin, FellShort};
-ghost use Rattle.sp_split.specs.Serving.{CameBy, CanTurn, Serves, WentWith};
-ghost use Rattle.sp_split.specs.Stages.{AllFinished};
+ghost use Rattle.sp_split.specs.Driving.{Drove, FellShort};
+ghost use Rattle.sp_split.specs.Prompt.{IsPrompt};
+ghost use Rattle.sp_split.specs.Serving.{CameServing, CanTurn, Filled, Serves};
 
-use crate::feeding::Fed;
-use crate::filling::fill;
-use crate::handing::put_windows;
+use crate::driver::Driver;
+use crate::feeding::{Fed, all_finished};
 use crate::office::Office;
-use crate::stopping::why_over;
-use crate::{Memory, Went, Why, law};
-use sp_core::Core;
+use crate::running::round;
+use crate::{Memory, Went, Why};
+use sp_core::{Core, CoreFault, Emitted};
 use sp_hub::{Hub, Naming, Poster, Seat, Taken};
 use sp_instance::{Gate, do_job};
 use sp_piece::{Job, Piece};
-use sp_ports::{Intake, OutFault, Outlet};
+use sp_plan::Event;
+use sp_ports::{Intake, Outlet};
 use sp_splitter::Splitter;
 use std::alloc::{AllocError, Global};
 use std::sync::Wait;
@@ -43,62 +40,6 @@ pub(crate) struct Served<L: Naming> {
     pub(crate) end: Result<Went, Memory>,
 }
 
-// Takes one turn, and puts the matches of the windows that it finished.
-fn turn_once<L: Naming, O: Outlet, R: Wait>(
-    rt: &R,
-    alloc: Global,
-    hub: &Hub<Job, Piece, L>,
-    desk: &mut Desk<L>,
-    outlet: &mut O,
-) -> Result<(), OutFault>
-    requires can { CanTurn desk.old.splitter.instances desk.old.splitter.batch
-        desk.old.splitter.kept.items
-        desk.old.splitter.core.machine.next_ticket desk.old.by }
-    requires plan { O.plan outlet.old ≡ desk.old.splitter.core.plan }
-    ensures done { OnOk result (WentWith desk.old.splitter.instances desk.old.splitter.batch
-        desk.old.splitter.core desk.new.splitter.core
-        (λ matches. Took desk.old.splitter.core.plan matches (O.state outlet.old)
-        (O.state outlet.new))) }
-    ensures failed { result ≡ Err o.Failed
-        → WentWith desk.old.splitter.instances desk.old.splitter.batch
-        desk.old.splitter.core desk.new.splitter.core
-        (λ matches. FailedWithin desk.old.splitter.core.plan matches
-        (O.state outlet.old) (O.state outlet.new)) }
-    ensures rose { result ≡ Err o.Failed
-        → Rose (O.state outlet.old).faults (O.state outlet.new).faults }
-    ensures short { result ≡ Err o.Memory
-        → WentWith desk.old.splitter.instances desk.old.splitter.batch
-        desk.old.splitter.core desk.new.splitter.core
-        (λ matches. TookFirst desk.old.splitter.core.plan matches
-        (O.state outlet.old) (O.state outlet.new)) }
-    ensures no_fault { result ≢ Err o.Failed
-        → (O.state outlet.new).faults ≡ (O.state outlet.old).faults }
-    ensures goes { OnOk result (Goes desk.old.splitter.instances desk.old.splitter.core
-        desk.new.splitter.core) }
-    ensures read { ReadOfCollected desk.old.splitter.core desk.new.splitter.core
-        desk.old.by desk.new.by }
-    ensures can { OnOk result (CanTurn desk.new.splitter.instances desk.new.splitter.batch
-        desk.new.splitter.kept.items desk.new.splitter.core.machine.next_ticket desk.new.by) }
-    ensures open { desk.new.by.closed ≡ false }
-    ensures rest { (desk.new.splitter.instances ≡ desk.old.splitter.instances)
-        × (desk.new.seat ≡ desk.old.seat) }
-    ensures batch { desk.new.splitter.batch ≡ desk.old.splitter.batch }
-    ensures same { (O.plan outlet.new ≡ O.plan outlet.old)
-        × (O.token outlet.new ≡ O.token outlet.old) }
-{
-    match desk.splitter.turn(rt, alloc, hub, &mut desk.by) {
-        Ok(finished) => put_windows(alloc, &finished, outlet),
-        Err(AllocError) => Err(OutFault::Memory),
-    }
-}
-
-// Whether every window that is closed is finished.
-fn all_finished(core: &Core) -> bool
-    ensures { result ≡ true → AllFinished core.now }
-{
-    core.finished() == core.windows().closed()
-}
-
 // Does the job that was listed first; answers whether there was one.
 fn do_listed<L: Naming, G: Gate, R: Wait>(
     office: &Office<'_, L, G, R>,
@@ -116,13 +57,13 @@ fn do_listed<L: Naming, G: Gate, R: Wait>(
 }
 
 // Does jobs that are listed, which no instance has taken yet, at most as many as may be out. Where none is listed, waits
-// for a piece if nothing else can be done before one comes home: the input is over, or as many pieces are out as
-// may be. No clause says which of this it did, only that the seat holds nothing behind it.
+// for a piece if nothing else can be done before one comes home: no event may be fed until a window is finished, or as
+// many pieces are out as may be. No clause says which of this it did, only that the seat holds nothing behind it.
 fn help<L: Naming, G: Gate, R: Wait>(
     office: &Office<'_, L, G, R>,
     by: &Poster<Piece, L>,
     seat: &mut Seat<Piece, L>,
-    over: bool,
+    must_wait: bool,
 )
     requires { seat.old.holding ≡ None }
     ensures { seat.new.holding ≡ None }
@@ -135,59 +76,131 @@ fn help<L: Naming, G: Gate, R: Wait>(
         helped = true;
     }
     let waiting = by.waiting();
-    if !helped && waiting != 0 && (over || waiting == by.room()) {
+    if !helped && waiting != 0 && (must_wait || waiting == by.room()) {
         office.hub.wait_home(office.rt, by);
     }
 }
 
-// Feeds and turns until the run is over; answers why it is.
-fn feed_and_turn<I: Intake, O: Outlet, L: Naming, G: Gate, R: Wait>(
+// Feeds a splitter the next event.
+fn fill(alloc: Global, splitter: &mut Splitter, event: Event) -> Result<(), Memory>
+    requires unended { splitter.old.core.machine.ended ≡ false }
+    requires good { AreGood splitter.old.core.plan
+        (splitter.old.core.machine.events ++ event ∷ []) }
+    ensures filled { Filled splitter.old.core splitter.new.core }
+    ensures fed { OnOk result (splitter.new.core.machine.events
+        ≡ splitter.old.core.machine.events ++ event ∷ []) }
+    ensures err { OnErr result (splitter.new.core.machine.events
+        ≡ splitter.old.core.machine.events) }
+    ensures unended { splitter.new.core.machine.ended ≡ false }
+    ensures rest { splitter.new ≡ record splitter.old { core = splitter.new.core } }
+{
+    match splitter.feed(alloc, event) {
+        Ok(_) => Ok(()),
+        Err(CoreFault::Memory) => Err(AllocError),
+        Err(CoreFault::Refused(_)) => unreachable!(),
+    }
+}
+
+// Tells a splitter that input has ended.
+fn tell_end(splitter: &mut Splitter)
+    requires unended { splitter.old.core.machine.ended ≡ false }
+    ensures filled { Filled splitter.old.core splitter.new.core }
+    ensures events { splitter.new.core.machine.events ≡ splitter.old.core.machine.events }
+    ensures ended { splitter.new.core.machine.ended ≡ true }
+    ensures rest { splitter.new ≡ record splitter.old { core = splitter.new.core } }
+{
+    if splitter.end().is_err() {
+        unreachable!()
+    }
+}
+
+// A splitter that works at its desk, with instances at the same hub.
+#[derive(Drop)]
+struct Serving<'a, L: Naming, R: Wait> {
+    rt: &'a R,
+    hub: &'a Hub<Job, Piece, L>,
+    desk: Desk<L>,
+}
+
+impl<'a, L: Naming, R: Wait> Driver for Serving<'a, L, R> {
+    ghost use Rattle.sp_split.specs.Serving.{IsServing, CameServing, serving_came};
+
+    ghost core = { λ it. it.desk.splitter.core };
+
+    ghost instances = { λ it. it.desk.splitter.instances };
+
+    ghost batch = { λ it. it.desk.splitter.batch };
+
+    ghost ready = { λ it. IsServing it.desk.splitter.instances it.desk.splitter.batch it.desk.splitter.kept.items it.desk.splitter.core it.desk.by it.desk.seat };
+
+    ghost came = { λ it. CameServing it.desk.splitter.instances it.desk.splitter.batch it.desk.splitter.core it.desk.by };
+
+    ghost ready_came = { λ it ready. serving_came it.desk.splitter.instances it.desk.splitter.batch it.desk.splitter.kept.items it.desk.splitter.core it.desk.by it.desk.seat ready };
+
+    fn core(&self) -> &Core {
+        self.desk.splitter.core()
+    }
+
+    fn batch(&self) -> u32 {
+        self.desk.splitter.batch
+    }
+
+    fn feed(&mut self, alloc: Global, event: Event) -> Result<(), Memory> {
+        fill(alloc, &mut self.desk.splitter, event)
+    }
+
+    fn end(&mut self) {
+        tell_end(&mut self.desk.splitter)
+    }
+
+    fn work(&mut self, alloc: Global) -> Result<Vec<Emitted>, Memory> {
+        let desk = &mut self.desk;
+        desk.splitter.turn(self.rt, alloc, self.hub, &mut desk.by)
+    }
+}
+
+// Round after round, until the run is over; answers why it is. Between two rounds jobs are done that are still listed.
+fn serve_on<I: Intake, O: Outlet, L: Naming, G: Gate, R: Wait>(
     office: &Office<'_, L, G, R>,
-    desk: &mut Desk<L>,
+    serving: &mut Serving<'_, L, R>,
     intake: &mut I,
     outlet: &mut O,
 ) -> Result<Why, Memory>
-    requires fresh { desk.old.splitter.core ≡ begun desk.old.splitter.core.plan
-        desk.old.splitter.core.bound }
-    requires can { CanTurn desk.old.splitter.instances desk.old.splitter.batch
-        desk.old.splitter.kept.items
-        desk.old.splitter.core.machine.next_ticket desk.old.by }
-    requires free { desk.old.seat.holding ≡ None }
-    requires intake_plan { I.plan intake.old ≡ desk.old.splitter.core.plan }
-    requires outlet_plan { O.plan outlet.old ≡ desk.old.splitter.core.plan }
+    requires fresh { serving.old.desk.splitter.core
+        ≡ begun serving.old.desk.splitter.core.plan serving.old.desk.splitter.core.bound }
+    requires can { CanTurn serving.old.desk.splitter.instances serving.old.desk.splitter.batch
+        serving.old.desk.splitter.kept.items
+        serving.old.desk.splitter.core.machine.next_ticket serving.old.desk.by }
+    requires free { serving.old.desk.seat.holding ≡ None }
+    requires intake_plan { I.plan intake.old ≡ serving.old.desk.splitter.core.plan }
+    requires outlet_plan { O.plan outlet.old ≡ serving.old.desk.splitter.core.plan }
     ensures ended { IfOk result (λ why. Drove (λ events. I.gave intake.old events intake.new)
         (I.ended intake.new)
-        (Rose (I.stops intake.old) (I.stops intake.new)) desk.old.splitter.core (O.state outlet.old)
-        (O.state outlet.new) (record { core = desk.new.splitter.core; why = why })) }
-    ensures came { OnOk result (CameBy desk.old.splitter.instances desk.new.splitter.core
-        (length desk.new.by.got)) }
-    ensures asked { OnOk result (AsksAtMost desk.old.splitter.batch desk.new.splitter.core.journal) }
+        (Rose (I.stops intake.old) (I.stops intake.new)) serving.old.desk.splitter.core
+        (O.state outlet.old) (O.state outlet.new)
+        (record { core = serving.new.desk.splitter.core; why = why })) }
+    ensures came { CameServing serving.old.desk.splitter.instances
+        serving.old.desk.splitter.batch serving.new.desk.splitter.core serving.new.desk.by }
     ensures short { OnErr result
         (FellShort (λ events. I.gave intake.old events intake.new) (I.ended intake.new)
-        desk.old.splitter.core.plan (O.state outlet.old) (O.state outlet.new)) }
-    ensures open { desk.new.by.closed ≡ false }
+        serving.old.desk.splitter.core.plan (O.state outlet.old) (O.state outlet.new)) }
+    ensures prompt { IsPrompt (I.asked intake.old) intake.new
+        serving.old.desk.splitter.core.plan (O.state outlet.old) (O.state outlet.new) }
     ensures same { (I.plan intake.new ≡ I.plan intake.old)
         × (I.token intake.new ≡ I.token intake.old) }
     ensures same_out { (O.plan outlet.new ≡ O.plan outlet.old)
         × (O.token outlet.new ≡ O.token outlet.old) }
 {
-    let Office {
-        rt,
-        alloc,
-        hub,
-        gate: _,
-    } = *office;
     let mut fed = Fed::More;
-    for _ in rt.forever() {
-        law::steps_lead_to(&desk.splitter.core);
-        law::finished_windows_stay();
-        fed = fill(alloc, &mut desk.splitter, fed, intake)?;
-        let put = turn_once(rt, alloc, hub, desk, outlet);
-        let all = all_finished(&desk.splitter.core);
-        if let Some(why) = why_over(fed, put, all) {
+    for _ in office.rt.forever() {
+        let round = round(office.alloc, serving, fed, intake, outlet)?;
+        if let Some(why) = round.over {
             return Ok(why);
         }
-        help(office, &desk.by, &mut desk.seat, fed != Fed::More);
+        fed = round.fed;
+        let desk = &mut serving.desk;
+        let must_wait = fed != Fed::More && !all_finished(desk.splitter.core());
+        help(office, &desk.by, &mut desk.seat, must_wait);
     }
     unreachable!()
 }
@@ -211,13 +224,20 @@ pub(crate) fn serve<I: Intake, O: Outlet, L: Naming, G: Gate, R: Wait>(
     ensures served { Serves (λ events. I.gave intake.old events intake.new) (I.ended intake.new)
         (Rose (I.stops intake.old) (I.stops intake.new)) desk.splitter.instances desk.splitter.batch
         desk.splitter.core (O.state outlet.old) (O.state outlet.new) result.end (length result.by.got) }
+    ensures prompt { IsPrompt (I.asked intake.old) intake.new desk.splitter.core.plan
+        (O.state outlet.old) (O.state outlet.new) }
     ensures same { (I.plan intake.new ≡ I.plan intake.old)
         × (I.token intake.new ≡ I.token intake.old) }
     ensures same_out { (O.plan outlet.new ≡ O.plan outlet.old)
         × (O.token outlet.new ≡ O.token outlet.old) }
 {
-    let mut desk = desk;
-    let why = feed_and_turn(office, &mut desk, intake, outlet);
+    let mut serving = Serving {
+        rt: office.rt,
+        hub: office.hub,
+        desk,
+    };
+    let why = serve_on(office, &mut serving, intake, outlet);
+    let Serving { mut desk, .. } = serving;
     office.hub.close(office.rt, &mut desk.by);
     let Desk { splitter, by, seat } = desk;
     let end = match why {

@@ -11,7 +11,7 @@ fn why_fed(fed: Fed) -> Option<Why>
     ensures { result ≡ why_fed fed }
 {
     match fed {
-        Fed::More => None,
+        Fed::More | Fed::Dry => None,
         Fed::End => Some(Why::Whole),
         Fed::Stop => Some(Why::Stopped),
     }

@@ -3,3 +3,4 @@ mod Chosen
 mod Drilling
 mod Driven
 mod Reporting
+mod Prompt

@@ -6,7 +6,8 @@ ghost use Rattle.sp_io.specs.Outside.{SourceState};
 ghost use Rattle.sp_plan.specs.Compiled.{IsCompiled};
 ghost use Rattle.sp_core.specs.Running.{begun};
 ghost use Rattle.sp_intake.specs.Kept.{plan_in};
-ghost use Rattle.sp_intake.specs.Asked.{standing, IsFresh};
+ghost use Rattle.sp_intake.specs.Asked.{standing, IsFresh, IsUnasked};
+ghost use Rattle.sp_intake.specs.Pieces.{AsksFrom};
 ghost use Rattle.sp_intake.specs.Standing.{ReadsFrom};
 ghost use Rattle.sp_answer.specs.Outcome.{ending};
 ghost use Rattle.sp_answer.specs.Promise.{filed, Served};
@@ -15,6 +16,7 @@ ghost use Rattle.sp_cli.specs.Commands.{speed_seen};
 ghost use Rattle.sp_load.specs.Places.{place_of};
 ghost use Rattle.sp_commands.specs.Commands.{files_at};
 ghost use Rattle.sp_top.specs.RunEnds as ends;
+ghost use Rattle.sp_top.specs.Prompt.{AskedInTime, IsPrompt};
 ghost use Rattle.sp_top.specs.Report.{ReportsPlace, ReportsPlan, WhereDone};
 ghost use Rattle.sp_commands.specs.Run.{IsPlanRun, RunOutcome};
 
@@ -64,6 +66,7 @@ fn start_of(alloc: Global, plan: Plan, live: u32) -> Result<Start, Memory>
     ensures plan { IfOk result (λ start. arc_value start.plan ≡ plan) }
     ensures core { IfOk result (λ start. start.core ≡ begun plan live) }
     ensures fresh { IfOk result (λ start. IsFresh plan start.events) }
+    ensures unasked { IfOk result (λ start. IsUnasked plan start.events) }
     ensures plan_in { IfOk result (λ start. plan_in start.events.reader.kept ≡ plan) }
     ensures none { IfOk result (λ start. start.events.stops ≡ 0) }
 {
@@ -100,6 +103,11 @@ fn drive_core<S: Source, K: Sink, G: Gate, R: Threads + Wait + Sync>(
         → ReadsFrom core.plan origin (standing (S.state input.old.source.now) input.old.events)
         → WhereDone (ReportsPlan core.plan (speed_seen speed.now)
         origin.left (S.state input.new.source.now).left) result.status result.ended }
+    ensures prompt { (origin : SourceState)
+        → AsksFrom core.plan origin (standing (S.state input.old.source.now) input.old.events)
+        → AskedInTime (IsPlanRun core.plan)
+        (outside origin (K.state lines.old.out.now))
+        (outside (S.state input.new.source.now) (K.state lines.new.out.now)) }
     ensures same_in { input.new.source.ghost_name ≡ input.old.source.ghost_name }
     ensures same_out { lines.new.out.ghost_name ≡ lines.old.out.ghost_name }
 {
@@ -140,6 +148,8 @@ pub(crate) fn run_plan<S: Source, K: Sink, G: Gate, R: Threads + Wait + Sync>(
         (ending result.status) }
     ensures report { WhereDone (ReportsPlan plan (speed_seen speed.now)
         (S.state input.old).left (S.state input.new).left) result.status result.ended }
+    ensures prompt { IsPrompt (IsPlanRun plan) (outside (S.state input.old) (K.state out.old))
+        (outside (S.state input.new) (K.state out.new)) }
 {
     let Ok(start) = start_of(shop.alloc, plan, speed.live) else {
         return CommandEnd::of(Status::Memory);
@@ -178,6 +188,9 @@ pub(crate) fn run<S: Source, F: Files, K: Sink, G: Gate, R: Threads + Wait + Syn
     ensures report { WhereDone (ReportsPlace (F.held files.old) (place_of asked.entry.place)
         (speed_seen asked.entry.speed.now) (S.state input.old).left (S.state input.new).left)
         result.status result.ended }
+    ensures prompt { IsPrompt (RunOutcome (place_of asked.entry.place) (F.held files.old))
+        (outside (S.state input.old) (K.state out.old))
+        (outside (S.state input.new) (K.state out.new)) }
 {
     match plan_at(shop.alloc, asked.place, files) {
         Ok(plan) => run_plan(shop, plan, asked.speed, predictor, input, out),

@@ -7,6 +7,7 @@ ghost use Rattle.sp_cli.specs.Commands.{seen};
 ghost use Rattle.sp_cli.specs.Limits.{IsWithin};
 ghost use Rattle.sp_commands.specs.Commands.{IsCommand, IsUnendedFor, ReadsInput};
 ghost use Rattle.sp_commands.specs.Outcome.{Answers, Promise};
+ghost use Rattle.sp_top.specs.Prompt.{RunsPromptly};
 ghost use Rattle.sp_top.specs.Report.{Reported, Reporting};
 
 use crate::asked::Run;
@@ -47,6 +48,9 @@ fn carry_out<S: Source, F: Files, K: Sink, G: Gate, R: Threads + Wait + Sync>(
     ensures report { (words : List (List ℕ)) → IsCommand words (seen command.now)
         → Reporting (map (λ one. named one) predictors.items) words (F.held files.old)
         (S.state input.old).left (S.state input.new).left result.status result.ended }
+    ensures prompt { (words : List (List ℕ)) → IsCommand words (seen command.now)
+        → RunsPromptly words (F.held files.old) (outside (S.state input.old) (K.state out.old))
+        (outside (S.state input.new) (K.state out.new)) }
 {
     match command {
         Command::Run { query, speed } => match choose(predictors, &speed.predictor) {
@@ -101,6 +105,9 @@ fn answer<S: Source, F: Files, K: Sink, G: Gate, R: Threads + Wait + Sync>(
     ensures report { Reporting (map (λ one. named one) predictors.items)
         (map string_bytes words.now) (F.held files.old)
         (S.state input.old).left (S.state input.new).left result.status result.ended }
+    ensures prompt { RunsPromptly (map string_bytes words.now) (F.held files.old)
+        (outside (S.state input.old) (K.state out.old))
+        (outside (S.state input.new) (K.state out.new)) }
 {
     law::numbers_are_within();
     match read_words(shop.alloc, words) {
@@ -128,7 +135,8 @@ fn if_done(status: Status, ended: Option<Ended>) -> Option<Ended>
 /// as its words say, each on a thread of its own, and each of their jobs is done inside the gate. `report`
 /// holds from then on what a run that was done ended with, and nothing after any other call.
 /// What is promised of status, output and faults is `Promise` of `specs/Outcome.antt`, and of the report
-/// `Reported` of `specs/Report.antt`; docs/statement.md says both in words.
+/// `Reported` of `specs/Report.antt`; whatever the status, a run is prompt, which is `RunsPromptly` of
+/// `specs/Prompt.antt`. docs/statement.md says all three in words.
 pub fn spectre<S: Source, F: Files, K: Sink, E: Sink, G: Gate, R: Threads + Wait + Sync>(
     rt: &R,
     alloc: Global,
@@ -151,6 +159,9 @@ pub fn spectre<S: Source, F: Files, K: Sink, E: Sink, G: Gate, R: Threads + Wait
     ensures report { Reported (map (λ one. named one) predictors.items)
         (map string_bytes words.now) (F.held files.old)
         (S.state input.old).left (S.state input.new).left result report.new }
+    ensures prompt { RunsPromptly (map string_bytes words.now) (F.held files.old)
+        (outside (S.state input.old) (K.state out.old))
+        (outside (S.state input.new) (K.state out.new)) }
 {
     let shop = Workshop { rt, alloc, gate };
     let answer = answer(&shop, words, input, files, out, predictors);

@@ -5,6 +5,7 @@ use Rattle.sp_plan.specs.declared.event.Event.{Event}
 use Rattle.sp_piece.proofs.Crossing.{piece_sent}
 use Rattle.sp_split.proofs.About.{fell_at_once}
 use Rattle.sp_split.proofs.Both.{both_parts}
+use Rattle.sp_split.proofs.Prompt.{prompt_none}
 use Rattle.sp_split.proofs.driving.drive_shared.Goals as goal
 
 pub new-requires-send-P : goal.new-requires-send-P
@@ -26,3 +27,12 @@ returns-clause-same g c = let names = both_parts _ _ _ _ c.under-ended.ensures.s
 
 pub returns-clause-same_out : goal.returns-clause-same_out
 returns-clause-same_out g c = let names = both_parts _ _ _ _ c.under-ended.ensures.same_out.1 in search rules
+
+pub returns-in_err-opened-clause-prompt : goal.returns-in_err-opened-clause-prompt
+returns-in_err-opened-clause-prompt g c = prompt_none (g.I.Intake.asked c.args.intake.now) c.args.intake.now c.args.splitter.core.plan (g.O.Outlet.state c.args.outlet.now) (g.I.Intake.asked_none c.args.intake.now)
+
+pub returns-clause-prompt : goal.returns-clause-prompt
+returns-clause-prompt g c =
+    let names = both_parts _ _ _ _ c.under-ended.ensures.same.1 in
+    let outs = both_parts _ _ _ _ c.under-ended.ensures.same_out.1 in
+    search rules

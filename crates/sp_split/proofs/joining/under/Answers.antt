@@ -12,6 +12,7 @@ use Rattle.sp_piece.proofs.Crossing.{job_sent, piece_sent}
 use Rattle.sp_split.specs.Crews.{Crewed}
 use Rattle.sp_split.specs.Serving.{Ends, WoundUp}
 use Rattle.sp_split.proofs.About.{ends_with, fell_at_once}
+use Rattle.sp_split.proofs.Prompt.{prompt_none}
 use Rattle.sp_split.proofs.joining.under.Goals as goal
 
 pub new-requires-send-J : goal.new-requires-send-J
@@ -109,3 +110,6 @@ returns-clause-ends g c =
     let wound = subst (λ (k : ℕ). WoundUp k (length c.beside-crew.result.1.by.got) history) seats c.wind_up-history.ensures in
     subst (λ r. Ends G all stopped n batch start old new r) (sym c.with_history.ensures)
     (ends_with G all stopped n batch start old new c.beside-crew.result.1.end (length c.beside-crew.result.1.by.got) history c.beside-crew.ensures.served c.requires.instances.0 wound c.returns_follow_readings.ensures)
+
+pub returns-in-Err-clause-prompt : goal.returns-in-Err-clause-prompt
+returns-in-Err-clause-prompt g c = prompt_none (g.I.Intake.asked c.args.ways.intake) c.args.ways.intake c.args.splitter.core.plan (g.O.Outlet.state c.args.ways.outlet) (g.I.Intake.asked_none c.args.ways.intake)

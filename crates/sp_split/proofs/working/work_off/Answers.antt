@@ -1,37 +1,42 @@
-use Rattle.std.proofs.Common.{◌∙◌}
-use Rattle.std.proofs.lemmas.Result.{err_from_is_err_and}
-use Rattle.sp_split.proofs.Added.{taken_then, taken_short, refused_then, short_then}
+use Rattle.std.proofs.Common.{List, sym, ◌∙◌, ap, subst}
+use Rattle.std.proofs.lemmas.List.{append-nil}
+use Rattle.sp_core.specs.declared.emitted.Emitted.{Emitted}
+use Rattle.sp_splitter.specs.Stages.{matches_of}
+use Rattle.sp_split.specs.declared.turning.Turn.{Turn}
+use Rattle.sp_split.specs.declared.turning.Turn.TheVariants as t
+use Rattle.sp_split.specs.Stages.{Turned}
+use Rattle.sp_split.proofs.Added.{Worked, cut_off, none_left, short_of, turn_more, window_more}
+use Rattle.sp_split.proofs.Turns.{err_any}
 use Rattle.sp_split.proofs.working.work_off.Goals as goal
+use Rattle.sp_split.proofs.working.work_off.Goals.{in-Worked, in-Finished+in_ok-push-in-Finished}
 
-pub returns-in_err-work_once-clause-failed : goal.returns-in_err-work_once-clause-failed
-returns-in_err-work_once-clause-failed g c =
-    let p = err_from_is_err_and c.from_residual.result c.from_residual.ensures.1 in
-    λ is. refused_then c.args.core.now c.loop.core c.work_once.new.core (g.O.Outlet.state c.args.outlet.now) (g.O.Outlet.state c.loop.outlet) (g.O.Outlet.state c.work_once.new.outlet)
-    c.loop.invariant.worked (c.in_err-work_once.ensures.failed (cc))
+pub returns-in_err-take_turn-clause-short : goal.returns-in_err-take_turn-clause-short
+returns-in_err-take_turn-clause-short g c =
+    err_any _ c.from_residual.result (cut_off c.args.core.now c.loop.core c.take_turn.new.core (matches_of c.loop.finished.items) c.loop.invariant c.in_err-take_turn.ensures.err)
 
-pub returns-in_err-work_once-clause-short : goal.returns-in_err-work_once-clause-short
-returns-in_err-work_once-clause-short g c =
-    let p = err_from_is_err_and c.from_residual.result c.from_residual.ensures.1 in
-    λ is. short_then c.args.core.now c.loop.core c.work_once.new.core (g.O.Outlet.state c.args.outlet.now) (g.O.Outlet.state c.loop.outlet) (g.O.Outlet.state c.work_once.new.outlet)
-    c.loop.invariant.worked (c.in_err-work_once.ensures.short (cc))
+pub returns-in-Idle-clause-done : goal.returns-in-Idle-clause-done
+returns-in-Idle-clause-done g c =
+    none_left c.args.core.now c.loop.core c.take_turn.new.core (matches_of c.loop.finished.items) c.loop.invariant
+    (subst (λ (turn : Turn). Turned c.loop.core c.take_turn.new.core turn) c.in-Idle.is c.in_ok-take_turn.ensures.turned)
 
-pub returns-then-not-branch-clause-done : goal.returns-then-not-branch-clause-done
-returns-then-not-branch-clause-done g c = record {
-  worked = taken_then c.args.core.now c.loop.core c.work_once.new.core (g.O.Outlet.state c.args.outlet.now) (g.O.Outlet.state c.loop.outlet) (g.O.Outlet.state c.work_once.new.outlet)
-      c.loop.invariant.worked c.in_ok-work_once.ensures.done.worked;
-  none_out = c.in_ok-work_once.ensures.done.none_out;
-  all = λ _. c.in_ok-work_once.ensures.done.all c.if-not-branch.true;
-}
-
-pub returns-clause-short : goal.returns-clause-short
-returns-clause-short g c = λ _. taken_short c.args.core.now c.loop.core (g.O.Outlet.state c.args.outlet.now) (g.O.Outlet.state c.loop.outlet) c.loop.invariant.worked
+pub returns-in_err-push-in-Finished-clause-short : goal.returns-in_err-push-in-Finished-clause-short
+returns-in_err-push-in-Finished-clause-short g c =
+    let ms = matches_of c.loop.finished.items in
+    err_any _ c.from_residual-in_err-push-in-Finished.result
+    (short_of c.args.core.now c.take_turn.new.core _ (turn_more c.args.core.now c.loop.core c.take_turn.new.core ms c.loop.invariant _ c.in_ok-take_turn.ensures.turned))
 
 pub loop-preserved : goal.loop-preserved
-loop-preserved g c = record {
-  worked = taken_then c.args.core.now c.loop.core c.work_once.new.core (g.O.Outlet.state c.args.outlet.now) (g.O.Outlet.state c.loop.outlet) (g.O.Outlet.state c.work_once.new.outlet)
-      c.loop.invariant.worked c.in_ok-work_once.ensures.done.worked;
-  none_out = c.in_ok-work_once.ensures.done.none_out;
-  no_fault = c.in_ok-work_once.ensures.no_fault (λ no. cc) ∙ c.loop.invariant.no_fault;
-  plan = c.work_once.ensures.same.0 ∙ c.loop.invariant.plan;
-  token = c.work_once.ensures.same.1 ∙ c.loop.invariant.token;
-}
+loop-preserved g c =
+    let a = c.args.core.now in
+    let b = c.loop.core in
+    let d = c.take_turn.new.core in
+    let ms = matches_of c.loop.finished.items in
+    elim c.match-branch-2.branch [
+      | in-Worked w ↦
+          subst (Worked a d) (append-nil ms ∙ ap (λ (v : List Emitted). matches_of v) (ap (λ v. v.items) (sym w.finished-is)))
+          (turn_more a b d ms c.loop.invariant t.Worked (subst (λ (turn : Turn). Turned b d turn) w.in-Worked.is c.in_ok-take_turn.ensures.turned))
+      | in-Finished+in_ok-push-in-Finished w ↦
+          let x = w.in-Finished.emitted in
+          subst (Worked a d) (sym (window_more c.loop.finished.items x) ∙ ap (λ (v : List Emitted). matches_of v) (sym w.in_ok-push-in-Finished.ensures.items ∙ ap (λ v. v.items) (sym w.finished-is)))
+          (turn_more a b d ms c.loop.invariant (t.Finished x) (subst (λ (turn : Turn). Turned b d turn) w.in-Finished.is c.in_ok-take_turn.ensures.turned))
+    ]

@@ -13,6 +13,7 @@ use Rattle.sp_commands.specs.Run.{IsPlanRun}
 use Rattle.sp_top.specs.declared.workshop.CommandEnd.{CommandEnd}
 use Rattle.sp_top.proofs.Driven.{outlet, halts, ended_ran, fell_short}
 use Rattle.sp_top.proofs.Reporting.{reports_plan}
+use Rattle.sp_top.proofs.Prompt.{in_time}
 use Rattle.sp_top.proofs.run.drive_core.Goals as goal
 
 pub drive-requires-send-I : goal.drive-requires-send-I
@@ -59,3 +60,19 @@ returns-in-Err-clause-ran g c origin reads =
     let ran =
     fell_short c.args.core c.growth.ensures c.requires.compiled origin first last reads (Rose old.events.stops new.events.stops) before after c.args.lines.now.taken c.drive.new.outlet.taken c.in-Err.ensures.short in
     subst (λ (a : CommandEnd). Ran (IsPlanRun c.args.core.plan) (outside origin before) (outside last.source after) (ending a.status)) (sym c.of.ensures) ran
+
+pub returns-in-Ok-clause-prompt : goal.returns-in-Ok-clause-prompt
+returns-in-Ok-clause-prompt g c origin asks =
+    let old = c.args.input.now in
+    let new = c.drive.new.intake in
+    let p = c.drive.ensures.prompt in
+    in_time c.args.core.plan origin (standing (g.S.Source.state old.source.now) old.events) (standing (g.S.Source.state new.source.now) new.events) (g.K.Sink.state c.args.lines.now.out.now)
+    (g.K.Sink.state c.drive.new.outlet.out.now) c.args.lines.now.taken c.drive.new.outlet.taken p.behind.before p.events asks p.behind.asked p.behind.took
+
+pub returns-in-Err-clause-prompt : goal.returns-in-Err-clause-prompt
+returns-in-Err-clause-prompt g c origin asks =
+    let old = c.args.input.now in
+    let new = c.drive.new.intake in
+    let p = c.drive.ensures.prompt in
+    in_time c.args.core.plan origin (standing (g.S.Source.state old.source.now) old.events) (standing (g.S.Source.state new.source.now) new.events) (g.K.Sink.state c.args.lines.now.out.now)
+    (g.K.Sink.state c.drive.new.outlet.out.now) c.args.lines.now.taken c.drive.new.outlet.taken p.behind.before p.events asks p.behind.asked p.behind.took

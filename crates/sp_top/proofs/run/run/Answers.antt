@@ -1,4 +1,4 @@
-use Rattle.std.proofs.Common.{Err, ap, sym, subst, ◌∙◌}
+use Rattle.std.proofs.Common.{Err, ap, refl, sym, subst, ◌∙◌}
 use Rattle.sp_load.specs.Places.{place_of}
 use Rattle.sp_answer.specs.Outcome.{ending}
 use Rattle.sp_answer.specs.Promise.{Filed, filed, Served}
@@ -10,6 +10,8 @@ use Rattle.sp_top.specs.Report.{ReportsPlace, WhereDone}
 use Rattle.sp_top.specs.declared.workshop.CommandEnd.{CommandEnd}
 use Rattle.sp_commands.proofs.Running.{ran_served, refused_served}
 use Rattle.sp_top.proofs.Reporting.{of_place, refused_undone}
+use Rattle.sp_top.specs.Prompt as p
+use Rattle.sp_top.proofs.Prompt.{prompt_at}
 use Rattle.sp_top.proofs.run.run.Goals as goal
 
 pub returns-in-Ok-clause-served : goal.returns-in-Ok-clause-served
@@ -40,3 +42,9 @@ returns-in-Err-clause-report g c =
     let left = (g.S.Source.state c.args.input.now).left in
     subst (λ (a : CommandEnd). WhereDone (ReportsPlace (g.F.Files.held c.args.files.now) (place_of c.args.asked.place) (speed_seen c.args.asked.speed.now) left left) a.status a.ended) (sym c.of.ensures)
     (λ done. refused_undone c.in-Err.refusal (sym c.status_of_refusal.ensures ∙ done))
+
+pub returns-in-Ok-clause-prompt : goal.returns-in-Ok-clause-prompt
+returns-in-Ok-clause-prompt g c = prompt_at (place_of c.args.asked.place) (g.F.Files.held c.args.files.now) c.in-Ok.plan _ _ c.in-Ok.ensures.plan c.run_plan.ensures.prompt
+
+pub returns-in-Err-clause-prompt : goal.returns-in-Err-clause-prompt
+returns-in-Err-clause-prompt g c = p.unread refl

@@ -13,6 +13,9 @@ use Rattle.sp_top.specs.declared.workshop.CommandEnd.{CommandEnd}
 use Rattle.sp_commands.proofs.Running.{unread}
 use Rattle.sp_top.proofs.Driven.{as_run}
 use Rattle.sp_top.proofs.Reporting.{as_report}
+use Rattle.sp_intake.specs.Pieces.{AsksFrom}
+use Rattle.sp_top.specs.Prompt as p
+use Rattle.sp_top.proofs.Prompt.{prompt_as}
 use Rattle.sp_top.proofs.run.run_plan.Goals as goal
 
 pub returns-in_default-clause-ran : goal.returns-in_default-clause-ran
@@ -43,3 +46,17 @@ returns-clause-report g c =
     let from : ReadsFrom q origin first = rw (c.over-reading.ensures.events, c.over-reading.ensures.source) (c.in-Ok.ensures.fresh origin c.requires.not_ended) in
     let report = c.drive_core-answer.ensures.report origin (subst (λ (p : Plan). ReadsFrom p origin first) (sym core_is) from) in
     as_report c.args.plan c.in-Ok.start.core.plan core_is (speed_seen c.args.speed.now) origin.left _ _ (search rules) _ _ report
+
+pub returns-in_default-clause-prompt : goal.returns-in_default-clause-prompt
+returns-in_default-clause-prompt g c = p.unread refl
+
+pub returns-clause-prompt : goal.returns-clause-prompt
+returns-clause-prompt g c =
+    let q = c.args.plan in
+    let origin = g.S.Source.state c.args.input.now in
+    let made = c.over-reading.result in
+    let first = standing (g.S.Source.state made.source.now) made.events in
+    let core_is : c.in-Ok.start.core.plan ≡ q = ap (λ (core : Running). core.plan) c.in-Ok.ensures.core in
+    let asks : AsksFrom q origin first = rw (c.over-reading.ensures.events, c.over-reading.ensures.source) (c.in-Ok.ensures.unasked origin c.requires.not_ended) in
+    let prompt = c.drive_core-answer.ensures.prompt origin (subst (λ (p : Plan). AsksFrom p origin first) (sym core_is) asks) in
+    prompt_as c.args.plan c.in-Ok.start.core.plan core_is _ _ _ _ _ (search rules) (search rules) prompt

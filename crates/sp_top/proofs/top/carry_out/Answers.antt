@@ -1,4 +1,4 @@
-use Rattle.std.proofs.Common.{◌≡◌, ℕ, List, [], ◌∷◌, ◌++◌, map, ap, subst, sym, rules}
+use Rattle.std.proofs.Common.{◌≡◌, ℕ, List, [], ◌∷◌, ◌++◌, map, ap, refl, subst, sym, rules}
 use Rattle.std.specs.Prelude.{string_bytes}
 use Rattle.std.specs.List.{Contains}
 use Rattle.sp_load.specs.Places.{Place}
@@ -14,6 +14,8 @@ use Rattle.sp_top.specs.declared.workshop.CommandEnd.{CommandEnd}
 use Rattle.sp_top.proofs.Answered.{answers, no_call, refused, drilled}
 use Rattle.sp_top.proofs.Chosen.{chosen, not_chosen}
 use Rattle.sp_top.proofs.Reporting.{reports_run, reports_drill}
+use Rattle.sp_top.specs.Prompt.{IsPrompt}
+use Rattle.sp_top.proofs.Prompt.{no_run, run_promptly, unread_promptly}
 use Rattle.sp_top.proofs.top.carry_out.Goals as goal
 
 pub returns-in-Some-clause-answers : goal.returns-in-Some-clause-answers
@@ -124,3 +126,34 @@ returns-in-None-choose-clause-answers g c words is =
     let none : Contains predictors (string_bytes c.in-Drill.speed.predictor) → ⊥ = λ at. not_chosen _ _ c.args.predictors.items c.in-None-choose.ensures.first (subst (Contains predictors) (sym name) at) in
     subst (λ (a : CommandEnd). Answers predictors words before before old old a.status) (sym c.of-in-None-choose.ensures)
     (refused predictors words (no_call predictors words (drill events seed speed) own none) before old)
+
+pub returns-in-Some-clause-prompt : goal.returns-in-Some-clause-prompt
+returns-in-Some-clause-prompt g c words is =
+    let old : Outside = outside (g.S.Source.state c.args.input.now) (g.K.Sink.state c.args.out.now) in
+    let new : Outside = outside (g.S.Source.state c.run.new.input) (g.K.Sink.state c.run.new.out) in
+    let query = source_seen c.in-Run.query in
+    let speed = speed_seen c.in-Run.speed in
+    run_promptly words (g.F.Files.held c.args.files.now) old new query speed (subst (IsCommand words) (ap seen c.in-Run.is) is)
+    (subst (λ (p : Place). IsPrompt (RunOutcome p (g.F.Files.held c.args.files.now)) old new) c.place_of-place.ensures c.run.ensures.prompt)
+
+pub returns-in-None-clause-prompt : goal.returns-in-None-clause-prompt
+returns-in-None-clause-prompt g c words is =
+    let old : Outside = outside (g.S.Source.state c.args.input.now) (g.K.Sink.state c.args.out.now) in
+    unread_promptly words (g.F.Files.held c.args.files.now) old old refl
+
+pub returns-in-Plain-clause-prompt : goal.returns-in-Plain-clause-prompt
+returns-in-Plain-clause-prompt g c words is =
+    no_run words (g.F.Files.held c.args.files.now) _ _ (plain (source_seen c.in-Plain.query)) (subst (IsCommand words) (ap seen c.in-Plain.is) is) (λ query speed no. cc no)
+
+pub returns-in-Trace-clause-prompt : goal.returns-in-Trace-clause-prompt
+returns-in-Trace-clause-prompt g c words is =
+    no_run words (g.F.Files.held c.args.files.now) _ _ (trace (source_seen c.in-Trace.query) (string_bytes c.in-Trace.schedule) c.in-Trace.live) (subst (IsCommand words) (ap seen c.in-Trace.is) is) (λ query speed no. cc no)
+
+pub returns-in-Some-choose-clause-prompt : goal.returns-in-Some-choose-clause-prompt
+returns-in-Some-choose-clause-prompt g c words is =
+    no_run words (g.F.Files.held c.args.files.now) _ _ (drill c.in-Drill.events c.in-Drill.seed (speed_seen c.in-Drill.speed)) (subst (IsCommand words) (ap seen c.in-Drill.is) is) (λ query speed no. cc no)
+
+pub returns-in-None-choose-clause-prompt : goal.returns-in-None-choose-clause-prompt
+returns-in-None-choose-clause-prompt g c words is =
+    let old : Outside = outside (g.S.Source.state c.args.input.now) (g.K.Sink.state c.args.out.now) in
+    unread_promptly words (g.F.Files.held c.args.files.now) old old refl
