@@ -8,6 +8,8 @@ pub struct Outcome {
     pub status: u32,
     pub output: Vec<u8>,
     pub error: Vec<u8>,
+    /// What the input has left, where the row says it.
+    pub left: Vec<u8>,
 }
 
 /// Which calls of the objects in memory fail; a call's number counts from 1.
@@ -39,6 +41,8 @@ pub struct Call {
     pub delayed: Delayed,
     /// What of a run's journal stands behind the output.
     pub told: Told,
+    /// Whether the row says what the input has left.
+    pub tells_left: bool,
 }
 
 // The option that says how many instances a run has.

@@ -148,6 +148,10 @@ pub(crate) fn put(
         "input" => append(text, times, &mut row.call.input),
         "output" => append(text, times, &mut row.expected.output),
         "error" => append(text, times, &mut row.expected.error),
+        "left" => {
+            row.call.tells_left = true;
+            append(text, times, &mut row.expected.left)
+        }
         "content" => match row.call.files.last_mut() {
             Some((_, bytes)) => append(text, times, bytes),
             None => Err(Fault("a content without its file")),

@@ -32,11 +32,13 @@ impl Row {
                 },
                 delayed: Delayed::None,
                 told: Told::Nothing,
+                tells_left: false,
             },
             expected: Outcome {
                 status: 0,
                 output: Vec::new(alloc),
                 error: Vec::new(alloc),
+                left: Vec::new(alloc),
             },
             is_as_plain: false,
         }

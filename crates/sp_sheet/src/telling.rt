@@ -11,7 +11,8 @@ pub(crate) fn tell(rt: &impl Eprint, expected: &Outcome, came: &Outcome) -> io::
         )?;
     }
     tell_bytes(rt, "output", &expected.output, &came.output)?;
-    tell_bytes(rt, "error output", &expected.error, &came.error)
+    tell_bytes(rt, "error output", &expected.error, &came.error)?;
+    tell_bytes(rt, "left of the input", &expected.left, &came.left)
 }
 
 // The most bytes of a text that are told.

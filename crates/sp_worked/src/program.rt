@@ -3,9 +3,10 @@ ghost use Rattle.std.specs.Prelude.{◌≡◌, ◌<◌};
 
 use crate::gates::Delays;
 use crate::hostile::{Fickle, Greatest, Zero};
+use sp_base::limits::PIECE_LIMIT;
 use sp_calls::{answer, beginning_of, counts_of};
 use sp_chance::{Even, Markov, Predictor, Steady};
-use sp_io::{MemFiles, MemSink, MemSource};
+use sp_io::{MemFiles, MemSink, MemSource, Source};
 use sp_sheet::{Call, Outcome, Told};
 use sp_split::Ended;
 use sp_top::spectre;
@@ -43,6 +44,7 @@ fn answered(alloc: Global, call: Call) -> Result<Outcome, AllocError> {
         status: 0,
         output: answered?.into_bytes(),
         error: Vec::new(alloc),
+        left: Vec::new(alloc),
     })
 }
 
@@ -70,6 +72,7 @@ fn call_with<R: Threads + Wait + Sync>(
     predictors: Vec<Box<dyn Predictor>>,
 ) -> Result<Outcome, AllocError> {
     let failing = call.failing;
+    let tells_left = call.tells_left;
     let mut out = MemSink::new(alloc, failing.writes, ROOM)?;
     let mut err = MemSink::new(alloc, failing.tells, ROOM)?;
     let mut input = MemSource::new(call.input, call.piece.max(1), failing.reads);
@@ -90,7 +93,24 @@ fn call_with<R: Threads + Wait + Sync>(
     );
     let journal = journal_of(alloc, call.told, &report);
     drop(report);
-    outcome_of(alloc, status, &out, &err, journal?.as_str())
+    let mut came = outcome_of(alloc, status, &out, &err, journal?.as_str())?;
+    if tells_left {
+        came.left = rest_of(alloc, &mut input)?;
+    }
+    Ok(came)
+}
+
+// All that a source gives from here on.
+fn rest_of<S: Source>(alloc: Global, source: &mut S) -> Result<Vec<u8>, AllocError> {
+    let mut rest = Vec::new(alloc);
+    let mut piece = [0; PIECE_LIMIT];
+    for _ in 0..ROOM {
+        match source.read(&mut piece) {
+            Ok(count) if count > 0 => rest.extend_from_slice(&piece[..count])?,
+            _ => break,
+        }
+    }
+    Ok(rest)
 }
 
 // What of the journal of a report is told.
@@ -117,5 +137,6 @@ fn outcome_of(
         status: u32::from(status),
         output,
         error,
+        left: Vec::new(alloc),
     })
 }
