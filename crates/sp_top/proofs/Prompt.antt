@@ -63,7 +63,7 @@ prompt_at place held q old new is (p.in_time asked) = p.in_time (record {
   written = asked.written;
 })
 
-query_in : QuerySource → Command → QuerySource
+abbrev query_in : QuerySource → Command → QuerySource
 query_in default (run query speed) = query
 query_in default (plain query) = default
 query_in default (trace query schedule live) = default

@@ -34,3 +34,6 @@ pub returns-clause-prompt : goal.returns-clause-prompt
 returns-clause-prompt g c =
     let old : Outside = outside (g.S.Source.state c.args.input.now) (g.K.Sink.state c.args.out.now) in
     unread_promptly (map string_bytes c.args.words.now) (g.F.Files.held c.args.files.now) old old refl
+
+pub returns-in-Ok-clause-prompt : goal.returns-in-Ok-clause-prompt
+returns-in-Ok-clause-prompt g c = c.carry_out.ensures.prompt (map string_bytes c.args.words.now) c.in-Ok.ensures.command
