@@ -11,7 +11,7 @@ use Rattle.sp_ports.specs.declared.intake.Next.TheVariants as next
 abbrev pub given_by : Next → List Event
 given_by (next.Event e) = e ∷ []
 given_by next.End = []
-given_by next.Stop = []
+given_by (next.Stop why) = []
 given_by next.Memory = []
 
 -- the event that an answer at hand gives, if there is one and it gives one

@@ -1,9 +1,11 @@
-ghost use Rattle.std.specs.Prelude.{◌≡◌, ◌≤◌, ◌⊎◌, ℕ, Bool, true, List, [], ◌++◌};
-ghost use Rattle.sp_io.specs.Outside.{Rose};
+ghost use Rattle.std.specs.Prelude.{◌≡◌, ◌≤◌, ◌⊎◌, ℕ, Bool, true, List, [], ◌++◌, Option, Some};
 ghost use Rattle.sp_plan.specs.declared.event.Event as event;
 ghost use Rattle.sp_plan.specs.declared.plan.Plan.{Plan};
 ghost use Rattle.sp_ports.specs.Giving.{given_by, given_at, AreGood};
+ghost use Rattle.sp_ports.specs.Stopping.{StoppedFor};
+ghost use Rattle.sp_ports.specs.declared.stop.Stop.{Stop};
 
+use crate::stop::Stop;
 use sp_plan::Event;
 use std::alloc::Global;
 use std::marker::Send;
@@ -14,8 +16,8 @@ pub enum Next {
     Event(Event),
     /// There are no more events: the end of its input was reached.
     End,
-    /// It gives no more, for a reason that it keeps; its count of stops rose.
-    Stop,
+    /// It gives no more, for this reason, which is not the end of its input; its count of stops rose.
+    Stop(Stop),
     /// Out of memory. No event was taken, and no count rose.
     Memory,
 }
@@ -33,6 +35,9 @@ pub trait Intake: Send + Drop {
 
     /// How often it stopped before the end of its input.
     ghost stops: { Self → ℕ };
+
+    /// Why it gives no more, where it does not.
+    ghost cause: { Self → Option Stop };
 
     /// From one state on it gave these events, in their order, and came to another.
     ghost gave: { Self → List event.Event → Self → Type 0 };
@@ -64,7 +69,8 @@ pub trait Intake: Send + Drop {
         ensures given { (from : Self) (events : List event.Event) → gave from events self.old
             → gave from (events ++ given_by result) self.new }
         ensures end { result ≡ Next.End → ended self.new ≡ true }
-        ensures stop { result ≡ Next.Stop → Rose (stops self.old) (stops self.new) }
+        ensures stop { (why : Stop) → result ≡ Next.Stop why
+            → StoppedFor stops cause self.old self.new why }
         ensures never_falls { stops self.old ≤ stops self.new }
         ensures memory { result ≡ Next.Memory → stops self.new ≡ stops self.old }
         ensures asked { (from : Self) (before events : List event.Event)
@@ -81,7 +87,8 @@ pub trait Intake: Send + Drop {
         ensures given { (from : Self) (events : List event.Event) → gave from events self.old
             → gave from (events ++ given_at result) self.new }
         ensures end { result ≡ Some Next.End → ended self.new ≡ true }
-        ensures stop { result ≡ Some Next.Stop → Rose (stops self.old) (stops self.new) }
+        ensures stop { (why : Stop) → result ≡ Some (Next.Stop why)
+            → StoppedFor stops cause self.old self.new why }
         ensures never_falls { stops self.old ≤ stops self.new }
         ensures memory { result ≡ Some Next.Memory → stops self.new ≡ stops self.old }
         ensures asked { (from : Self) (before events : List event.Event)
