@@ -23,28 +23,28 @@ use Rattle.sp_match.proofs.TurnTallies.{start_tallies}
 use Rattle.sp_match.proofs.RunNumbersStay.{rising_same, same_numbers}
 use Rattle.sp_match.proofs.StartShows.{acted_started, bound_numbers_stay, new_shows, new_started, rising_new}
 
-module _ (q : Plan) (x : Numbered) (count : ℕ) (old new : List Kept) (ts : List Told) (r : Reception) (ready : IsReady q x.0 count old) (undoes : Undoes q old new)
+module _ (q : Plan) (x : Numbered) (count : ℕ) (old new : List Kept) (ts : List Told) (r : Reception) (ready : IsReady q x.0 count old) (undoes : Undoes q x.0 old new)
     (going : (s : State) → s.open_runs ≡ map started old → Going q x s old (length old) new ts r) where
   shows : (s : State) → s.open_runs ≡ map started old → Shows q s (acted_by q x s s.open_runs) new ts
   shows s is =
       subst (λ (l : List Started). Shows q s (acted_by q x s l) new ts) (take_all (length old) (map started old) (let long = length-map old started in omega arith) ∙ sym is) (going s is).shows
 
-  tally : (s : State) → s.open_runs ≡ map started old → All (Tally (acted_by q x s s.open_runs).moves) new
+  tally : (s : State) → s.open_runs ≡ map started old → All (Tally x.0 (acted_by q x s s.open_runs).moves) new
   tally s is =
-      subst (λ (l : List Started). All (Tally (acted_by q x s l).moves) new) (take_all (length old) (map started old) (let long = length-map old started in omega arith) ∙ sym is) (going s is).tally
+      subst (λ (l : List Started). All (Tally x.0 (acted_by q x s l).moves) new) (take_all (length old) (map started old) (let long = length-map old started in omega arith) ∙ sym is) (going s is).tally
 
   size : length new ≡ length old
-  size = sym (length-map new (λ (k : Kept). k.number)) ∙ ap length (same_numbers q old new undoes) ∙ length-map old (λ (k : Kept). k.number)
+  size = sym (length-map new (λ (k : Kept). k.number)) ∙ ap length (same_numbers q x.0 old new undoes) ∙ length-map old (λ (k : Kept). k.number)
 
   up : Rising 0 count (map started new)
-  up = rising_same 0 count old new (same_numbers q old new undoes) (ordered_rises (standing count old) ready.ordered)
+  up = rising_same 0 count old new (same_numbers q x.0 old new undoes) (ordered_rises (standing count old) ready.ordered)
 
   -- no run starts
   pub none_starts : ((s : State) → s.open_runs ≡ map started old → None ≡ starting q x s) → IsHandled q x count old false new ts
   none_starts none = record {
     shows = λ s is count_is. subst (λ (a : Acting). Shows q s a new ts) (ap (act_start q x (acted_by q x s s.open_runs)) (none s is)) (shows s is);
     started_is = λ s is count_is. ap (λ (o : Option ℕ). (act_start q x (acted_by q x s s.open_runs) o).now.started) (sym (none s is)) ∙ acted_started q x s s.open_runs ∙ count_is;
-    tally = λ s is count_is. subst (λ (a : Acting). All (Tally a.moves) (take (length old) new)) (ap (act_start q x (acted_by q x s s.open_runs)) (none s is)) (All-take (Tally (acted_by q x s s.open_runs).moves) (length old) new (tally s is));
+    tally = λ s is count_is. subst (λ (a : Acting). All (Tally x.0 a.moves) (take (length old) new)) (ap (act_start q x (acted_by q x s s.open_runs)) (none s is)) (All-take (Tally x.0 (acted_by q x s s.open_runs).moves) (length old) new (tally s is));
     good = undoes.good;
     ordered = rising_ordered (standing count new) up;
   }
@@ -69,9 +69,9 @@ module _ (q : Plan) (x : Numbered) (count : ℕ) (old new : List Kept) (ts : Lis
         ap (take (length old)) (runs_are ∙ runs_after_binding_is q name x new [] (empty (count + 1)) ∙ map-append (run_after_use (used_by_binding q name x (empty (count + 1)))) new (run_after_binding q name x (empty (count + 1)) ∷ []))
         ∙ take_at (map (run_after_use (used_by_binding q name x (empty (count + 1)))) new) (run_after_use (used_by_binding q name x (empty (count + 1))) (run_after_binding q name x (empty (count + 1))) ∷ []) (length old)
         (length-map new (run_after_use (used_by_binding q name x (empty (count + 1)))) ∙ size) in
-        subst (All (Tally (act q s x).moves)) (sym front)
-        (subst (λ (b : Acting). All (Tally b.moves) (map (run_after_use (used_by_binding q name x (empty (count + 1)))) new)) (ap (act_start q x a) (some s is))
-        (subst (λ (n : ℕ). All (Tally ((a.moves ++ Opened ∷ []) ++ growing q (a.now.open_runs ++ (n + 1, []) ∷ []) (n + 1, []) (record { name = name; number = x.0; event = x.1 })))
+        subst (All (Tally x.0 (act q s x).moves)) (sym front)
+        (subst (λ (b : Acting). All (Tally x.0 b.moves) (map (run_after_use (used_by_binding q name x (empty (count + 1)))) new)) (ap (act_start q x a) (some s is))
+        (subst (λ (n : ℕ). All (Tally x.0 ((a.moves ++ Opened ∷ []) ++ growing q (a.now.open_runs ++ (n + 1, []) ∷ []) (n + 1, []) (record { name = name; number = x.0; event = x.1 })))
         (map (run_after_use (used_by_binding q name x (empty (count + 1)))) new)) (sym starts)
         (start_tallies q x new name count a.moves a.now.open_runs (shows s is).now up (tally s is))));
     good = good;

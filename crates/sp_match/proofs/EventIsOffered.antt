@@ -10,10 +10,11 @@ use Rattle.sp_match.specs.public.Matching.{Matching, Stands, runs_of}
 use Rattle.sp_match.specs.inside.Kept.{Kept, before, started}
 use Rattle.sp_match.specs.inside.Good.{Good, Undoes}
 use Rattle.sp_match.specs.inside.Effects.{open_runs}
-use Rattle.sp_match.specs.inside.Going.{IsIdle}
+use Rattle.sp_match.specs.inside.Going.{IsIdle, standing}
 use Rattle.sp_match.specs.inside.Keeping.{IsKept}
 use Rattle.sp_match.specs.inside.Handling.{IsHandled, count_after}
 use Rattle.sp_match.proofs.MatcherAfterEvent.{below_after, ordered_after, runs_after, runs_back, started_after}
+use Rattle.sp_match.proofs.GrownRunIsGood.{looked_for}
 
 -- what a matcher is after an event, and what is told
 pub record Offered (before after : Matching) (x : Numbered) (ts : List Told) : Type 0 where
@@ -65,6 +66,8 @@ module _ (q q' : Plan) (x : Numbered) (count : ℕ) (old : List Kept) (began : B
   pub offered : Below x.0 (runs_of m) → Offered m m' x ts
   offered below = record { stands = stands_after; tells = told_after; stays_below = low_after x.0 refl below }
 
--- the runs as before
-pub back : (q q' : Plan) (old new after : List Kept) (size n : ℕ) → All IsIdle old → n ≡ size → Undoes q' old (take size new) → after ≡ map before (take n new) → after ≡ old
-back q q' old new after size n idle same undoes is = runs_back q' old new after size idle undoes (is ∙ ap (λ (m : ℕ). map before (take m new)) same)
+-- the runs as before, but for what they may take next
+pub back : (q q' : Plan) (number count : ℕ) (old new after : List Kept) (size n : ℕ) → q' ≡ q → IsKept q count old → Below number (standing count old) → n ≡ size → Undoes q' number old (take size new) → after ≡ map (before number) (take n new)
+    → after ≡ map looked_for old
+back q q' number count old new after size n plan own below same undoes is =
+    runs_back q number count old new after size own below (subst (λ (p : Plan). Undoes p number old (take size new)) plan undoes) (is ∙ ap (λ (m : ℕ). map (before number) (take m new)) same)

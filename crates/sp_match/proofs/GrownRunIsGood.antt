@@ -1,34 +1,38 @@
 -- A run with one pair more keeps what every run keeps, and taking the pair away gives the run before.
-use Rattle.std.proofs.Common.{◌≡◌, ◌≢◌, ℕ, ◌-◌, ◌<◌, ◌≤◌, Bool, true, false, cond, not, ◌&&◌, ◌||◌, ◌==◌, List, [], ◌∷◌, ◌++◌, map, length, take, get_or, set, refl, sym, ap, subst, ◌∙◌, arith, get_or-set_other, append-nil}
-use Rattle.std.specs.Prelude.{slice_get, if◌then◌else◌}
-use Rattle.std.specs.List.{AllPairs, list_all, filter, zip}
+use Rattle.std.proofs.Common.{◌≡◌, ◌≢◌, ℕ, ◌+◌, ◌-◌, ◌<◌, ◌≤◌, Bool, true, false, cond, ◌||◌, ◌==◌, List, [], ◌∷◌, ◌++◌, map, length, get_or, set, Option, Some, None, refl, sym, ap, subst, ◌∙◌, arith, get_or-set_other, append-nil}
+use Rattle.std.specs.Prelude.{IfSome, slice_get, if◌then◌else◌}
+use Rattle.std.specs.List.{All, AllPairs, filter, last_or, zip}
 use Rattle.std.proofs.lemmas.Bool.Decides.{nat_tests}
 use Rattle.std.proofs.lemmas.List.{length-set, length_push, set-set, set-get_or, take_at, map_push, get_or-replicate}
 use Rattle.std.proofs.lemmas.Grind.{get_or-set_at}
-use Rattle.std.proofs.lemmas.List.Elements.{All-nil, All-push, filter-append}
+use Rattle.std.proofs.lemmas.List.Elements.{All-head, All-nil, All-push, All-tail, filter-append}
 use Rattle.std.proofs.lemmas.List.Folds.{list_any-append}
 use Rattle.std.proofs.lemmas.List.Quantifiers.{all_pairs_push}
+use Rattle.sp_base.specs.Numbers.{is_among}
 use Rattle.sp_plan.specs.declared.event.Event.{Event}
 use Rattle.sp_plan.specs.declared.plan.Plan.{Plan}
-use Rattle.sp_plan.specs.declared.plan.Element.{Element}
 use Rattle.sp_plan.specs.Bounds.{IsSmall}
-use Rattle.sp_plan.specs.Runs.{Pair, Run, is_bound, is_consumed, is_filled, names_of, used}
-use Rattle.sp_match.specs.declared.run.Turn.{Turn}
-use Rattle.sp_match.specs.declared.run.Turn.TheVariants.{Idle, Grew}
+use Rattle.sp_plan.specs.Windows.{Numbered}
+use Rattle.sp_plan.specs.Runs.{Pair, Run, is_bound, is_consumed, used}
 use Rattle.sp_match.specs.declared.run.Fate.{Fate}
 use Rattle.sp_match.specs.declared.run.Fate.TheVariants.{Stays}
-use Rattle.sp_match.specs.inside.Kept.{Kept, before, but_last, empty, grown, pair_of, pairs, undone}
+use Rattle.sp_match.specs.inside.Kept.{Kept, before, binds, but_last, empty, grown, last_under, name_under, pair_of, pairs, undone}
 use Rattle.sp_match.specs.inside.Good.{Good, NumbersBelow}
-use Rattle.sp_match.specs.inside.Going.{IsIdle}
+use Rattle.sp_match.specs.inside.Effects.{looking, run_with_event}
 use Rattle.sp_match.proofs.PairsOfRuns.{pairs_push}
+use Rattle.sp_match.proofs.RunsAfterBinding.{used_below}
+
+-- a run of which it has to be looked for what it may take next, and that stays open
+abbrev pub looked_for : Kept → Kept
+looked_for k = record k { ahead = None; fate = Stays }
 
 -- what a run was before doesn't hang on whether it stays
-pub before_fate : (f : Fate) (k : Kept) → before (record k { fate = f }) ≡ before k
-before_fate f k = one k.turn
+pub before_fate : (n : ℕ) (f : Fate) (k : Kept) → before n (record k { fate = f }) ≡ before n k
+before_fate n f k = one (last_under n k)
   where
-    one : (t : Turn) → undone t (record k { fate = f }) ≡ undone t k
-    one Idle = refl
-    one (Grew name anew consumed) = refl
+    one : (o : Option ℕ) → undone n o (record k { fate = f }) ≡ undone n o k
+    one None = refl
+    one (Some name) = refl
 
 pub good_fate : (q : Plan) (f : Fate) (k : Kept) → Good q k → Good q (record k { fate = f })
 good_fate q f k g = record {
@@ -36,9 +40,33 @@ good_fate q f k g = record {
   named = g.named;
   flags = g.flags;
   marks = g.marks;
-  within = g.within;
-  filled = g.filled;
   ahead_is = g.ahead_is;
+  used_is = g.used_is;
+  rising = g.rising;
+  small = g.small;
+  undoes = g.undoes;
+}
+
+pub good_looked : (q : Plan) (k : Kept) → Good q k → Good q (looked_for k)
+good_looked q k g = record {
+  same_names = g.same_names;
+  named = g.named;
+  flags = g.flags;
+  marks = g.marks;
+  ahead_is = tt;
+  used_is = g.used_is;
+  rising = g.rising;
+  small = g.small;
+  undoes = g.undoes;
+}
+
+pub good_looking : (q : Plan) (k : Kept) → Good q k → Good q (looking q k)
+good_looking q k g = record {
+  same_names = g.same_names;
+  named = g.named;
+  flags = g.flags;
+  marks = g.marks;
+  ahead_is = (refl, refl);
   used_is = g.used_is;
   rising = g.rising;
   small = g.small;
@@ -48,42 +76,82 @@ good_fate q f k g = record {
 but_last_push : {X : Type 0} (xs : List X) (x : X) → but_last (xs ++ x ∷ []) ≡ xs
 but_last_push xs x = let e : length xs ≡ length (xs ++ x ∷ []) - 1 = omega (arith, length_push xs x) in take_at xs (x ∷ []) (length (xs ++ x ∷ []) - 1) e
 
-flag_back : (flags : List Bool) (name : ℕ) (b : Bool) → get_or flags name false ≡ b → cond (not b) (set (set flags name true) name false) (set flags name true) ≡ flags
+pub last_push : {X : Type 0} (o : Option X) (xs : List X) (x : X) → last_or o (xs ++ x ∷ []) ≡ Some x
+last_push o [] x = refl
+last_push o (y ∷ ys) x = last_push (Some y) ys x
+
+-- the flag of a name is as before, where it was set
+flag_back : (flags : List Bool) (name : ℕ) (b : Bool) → get_or flags name false ≡ b → (if b then set flags name true else set (set flags name true) name false) ≡ flags
 flag_back flags name true e = ap (set flags name) (sym e) ∙ set-get_or flags name false
 flag_back flags name false e = set-set flags name true false ∙ ap (set flags name) (sym e) ∙ set-get_or flags name false
 
-used_back : (c : Bool) (ns : List ℕ) (n : ℕ) → cond c (but_last (cond c (ns ++ n ∷ []) ns)) (cond c (ns ++ n ∷ []) ns) ≡ ns
-used_back true ns n = but_last_push ns n
-used_back false ns n = refl
+-- a number above all isn't among them
+not_among : (ns : List ℕ) (n : ℕ) → All (λ m. m < n) ns → is_among ns n ≡ false
+not_among [] n below = refl
+not_among (m ∷ ns) n below =
+    let less : m < n = All-head (λ m. m < n) m ns below in
+    let other : (m == n) ≡ false = grind (arith, nat_tests) in
+    λ i. other i || not_among ns n (All-tail (λ m. m < n) m ns below) i
 
-pub before_grown : (name : ℕ) (consumed : Bool) (number : ℕ) (event : Event) (k : Kept) → k.turn ≡ Idle → before (grown name consumed number event k) ≡ before k
-before_grown name consumed number event k idle =
-    let back : before (grown name consumed number event k) ≡ record k { turn = Idle; fate = Stays } = λ i. record {
-      number = k.number;
-      bound = but_last_push k.bound (name, number) i;
-      used = used_back consumed k.used number i;
-      events = but_last_push k.events (name, event) i;
-      names = flag_back k.names name (get_or k.names name false) refl i;
-      filled = k.filled;
-      ahead = k.ahead;
-      turn = Idle;
-      fate = Stays;
-    } in
-    back ∙ sym (ap (λ t. undone t k) idle)
+pub itself : (n : ℕ) → (n == n) ≡ true
+itself n = grind (arith, nat_tests)
 
-bound_more : (r : Run) (p : Pair) (n : ℕ) → is_bound r n ≡ true → is_bound (r ++ p ∷ []) n ≡ true
-bound_more r p n is = list_any-append (λ pair. pair.name == n) r (p ∷ []) ∙ λ i. is i || (p.name == n || false)
-
-all_still : {X : Type 0} (p p' : X → Bool) → ((x : X) → p x ≡ true → p' x ≡ true) → (xs : List X) → list_all p xs ≡ true → list_all p' xs ≡ true
-all_still p p' step [] all = refl
-all_still {X} p p' step (x ∷ xs) all = one (p x) refl (all_still p p' step xs) all
+among_push : (ns : List ℕ) (n : ℕ) → is_among (ns ++ n ∷ []) n ≡ true
+among_push ns n = list_any-append (λ m. m == n) ns (n ∷ []) ∙ (λ i. is_among ns n || (itself n i || false)) ∙ any_true (is_among ns n)
   where
-    one : (b : Bool) → p x ≡ b → (list_all p xs ≡ true → list_all p' xs ≡ true) → (b && list_all p xs) ≡ true → (p' x && list_all p' xs) ≡ true
-    one true e ih rest = λ i. step x e i && ih rest i
-    one false e ih rest = cc
+    any_true : (b : Bool) → (b || (true || false)) ≡ true
+    any_true true = refl
+    any_true false = refl
 
-pub filled_more : (r : Run) (p : Pair) (elements : List Element) → list_all (is_filled r) elements ≡ true → list_all (is_filled (r ++ p ∷ [])) elements ≡ true
-filled_more r p elements all = all_still (is_filled r) (is_filled (r ++ p ∷ [])) (λ element filled. all_still (is_bound r) (is_bound (r ++ p ∷ [])) (bound_more r p) (names_of element) filled) elements all
+used_back : (c : Bool) (ns : List ℕ) (n : ℕ) → All (λ m. m < n) ns
+    → (if is_among (if c then ns ++ n ∷ [] else ns) n then but_last (if c then ns ++ n ∷ [] else ns) else (if c then ns ++ n ∷ [] else ns)) ≡ ns
+used_back true ns n below = (λ i. if among_push ns n i then but_last (ns ++ n ∷ []) else ns ++ n ∷ []) ∙ but_last_push ns n
+used_back false ns n below = λ i. if not_among ns n below i then but_last ns else ns
+
+-- a pair of a name, as the definitions and as the run have it
+bound_pairs : (name : ℕ) (bs : List (ℕ × ℕ)) (es : List (ℕ × Event)) → map (λ p. p.0) bs ≡ map (λ p. p.0) es → is_bound (map pair_of (zip bs es)) name ≡ binds name bs
+bound_pairs name [] [] same = refl
+bound_pairs name [] (e ∷ es) same = refl
+bound_pairs name (b ∷ bs) [] same = cc
+bound_pairs name (b ∷ bs) (e ∷ es) same =
+    let tail : map (λ p. p.0) bs ≡ map (λ p. p.0) es = cc in
+    ap (λ rest. (b.0 == name) || rest) (bound_pairs name bs es tail)
+
+-- the last of numbers below n is not n
+last_below : (n : ℕ) (bs : List (ℕ × ℕ)) (o : Option (ℕ × ℕ)) → IfSome o (λ p. p.1 < n) → All (λ m. m < n) (map (λ p. p.1) bs) → IfSome (last_or o bs) (λ p. p.1 < n)
+last_below n [] o first below = first
+last_below n (b ∷ bs) o first below = last_below n bs (Some b) (All-head (λ m. m < n) b.1 (map (λ p. p.1) bs) below) (All-tail (λ m. m < n) b.1 (map (λ p. p.1) bs) below)
+
+not_under : (n : ℕ) (o : Option (ℕ × ℕ)) → IfSome o (λ p. p.1 < n) → name_under n o ≡ None
+not_under n None below = refl
+not_under n (Some p) below = let other : (p.1 == n) ≡ false = grind (arith, nat_tests) in λ i. if other i then Some p.0 else None
+
+-- a run that hasn't bound the event of this number is as before
+pub before_below : (n : ℕ) (k : Kept) → NumbersBelow n k → before n k ≡ looked_for k
+before_below n k below = ap (λ (o : Option ℕ). undone n o k) (not_under n (last_or None k.bound) (last_below n k.bound None tt below))
+
+-- a run that has bound the event is as before, where that is undone
+pub before_bound : (q : Plan) (name : ℕ) (x : Numbered) (k : Kept) → Good q k → name < 32 → NumbersBelow x.0 k → before x.0 (run_with_event q name x k) ≡ before x.0 k
+before_bound q name x k g named below =
+    ap (λ (o : Option ℕ). undone x.0 o (run_with_event q name x k)) (ap (name_under x.0) (last_push None k.bound (name, x.0)) ∙ λ i. if itself x.0 i then Some name else None)
+    ∙ back ∙ sym (before_below x.0 k below)
+  where
+    flag : get_or k.names name false ≡ binds name k.bound
+    flag = g.marks name named ∙ bound_pairs name k.bound k.events g.same_names
+
+    flags : (if binds name (but_last (k.bound ++ (name, x.0) ∷ [])) then set k.names name true else set (set k.names name true) name false) ≡ k.names
+    flags = (λ i. if binds name (but_last_push k.bound (name, x.0) i) then set k.names name true else set (set k.names name true) name false) ∙ flag_back k.names name (binds name k.bound) flag
+
+    back : undone x.0 (Some name) (run_with_event q name x k) ≡ looked_for k
+    back = λ i. record {
+      number = k.number;
+      bound = but_last_push k.bound (name, x.0) i;
+      used = used_back (is_consumed (slice_get q.names name)) k.used x.0 (used_below q x.0 k g below) i;
+      events = but_last_push k.events (name, x.1) i;
+      names = flags i;
+      ahead = None;
+      fate = Stays;
+    }
 
 pub used_push : (q : Plan) (r : Run) (p : Pair) → used q (r ++ p ∷ []) ≡ (if is_consumed (slice_get q.names p.name) then used q r ++ p.number ∷ [] else used q r)
 used_push q r p =
@@ -108,14 +176,15 @@ good_grown q name number event k g named few small below = record {
   named = All-push (λ p. p.0 < length q.names) k.bound (name, number) g.named named;
   flags = length-set k.names name true ∙ g.flags;
   marks = marks;
-  within = g.within;
-  filled = ap (λ r. list_all (is_filled r) (take k.filled q.elements)) more ∙ filled_more (pairs k) pair (take k.filled q.elements) g.filled;
-  ahead_is = λ idle. absurd (cc idle);
+  ahead_is = tt;
   used_is = used_grown q name number event k g.same_names g.used_is;
   rising = subst (AllPairs (λ m n. m < n)) (sym (map_push (λ p. p.1) k.bound (name, number)))
       (all_pairs_push (λ m n. m < n) (map (λ p. p.1) k.bound) number g.rising (λ i d within. below i d within));
   small = All-push (λ pair. IsSmall pair.1) k.events (name, event) g.small small;
-  undoes = (omega arith, omega (arith, length_push k.events (name, event)));
+  undoes = (
+    All-push (λ p. p.0 < 32) k.bound (name, number) g.undoes.0 (omega (arith, named, few)),
+    length_push k.bound (name, number) ∙ ap (λ n. n + 1) g.undoes.1 ∙ sym (length_push k.events (name, event)),
+  );
 }
   where
     pair : Pair
@@ -151,15 +220,9 @@ good_empty q number = record {
   named = All-nil (λ p. p.0 < length q.names);
   flags = refl;
   marks = λ name within. get_or-replicate 32 name false false within;
-  within = omega arith;
-  filled = refl;
-  ahead_is = λ idle. tt;
+  ahead_is = tt;
   used_is = refl;
   rising = λ i j d less inside. absurd (omega arith);
   small = All-nil (λ pair. IsSmall pair.1);
-  undoes = tt;
+  undoes = (All-nil (λ p. p.0 < 32), refl);
 }
-
--- a run with which nothing happened is as before
-pub before_idle : (k : Kept) → IsIdle k → before k ≡ k
-before_idle k idle = ap (λ (t : Turn). undone t k) idle.0 ∙ λ i. record k { turn = sym idle.0 i; fate = sym idle.1 i }

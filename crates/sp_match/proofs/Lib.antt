@@ -27,6 +27,7 @@ pub mod ElementsAreNamed
 pub mod TakenIsNamed
 pub mod NeverTaken
 pub mod AheadIsTaken
+pub mod AheadStays
 pub mod BeginningIsTaken
 pub mod MasksAreSure
 pub mod NumbersAreAbove

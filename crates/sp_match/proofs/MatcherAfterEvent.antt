@@ -3,7 +3,7 @@ use Rattle.std.proofs.Common.{◌≡◌, ℕ, ◌+◌, ◌<◌, ◌≤◌, Bool,
 use Rattle.std.specs.List.{All, zip}
 use Rattle.std.specs.List.Sorted.{IsStrictlyIncreasing}
 use Rattle.std.proofs.lemmas.List.{get_or-map, length-map}
-use Rattle.std.proofs.lemmas.List.Elements.{All-head, All-map, All-tail}
+use Rattle.std.proofs.lemmas.List.Elements.{All-head, All-map, All-tail, All-weaker}
 use Rattle.sp_plan.specs.declared.event.Event.{Event}
 use Rattle.sp_plan.specs.declared.plan.Plan.{Plan}
 use Rattle.sp_plan.specs.Windows.{Numbered}
@@ -22,7 +22,7 @@ use Rattle.sp_match.specs.inside.Handling.{IsHandled, count_after}
 use Rattle.sp_match.proofs.RunNumbersRise.{Rising}
 use Rattle.sp_match.proofs.MovesAreHandling.{moves_are_handling, ordered_rises, rising_ordered}
 use Rattle.sp_match.proofs.NumbersStayBelow.{numbers_stay_below}
-use Rattle.sp_match.proofs.GrownRunIsGood.{before_idle}
+use Rattle.sp_match.proofs.GrownRunIsGood.{before_below, good_looked, looked_for}
 use Rattle.sp_match.proofs.OpenRuns.{rising_open}
 use Rattle.sp_match.proofs.PairsOfRuns.{numbers_of}
 
@@ -76,13 +76,26 @@ module _ (q : Plan) (x : Numbered) (count : ℕ) (old : List Kept) (began : Bool
       rising_ordered (standing (count_after count began) settled)
       (subst (Rising 0 (count_after count began)) (sym settled_is) (rising_open 0 (count_after count began) new (ordered_rises (standing (count_after count began) new) handled.ordered)))
 
-pub all_idle : (ks : List Kept) → All IsIdle ks → map before ks ≡ ks
-all_idle [] idle = refl
-all_idle (k ∷ ks) idle = λ i. before_idle k (All-head IsIdle k ks idle) i ∷ all_idle ks (All-tail IsIdle k ks idle) i
+pub all_before_below : (n : ℕ) (ks : List Kept) → All (NumbersBelow n) ks → map (before n) ks ≡ map looked_for ks
+all_before_below n [] below = refl
+all_before_below n (k ∷ ks) below = λ i. before_below n k (All-head (NumbersBelow n) k ks below) i ∷ all_before_below n ks (All-tail (NumbersBelow n) k ks below) i
 
--- after want of memory the runs are as before
-pub runs_back : (q : Plan) (old new back : List Kept) (size : ℕ) → All IsIdle old → Undoes q old (take size new) → back ≡ map before (take size new) → back ≡ old
-runs_back q old new back size idle undoes is = is ∙ undoes.before ∙ all_idle old idle
+pub all_started_looked : (ks : List Kept) → map started (map looked_for ks) ≡ map started ks
+all_started_looked [] = refl
+all_started_looked (k ∷ ks) = ap (λ (l : List Started). started k ∷ l) (all_started_looked ks)
+
+-- runs of which it has to be looked for what they may take next are as a matcher keeps them
+pub kept_looked : (q : Plan) (count : ℕ) (ks : List Kept) → IsKept q count ks → IsKept q count (map looked_for ks)
+kept_looked q count ks own = record {
+  compiled = own.compiled;
+  good = All-map (Good q) looked_for ks (All-weaker (Good q) (λ k. Good q (looked_for k)) (good_looked q) ks own.good);
+  idle = All-map IsIdle looked_for ks (λ i k within. refl);
+  ordered = subst (λ (l : List Started). Ordered (record { open_runs = l; matched = []; started = count })) (sym (all_started_looked ks)) own.ordered;
+}
+
+-- after want of memory the runs are as before, but for what they may take next
+pub runs_back : (q : Plan) (n count : ℕ) (old new back : List Kept) (size : ℕ) → IsKept q count old → Below n (standing count old) → Undoes q n old (take size new) → back ≡ map (before n) (take size new) → back ≡ map looked_for old
+runs_back q n count old new back size own below undoes is = is ∙ undoes.before ∙ all_before_below n old (all_below q n old own.good below.events)
 
 -- a run as it is shown
 pub bound_of : (bs : List (ℕ × ℕ)) (es : List (ℕ × Event)) → map (λ p. p.0) bs ≡ map (λ p. p.0) es → bs ≡ map (λ pair. (pair.name, pair.number)) (map pair_of (zip bs es))

@@ -20,25 +20,25 @@ after_use_to ns i ks = map (run_after_use ns) (take i ks) ++ drop i ks
 abbrev pub told_to : List ℕ → ℕ → List Kept → List Told
 told_to ns i ks = flat_map (use_told ns) (take i ks)
 
-marked_before : (ns : List ℕ) (k : Kept) → before (run_after_use ns k) ≡ before k
-marked_before ns k = before_fate (run_after_use ns k).fate k
+marked_before : (n : ℕ) (ns : List ℕ) (k : Kept) → before n (run_after_use ns k) ≡ before n k
+marked_before n ns k = before_fate n (run_after_use ns k).fate k
 
 marked_good : (q : Plan) (ns : List ℕ) (k : Kept) → Good q k → Good q (run_after_use ns k)
 marked_good q ns k g = good_fate q (run_after_use ns k).fate k g
 
-pub all_before : (ns : List ℕ) (ks : List Kept) → map before (map (run_after_use ns) ks) ≡ map before ks
-all_before ns [] = refl
-all_before ns (k ∷ ks) = λ i. marked_before ns k i ∷ all_before ns ks i
+pub all_before : (n : ℕ) (ns : List ℕ) (ks : List Kept) → map (before n) (map (run_after_use ns) ks) ≡ map (before n) ks
+all_before n ns [] = refl
+all_before n ns (k ∷ ks) = λ i. marked_before n ns k i ∷ all_before n ns ks i
 
 pub all_good : (q : Plan) (ns : List ℕ) (ks : List Kept) → All (Good q) ks → All (Good q) (map (run_after_use ns) ks)
 all_good q ns ks good = All-map (Good q) (run_after_use ns) ks (All-weaker (Good q) (λ k. Good q (run_after_use ns k)) (marked_good q ns) ks good)
 
 -- runs that are marked can be undone
-pub after_use_undoes : (q : Plan) (ns : List ℕ) (i : ℕ) (ks : List Kept) → All (Good q) ks → Undoes q ks (after_use_to ns i ks)
-after_use_undoes q ns i ks good = record {
+pub after_use_undoes : (q : Plan) (n : ℕ) (ns : List ℕ) (i : ℕ) (ks : List Kept) → All (Good q) ks → Undoes q n ks (after_use_to ns i ks)
+after_use_undoes q n ns i ks good = record {
   good = All-append (Good q) (map (run_after_use ns) (take i ks)) (drop i ks) (all_good q ns (take i ks) (All-take (Good q) i ks good)) (All-drop (Good q) i ks good);
-  before = map-append before (map (run_after_use ns) (take i ks)) (drop i ks) ∙ ap (λ rest. rest ++ map before (drop i ks)) (all_before ns (take i ks))
-      ∙ sym (map-append before (take i ks) (drop i ks)) ∙ ap (map before) (take-append-drop i ks);
+  before = map-append (before n) (map (run_after_use ns) (take i ks)) (drop i ks) ∙ ap (λ rest. rest ++ map (before n) (drop i ks)) (all_before n ns (take i ks))
+      ∙ sym (map-append (before n) (take i ks) (drop i ks)) ∙ ap (map (before n)) (take-append-drop i ks);
 }
 
 -- one run more

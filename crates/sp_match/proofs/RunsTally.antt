@@ -109,15 +109,15 @@ listed p (k ∷ ks) front low top before up =
         (list_any-append (λ (other : Started). other.0 == k.number) front (filter p (open_runs ks)) ∙ (λ i. none_front i || none_back i) ∙ sym is) without
 
 -- a run of which the moves more only say that it leaves where it is marked to leave
-tally_on : (us : List ℕ) (ms ns : List Move) (k : Kept) → flat_map (pair_given k.number) ns ≡ [] → list_any (abandons k.number) ns ≡ loses us k → Tally ms k → Tally (ms ++ ns) (run_after_use us k)
-tally_on us ms ns k nothing says tally = record {
+tally_on : (n : ℕ) (us : List ℕ) (ms ns : List Move) (k : Kept) → flat_map (pair_given k.number) ns ≡ [] → list_any (abandons k.number) ns ≡ loses us k → Tally n ms k → Tally n (ms ++ ns) (run_after_use us k)
+tally_on n us ms ns k nothing says tally = record {
   given = tally.given ∙ (λ i. pairs (was i) ++ flat_map (pair_given k.number) ms)
-      ∙ ap (λ (l : List Pair). pairs (before (run_after_use us k)) ++ l) (sym (append-nil (flat_map (pair_given k.number) ms)) ∙ (λ i. flat_map (pair_given k.number) ms ++ sym nothing i) ∙ sym (flat_map-append (pair_given k.number) ms ns));
+      ∙ ap (λ (l : List Pair). pairs (before n (run_after_use us k)) ++ l) (sym (append-nil (flat_map (pair_given k.number) ms)) ∙ (λ i. flat_map (pair_given k.number) ms ++ sym nothing i) ∙ sym (flat_map-append (pair_given k.number) ms ns));
   leaves = list_any-append (abandons k.number) ms ns ∙ (λ i. tally.leaves i || says i) ∙ one k.fate (holds_one us (pairs k));
 }
   where
-    was : before k ≡ before (run_after_use us k)
-    was = sym (before_fate (run_after_use us k).fate k)
+    was : before n k ≡ before n (run_after_use us k)
+    was = sym (before_fate n (run_after_use us k).fate k)
 
     one : (f : Fate) (h : Bool) → (is_leaving f || (stays f && h)) ≡ is_leaving (if stays f && h then Leaves else f)
     one Stays true = refl
@@ -126,14 +126,14 @@ tally_on us ms ns k nothing says tally = record {
     one Leaves h = refl
 
 -- all runs but the one that binds
-pub tallies_on : (q : Plan) (us : List ℕ) (ms : List Move) (runs : List Started) (run : Started) (pair : Pair) (ys : List Kept) → All (λ k. (run.0 == k.number) ≡ false) ys
-    → All (λ k. list_any (λ other. other.0 == k.number) (losing q runs run pair) ≡ loses us k) ys → All (Tally ms) ys → All (Tally (ms ++ growing q runs run pair)) (map (run_after_use us) ys)
-tallies_on q us ms runs run pair ys apart lists tallies =
-    All-map (Tally (ms ++ growing q runs run pair)) (run_after_use us) ys (λ i k within. one (get_or ys i k) (apart i k within) (lists i k within) (tallies i k within))
+pub tallies_on : (q : Plan) (n : ℕ) (us : List ℕ) (ms : List Move) (runs : List Started) (run : Started) (pair : Pair) (ys : List Kept) → All (λ k. (run.0 == k.number) ≡ false) ys
+    → All (λ k. list_any (λ other. other.0 == k.number) (losing q runs run pair) ≡ loses us k) ys → All (Tally n ms) ys → All (Tally n (ms ++ growing q runs run pair)) (map (run_after_use us) ys)
+tallies_on q n us ms runs run pair ys apart lists tallies =
+    All-map (Tally n (ms ++ growing q runs run pair)) (run_after_use us) ys (λ i k within. one (get_or ys i k) (apart i k within) (lists i k within) (tallies i k within))
   where
-    one : (k : Kept) → (run.0 == k.number) ≡ false → list_any (λ other. other.0 == k.number) (losing q runs run pair) ≡ loses us k → Tally ms k → Tally (ms ++ growing q runs run pair) (run_after_use us k)
+    one : (k : Kept) → (run.0 == k.number) ≡ false → list_any (λ other. other.0 == k.number) (losing q runs run pair) ≡ loses us k → Tally n ms k → Tally n (ms ++ growing q runs run pair) (run_after_use us k)
     one k other says tally =
-        tally_on us ms (growing q runs run pair) k (growing_given q runs run pair k.number ∙ λ i. if other i then pair ∷ [] else []) (growing_abandons q runs run pair k.number ∙ says) tally
+        tally_on n us ms (growing q runs run pair) k (growing_given q runs run pair k.number ∙ λ i. if other i then pair ∷ [] else []) (growing_abandons q runs run pair k.number ∙ says) tally
 
 -- the runs that leave, where the one that binds stands among these
 pub losing_lists : (q : Plan) (name : ℕ) (x : Numbered) (k : Kept) (runs : List Started) (ys : List Kept) (top : ℕ) → (run : Started) (pair : Pair) → used_by_binding q name x k ≡ (if is_complete q (run.1 ++ pair ∷ []) then used q (run.1 ++ pair ∷ []) else [])

@@ -4,41 +4,39 @@ use Rattle.std.specs.Prelude.{slice_get}
 use Rattle.std.specs.List.{All}
 use Rattle.std.proofs.lemmas.List.{map-set, set-get_or, length-map, get_or-map, map_push, take-map, take_at}
 use Rattle.std.proofs.lemmas.List.Elements.{All-get_or, All-set, All-take}
-use Rattle.sp_plan.specs.declared.event.Event.{Event}
 use Rattle.sp_plan.specs.declared.plan.Plan.{Plan}
 use Rattle.sp_plan.specs.Bounds.{IsSmall}
+use Rattle.sp_plan.specs.Windows.{Numbered}
 use Rattle.sp_plan.specs.Runs.{is_consumed}
 use Rattle.sp_match.specs.declared.run.Fate.{Fate}
-use Rattle.sp_match.specs.declared.run.Turn.TheVariants.{Idle}
 use Rattle.sp_match.specs.declared.run.Run.{Run}
 use Rattle.sp_match.specs.inside.Kept.{Kept, before, empty, grown, kept}
 use Rattle.sp_match.specs.inside.Good.{Good, NumbersBelow, RunUndoes, Undoes}
-use Rattle.sp_match.specs.inside.Effects.{run_at}
-use Rattle.sp_match.proofs.GrownRunIsGood.{before_fate, before_grown, good_fate, good_grown}
+use Rattle.sp_match.specs.inside.Effects.{run_at, run_with_event}
+use Rattle.sp_match.proofs.GrownRunIsGood.{before_bound, before_fate, good_fate, good_grown, good_looking}
 
-pub run_stays : (q : Plan) (k : Kept) → Good q k → RunUndoes q k k
-run_stays q k good = record { good = good; before = refl }
+pub run_stays : (q : Plan) (n : ℕ) (k : Kept) → Good q k → RunUndoes q n k k
+run_stays q n k good = record { good = good; before = refl }
 
-pub run_fate : (q : Plan) (k k' : Kept) (f : Fate) → RunUndoes q k k' → RunUndoes q k (record k' { fate = f })
-run_fate q k k' f u = record { good = good_fate q f k' u.good; before = before_fate f k' ∙ u.before }
+pub run_fate : (q : Plan) (n : ℕ) (k k' : Kept) (f : Fate) → RunUndoes q n k k' → RunUndoes q n k (record k' { fate = f })
+run_fate q n k k' f u = record { good = good_fate q f k' u.good; before = before_fate n f k' ∙ u.before }
 
-pub run_grown : (q : Plan) (name number : ℕ) (event : Event) (k : Kept) → Good q k → k.turn ≡ Idle → name < length q.names → length q.names ≤ 32 → IsSmall event → NumbersBelow number k
-    → RunUndoes q k (grown name (is_consumed (slice_get q.names name)) number event k)
-run_grown q name number event k good idle named few small below = record {
-  good = good_grown q name number event k good named few small below;
-  before = before_grown name (is_consumed (slice_get q.names name)) number event k idle;
+pub run_bound : (q : Plan) (name : ℕ) (x : Numbered) (k : Kept) → Good q k → name < length q.names → length q.names ≤ 32 → IsSmall x.1 → NumbersBelow x.0 k → RunUndoes q x.0 k (run_with_event q name x k)
+run_bound q name x k good named few small below = record {
+  good = good_looking q (grown name (is_consumed (slice_get q.names name)) x.0 x.1 k) (good_grown q name x.0 x.1 k good named few small below);
+  before = before_bound q name x k good (omega (arith, named, few)) below;
 }
 
-pub all_stay : (q : Plan) (ks : List Kept) → All (Good q) ks → Undoes q ks ks
-all_stay q ks good = record { good = good; before = refl }
+pub all_stay : (q : Plan) (n : ℕ) (ks : List Kept) → All (Good q) ks → Undoes q n ks ks
+all_stay q n ks good = record { good = good; before = refl }
 
-pub undoes_on : (q : Plan) (ks ys zs : List Kept) → Undoes q ks ys → Undoes q ys zs → Undoes q ks zs
-undoes_on q ks ys zs u v = record { good = v.good; before = v.before ∙ u.before }
+pub undoes_on : (q : Plan) (n : ℕ) (ks ys zs : List Kept) → Undoes q n ks ys → Undoes q n ys zs → Undoes q n ks zs
+undoes_on q n ks ys zs u v = record { good = v.good; before = v.before ∙ u.before }
 
-pub undoes_set : (q : Plan) (ks ys : List Kept) (i : ℕ) (k k' : Kept) → Undoes q ks ys → k ≡ get_or ys i k → RunUndoes q k k' → Undoes q ks (set ys i k')
-undoes_set q ks ys i k k' u at r = record {
+pub undoes_set : (q : Plan) (n : ℕ) (ks ys : List Kept) (i : ℕ) (k k' : Kept) → Undoes q n ks ys → k ≡ get_or ys i k → RunUndoes q n k k' → Undoes q n ks (set ys i k')
+undoes_set q n ks ys i k k' u at r = record {
   good = All-set (Good q) ys i k' r.good u.good;
-  before = map-set before ys i k' ∙ ap (set (map before ys) i) (r.before ∙ ap before at) ∙ sym (map-set before ys i (get_or ys i k)) ∙ ap (map before) (set-get_or ys i k) ∙ u.before;
+  before = map-set (before n) ys i k' ∙ ap (set (map (before n) ys) i) (r.before ∙ ap (before n) at) ∙ sym (map-set (before n) ys i (get_or ys i k)) ∙ ap (map (before n)) (set-get_or ys i k) ∙ u.before;
 }
 
 -- the run at the place
@@ -46,18 +44,18 @@ pub here : (rs : List Run) (at : ℕ) (r : Run) → at < length rs → run_at (m
 here rs at r within = get_or-map kept rs at r (empty 0) within
 
 -- the runs after the one at the place has turned
-pub undone_set : (q : Plan) (rs : List Run) (at : ℕ) (r r' : Run) → at < length rs → All (Good q) (map kept rs) → RunUndoes q (kept (get_or rs at r)) (kept r') → Undoes q (map kept rs) (map kept (set rs at r'))
-undone_set q rs at r r' within good u =
-    subst (Undoes q (map kept rs)) (sym (map-set kept rs at r'))
-    (undoes_set q (map kept rs) (map kept rs) at (kept (get_or rs at r)) (kept r') (all_stay q (map kept rs) good) (sym (get_or-map kept rs at r (kept (get_or rs at r)) within)) u)
+pub undone_set : (q : Plan) (n : ℕ) (rs : List Run) (at : ℕ) (r r' : Run) → at < length rs → All (Good q) (map kept rs) → RunUndoes q n (kept (get_or rs at r)) (kept r') → Undoes q n (map kept rs) (map kept (set rs at r'))
+undone_set q n rs at r r' within good u =
+    subst (Undoes q n (map kept rs)) (sym (map-set kept rs at r'))
+    (undoes_set q n (map kept rs) (map kept rs) at (kept (get_or rs at r)) (kept r') (all_stay q n (map kept rs) good) (sym (get_or-map kept rs at r (kept (get_or rs at r)) within)) u)
 
 pub good_here : (q : Plan) (rs : List Run) (at : ℕ) (r : Run) → at < length rs → All (Good q) (map kept rs) → Good q (kept (get_or rs at r))
 good_here q rs at r within good =
     subst (Good q) (here rs at r within) (All-get_or (Good q) (map kept rs) at (empty 0) (omega (arith, within, length-map rs kept)) good)
 
 -- of more runs, the first ones
-pub undoes_take : (q : Plan) (ks new : List Kept) (k : Kept) → Undoes q (ks ++ k ∷ []) new → Undoes q ks (take (length ks) new)
-undoes_take q ks new k u = record {
+pub undoes_take : (q : Plan) (n : ℕ) (ks new : List Kept) (k : Kept) → Undoes q n (ks ++ k ∷ []) new → Undoes q n ks (take (length ks) new)
+undoes_take q n ks new k u = record {
   good = All-take (Good q) (length ks) new u.good;
-  before = sym (take-map before (length ks) new) ∙ ap (take (length ks)) (u.before ∙ map_push before ks k) ∙ take_at (map before ks) (before k ∷ []) (length ks) (length-map ks before);
+  before = sym (take-map (before n) (length ks) new) ∙ ap (take (length ks)) (u.before ∙ map_push (before n) ks k) ∙ take_at (map (before n) ks) (before n k ∷ []) (length ks) (length-map ks (before n));
 }

@@ -13,11 +13,10 @@ use Rattle.sp_match.specs.declared.turns.Reception.{Reception}
 use Rattle.sp_match.specs.declared.turns.Reception.TheVariants.{Taken, Used}
 use Rattle.sp_match.specs.declared.run.Fate.{Fate}
 use Rattle.sp_match.specs.declared.run.Fate.TheVariants.{Stays, Completes, Leaves}
-use Rattle.sp_match.specs.inside.Kept.{Kept, empty, pairs, started, stays}
+use Rattle.sp_match.specs.inside.Kept.{Kept, before, empty, pairs, started, stays}
 use Rattle.sp_match.specs.inside.Effects.{run_with_event, runs_after_binding, runs_binding_told, runs_after_offer, offer_told, is_skipped, is_taken, is_used, leaving_told, runs_after_leaving, run_after_use, reception_after_offer, run_at, run_after_binding, used_by_binding}
 use Rattle.sp_match.specs.inside.Shows.{Shows}
 use Rattle.sp_match.specs.inside.Tally.{Tally}
-use Rattle.sp_match.specs.declared.run.Turn.TheVariants.{Idle}
 use Rattle.sp_match.specs.inside.Going.{none_takes}
 use Rattle.sp_match.proofs.RunNumbersRise.{Rising}
 use Rattle.sp_match.proofs.MovesFollowRuns.{holds_either}
@@ -32,7 +31,7 @@ use Rattle.sp_match.proofs.TurnShows.{bind_shows, leave_shows}
 pub record Gone (q : Plan) (x : Numbered) (s : State) (a : Acting) (done : List Started) (rest : List Kept) (n : ℕ) (ks : List Kept) (ts : List Told) (r : Reception) : Type 0 where
   pub shows : Shows q s a ks ts
   pub front : (fs : List Kept) × (length fs ≡ n) × (ks ≡ fs ++ map (run_after_use a.taken) rest)
-  pub tally : All (Tally a.moves) ks
+  pub tally : All (Tally x.0 a.moves) ks
   pub used : is_used r ≡ is_among a.taken x.0
   pub taken : is_taken r ≡ not (none_takes q x done)
   pub unused : is_taken r ≡ false → a.taken ≡ []
@@ -88,7 +87,7 @@ module _ (q : Plan) (x : Numbered) (s : State) (fs rest : List Kept) (k0 : Kept)
   none_more b e = list_all-append (λ other. is_none (takes q other.1 x.1)) done (run ∷ []) ∙ λ i. none_takes q x done && (e i && true)
 
   -- the run is offered no event
-  skipped : Shows q s a ks ts → All (Tally a.moves) ks → is_used r ≡ is_among a.taken x.0 → is_taken r ≡ not (none_takes q x done) → is_taken r ≡ true → goes a ks (ts ++ []) r
+  skipped : Shows q s a ks ts → All (Tally x.0 a.moves) ks → is_used r ≡ is_among a.taken x.0 → is_taken r ≡ not (none_takes q x done) → is_taken r ≡ true → goes a ks (ts ++ []) r
   skipped shows tally used taken was = record {
     shows = subst (λ (l : List Told). Shows q s a ks l) (sym (append-nil ts)) shows;
     front = (fs ++ k ∷ [], length_push fs k, sym (append_assoc fs (k ∷ []) bs));
@@ -106,9 +105,9 @@ module _ (q : Plan) (x : Numbered) (s : State) (fs rest : List Kept) (k0 : Kept)
 
   -- the run takes the event
   binds : (name : ℕ) → takes q run.1 x.1 ≡ Some name → stays k.fate ≡ true → map (λ p. p.0) k0.bound ≡ map (λ p. p.0) k0.events
-      → (run_with_event q name x k).used ≡ used q (pairs (run_with_event q name x k)) → Rising 0 top (map started ks) → is_among a.taken x.0 ≡ false → k0.turn ≡ Idle → Shows q s a ks ts → All (Tally a.moves) ks
+      → (run_with_event q name x k).used ≡ used q (pairs (run_with_event q name x k)) → Rising 0 top (map started ks) → is_among a.taken x.0 ≡ false → before x.0 (run_with_event q name x k) ≡ before x.0 k → Shows q s a ks ts → All (Tally x.0 a.moves) ks
       → goes (acted q x a run (Some name)) (runs_after_binding q name x here ks) (ts ++ runs_binding_told q name x here ks) (reception_after_offer q x k r (Some name))
-  binds name is open_yet same uses up fresh_yet idle shows tally =
+  binds name is open_yet same uses up fresh_yet back_is shows tally =
       let ns = used_by_binding q name x k in
       let pair : Pair = record { name = name; number = x.0; event = x.1 } in
       let used_is : used_if_complete q (run.1 ++ pair ∷ []) ≡ ns =
@@ -126,8 +125,8 @@ module _ (q : Plan) (x : Numbered) (s : State) (fs rest : List Kept) (k0 : Kept)
           runs ∙ ap (map (run_after_use ns)) (sym (append_assoc fs (run_after_binding q name x k ∷ []) bs)) ∙ map-append (run_after_use ns) (fs ++ run_after_binding q name x k ∷ []) bs
               ∙ ap (λ (l : List Kept). map (run_after_use ns) (fs ++ run_after_binding q name x k ∷ []) ++ l) (all_twice a.taken ns rest ∙ ap (λ (l : List ℕ). map (run_after_use l) rest) (sym taken_is)),
         );
-        tally = subst (All (Tally (acted q x a run (Some name)).moves)) (sym runs)
-            (bind_tallies q x fs bs k name top open_yet same uses up idle a.moves a.now.open_runs (sym shows.now ∙ open_at fs bs k open_yet) tally);
+        tally = subst (All (Tally x.0 (acted q x a run (Some name)).moves)) (sym runs)
+            (bind_tallies q x fs bs k name top open_yet same uses up back_is a.moves a.now.open_runs (sym shows.now ∙ open_at fs bs k open_yet) tally);
         used = used_now (is_among ns x.0) ∙ sym (ap (λ (l : List ℕ). is_among l x.0) taken_is ∙ among_either a.taken ns x.0 ∙ λ i. fresh_yet i || is_among ns x.0);
         taken = taken_now (is_among ns x.0) ∙ ap not (sym (none_more false (ap is_none is) ∙ and_false (none_takes q x done)));
         unused = λ not_taken. absurd (let f : true ≡ false = sym (taken_now (is_among ns x.0)) ∙ not_taken in cc);
@@ -142,7 +141,7 @@ module _ (q : Plan) (x : Numbered) (s : State) (fs rest : List Kept) (k0 : Kept)
       taken_now false = refl
 
   -- the run doesn't take the event
-  passes : takes q run.1 x.1 ≡ None → stays k.fate ≡ true → Rising 0 top (map started ks) → Shows q s a ks ts → All (Tally a.moves) ks → is_used r ≡ is_among a.taken x.0 → is_taken r ≡ not (none_takes q x done)
+  passes : takes q run.1 x.1 ≡ None → stays k.fate ≡ true → Rising 0 top (map started ks) → Shows q s a ks ts → All (Tally x.0 a.moves) ks → is_used r ≡ is_among a.taken x.0 → is_taken r ≡ not (none_takes q x done)
       → (is_taken r ≡ false → a.taken ≡ []) → (b : Bool)
       → goes (cond b (acting_on a (abandoned run ∷ []) []) a) (if b then runs_after_leaving here ks else ks) (ts ++ (if b then leaving_told (run_at ks here) ∷ [] else [])) r
   passes is open_yet up shows tally used taken unused false = record {
@@ -161,7 +160,7 @@ module _ (q : Plan) (x : Numbered) (s : State) (fs rest : List Kept) (k0 : Kept)
         shows = subst (λ (l : List Kept). Shows q s (acting_on a (abandoned run ∷ []) []) l (ts ++ leaving_told (run_at ks here) ∷ [])) (sym runs)
             (subst (λ (m : Kept). Shows q s (acting_on a (abandoned run ∷ []) []) (fs ++ gone ∷ bs) (ts ++ leaving_told m ∷ [])) (sym at) (leave_shows q fs bs k top open_yet up s a ts shows));
         front = (fs ++ gone ∷ [], length_push fs gone, runs ∙ sym (append_assoc fs (gone ∷ []) bs) ∙ ap (λ (l : List ℕ). (fs ++ gone ∷ []) ++ map (run_after_use l) rest) (sym (append-nil a.taken)));
-        tally = subst (All (Tally (a.moves ++ abandoned run ∷ []))) (sym runs) (leave_tallies fs bs k top a.moves up tally);
+        tally = subst (All (Tally x.0 (a.moves ++ abandoned run ∷ []))) (sym runs) (leave_tallies x.0 fs bs k top a.moves up tally);
         used = used ∙ ap (λ (l : List ℕ). is_among l x.0) (sym (append-nil a.taken));
         taken = taken ∙ ap not (sym (none_more true (ap is_none is) ∙ and_true (none_takes q x done)));
         unused = λ not_taken. append-nil a.taken ∙ unused not_taken;
@@ -172,11 +171,11 @@ module _ (q : Plan) (x : Numbered) (s : State) (fs rest : List Kept) (k0 : Kept)
   was_taken false e unused some = let f : true ≡ false = some (unused e) in cc
 
   -- the run's turn
-  pub turn_goes : k0.fate ≡ Stays → k0.turn ≡ Idle → map (λ p. p.0) k0.bound ≡ map (λ p. p.0) k0.events → k0.used ≡ used q (pairs k0) → Rising 0 top (map started ks) → Shows q s a ks ts → All (Tally a.moves) ks → is_used r ≡ is_among a.taken x.0
+  pub turn_goes : k0.fate ≡ Stays → ((name : ℕ) → takes q run.1 x.1 ≡ Some name → before x.0 (run_with_event q name x k) ≡ before x.0 k) → map (λ p. p.0) k0.bound ≡ map (λ p. p.0) k0.events → k0.used ≡ used q (pairs k0) → Rising 0 top (map started ks) → Shows q s a ks ts → All (Tally x.0 a.moves) ks → is_used r ≡ is_among a.taken x.0
       → is_taken r ≡ not (none_takes q x done) → (is_taken r ≡ false → a.taken ≡ [])
       → goes (act_run q x a run) (if is_skipped r k then ks else runs_after_offer q (leaves q.select q x.1) here x ks (takes q run.1 x.1))
       (ts ++ (if is_skipped r k then [] else offer_told q (leaves q.select q x.1) here x ks (takes q run.1 x.1))) (if is_skipped r k then r else reception_after_offer q x k r (takes q run.1 x.1))
-  turn_goes stands idle same uses up shows tally used taken unused =
+  turn_goes stands back_is same uses up shows tally used taken unused =
       subst (λ (b : Bool). goes (act_run q x a run) (if b then ks else runs_after_offer q (leaves q.select q x.1) here x ks (takes q run.1 x.1))
       (ts ++ (if b then [] else offer_told q (leaves q.select q x.1) here x ks (takes q run.1 x.1))) (if b then r else reception_after_offer q x k r (takes q run.1 x.1))) (sym skip_is)
       (one (holds_one a.taken run.1) (is_among a.taken x.0) refl refl)
@@ -199,7 +198,7 @@ module _ (q : Plan) (x : Numbered) (s : State) (fs rest : List Kept) (k0 : Kept)
 
       offers : holds_one a.taken run.1 ≡ false → is_among a.taken x.0 ≡ false → (o : Option ℕ) → takes q run.1 x.1 ≡ o
           → goes (acted q x a run o) (runs_after_offer q (leaves q.select q x.1) here x ks o) (ts ++ offer_told q (leaves q.select q x.1) here x ks o) (reception_after_offer q x k r o)
-      offers hold among (Some name) is = binds name is (stay_is ∙ ap not hold) same (used_grown q name x.0 x.1 k same uses) up among idle shows tally
+      offers hold among (Some name) is = binds name is (stay_is ∙ ap not hold) same (used_grown q name x.0 x.1 k same uses) up among (back_is name is) shows tally
       offers hold among None is = passes is (stay_is ∙ ap not hold) up shows tally used taken unused (leaves q.select q x.1)
 
       one : (h u : Bool) → holds_one a.taken run.1 ≡ h → is_among a.taken x.0 ≡ u

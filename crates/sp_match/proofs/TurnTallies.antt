@@ -1,6 +1,6 @@
 -- A run's turn, and the start of one, by how the runs stand against the moves.
 use Rattle.std.proofs.Common.{◌≡◌, ℕ, ◌+◌, Bool, true, false, ◌&&◌, ◌||◌, ◌==◌, List, [], ◌∷◌, ◌++◌, map, get_or, refl, sym, ap, subst, ◌∙◌, append_assoc, arith}
-use Rattle.std.specs.Prelude.{if◌then◌else◌, slice_get}
+use Rattle.std.specs.Prelude.{if◌then◌else◌}
 use Rattle.std.specs.List.{All, filter, flat_map, list_any}
 use Rattle.std.proofs.lemmas.Grind.{flat_map-append}
 use Rattle.std.proofs.lemmas.List.{append-nil, map-append}
@@ -8,17 +8,16 @@ use Rattle.std.proofs.lemmas.List.Elements.{All-append, All-cons, All-head, All-
 use Rattle.std.proofs.lemmas.List.Folds.{list_any-append}
 use Rattle.sp_plan.specs.declared.plan.Plan.{Plan}
 use Rattle.sp_plan.specs.Windows.{Numbered}
-use Rattle.sp_plan.specs.Runs.{Pair, Started, holds_one, is_complete, is_consumed, used}
+use Rattle.sp_plan.specs.Runs.{Pair, Started, holds_one, is_complete, used}
 use Rattle.sp_plan.specs.Moves.{Move, Abandoned, Opened, abandons, growing, pair_given, without_run}
 use Rattle.sp_match.specs.declared.run.Fate.{Fate}
 use Rattle.sp_match.specs.declared.run.Fate.TheVariants.{Stays, Completes, Leaves}
-use Rattle.sp_match.specs.declared.run.Turn.TheVariants.{Idle}
 use Rattle.sp_match.specs.inside.Kept.{Kept, before, empty, pairs, started, stays}
 use Rattle.sp_match.specs.inside.Effects.{run_with_event, completes, loses, run_after_use, open_runs, run_after_binding, used_by_binding}
 use Rattle.sp_match.specs.inside.Tally.{Tally, is_leaving}
 use Rattle.sp_match.proofs.RunNumbersRise.{Rising, Absent, absent_above, absent_below, absent_join}
 use Rattle.sp_match.proofs.RunInTheMiddle.{without_middle}
-use Rattle.sp_match.proofs.GrownRunIsGood.{before_fate, before_grown, used_grown}
+use Rattle.sp_match.proofs.GrownRunIsGood.{before_fate, used_grown}
 use Rattle.sp_match.proofs.RunsAfterBinding.{none_loses}
 use Rattle.sp_match.proofs.OpenRuns.{open_append, rising_cut, rising_open}
 use Rattle.sp_match.proofs.TurnShows.{back, front, pairs_are}
@@ -41,7 +40,7 @@ apart_back fs bs k top up =
     all_apart k.number bs (absent_below k.number k.number top (map started bs) cut.3 (omega arith))
 
 module _ (q : Plan) (x : Numbered) (fs bs : List Kept) (k : Kept) (name top : ℕ) (open_yet : stays k.fate ≡ true) (same : map (λ p. p.0) k.bound ≡ map (λ p. p.0) k.events)
-    (uses : (run_with_event q name x k).used ≡ used q (pairs (run_with_event q name x k))) (up : Rising 0 top (map started (fs ++ k ∷ bs))) (idle : k.turn ≡ Idle) (ms : List Move) (runs : List Started) (opens : runs ≡ open_runs fs ++ started k ∷ open_runs bs) where
+    (uses : (run_with_event q name x k).used ≡ used q (pairs (run_with_event q name x k))) (up : Rising 0 top (map started (fs ++ k ∷ bs))) (back_is : before x.0 (run_with_event q name x k) ≡ before x.0 k) (ms : List Move) (runs : List Started) (opens : runs ≡ open_runs fs ++ started k ∷ open_runs bs) where
   abbrev pair : Pair
   pair = record { name = name; number = x.0; event = x.1 }
 
@@ -88,33 +87,33 @@ module _ (q : Plan) (x : Numbered) (fs bs : List Kept) (k : Kept) (name top : �
       (λ i. is_leaving (if stays (if e i then Completes else k.fate) && holds_one (if e i then (run_with_event q name x k).used else []) (pairs (run_after_binding q name x k)) then Leaves else (if e i then Completes else k.fate)))
       ∙ (λ i. is_leaving (if none_loses (run_with_event q name x k) i then Leaves else k.fate)) ∙ not_leaving k.fate open_yet
 
-  tally_bound : Tally ms k → Tally (ms ++ more) (run_after_use ns (run_after_binding q name x k))
+  tally_bound : Tally x.0 ms k → Tally x.0 (ms ++ more) (run_after_use ns (run_after_binding q name x k))
   tally_bound tally =
       let r = k.number in
-      let was : before k ≡ before (run_after_use ns (run_after_binding q name x k)) =
-      sym (before_fate (run_after_use ns (run_after_binding q name x k)).fate (run_with_event q name x k) ∙ before_grown name (is_consumed (slice_get q.names name)) x.0 x.1 k idle) in
+      let was : before x.0 k ≡ before x.0 (run_after_use ns (run_after_binding q name x k)) =
+      sym (before_fate x.0 (run_after_use ns (run_after_binding q name x k)).fate (run_with_event q name x k) ∙ back_is) in
       record {
-        given = pairs_grown ∙ ap (λ (l : List Pair). l ++ pair ∷ []) tally.given ∙ append_assoc (pairs (before k)) (flat_map (pair_given r) ms) (pair ∷ [])
+        given = pairs_grown ∙ ap (λ (l : List Pair). l ++ pair ∷ []) tally.given ∙ append_assoc (pairs (before x.0 k)) (flat_map (pair_given r) ms) (pair ∷ [])
             ∙ (λ i. pairs (was i) ++ (flat_map (pair_given r) ms ++ (if sym (itself r) i then pair ∷ [] else [])))
-            ∙ ap (λ (l : List Pair). pairs (before (run_after_use ns (run_after_binding q name x k))) ++ l) ((λ i. flat_map (pair_given r) ms ++ sym (growing_given q runs (started k) pair r) i) ∙ sym (flat_map-append (pair_given r) ms more));
+            ∙ ap (λ (l : List Pair). pairs (before x.0 (run_after_use ns (run_after_binding q name x k))) ++ l) ((λ i. flat_map (pair_given r) ms ++ sym (growing_given q runs (started k) pair r) i) ∙ sym (flat_map-append (pair_given r) ms more));
         leaves = list_any-append (abandons r) ms more ∙ (λ i. (tally.leaves ∙ not_leaving k.fate open_yet) i || (growing_abandons q runs (started k) pair r ∙ none_lost (is_complete q grown)) i)
             ∙ sym (stays_or_completes (completes q name x k) refl);
       }
 
-  pub bind_tallies : All (Tally ms) (fs ++ k ∷ bs) → All (Tally (ms ++ more)) (map (run_after_use ns) (fs ++ run_after_binding q name x k ∷ bs))
+  pub bind_tallies : All (Tally x.0 ms) (fs ++ k ∷ bs) → All (Tally x.0 (ms ++ more)) (map (run_after_use ns) (fs ++ run_after_binding q name x k ∷ bs))
   bind_tallies tallies =
-      let parts = all_parts (Tally ms) fs (k ∷ bs) tallies in
+      let parts = all_parts (Tally x.0 ms) fs (k ∷ bs) tallies in
       let listed = all_parts (λ j. list_any (λ other. other.0 == j.number) (losing q runs (started k) pair) ≡ loses ns j) fs bs lists in
-      subst (All (Tally (ms ++ more))) (sym (map-append (run_after_use ns) fs (run_after_binding q name x k ∷ bs)))
-      (All-append (Tally (ms ++ more)) (map (run_after_use ns) fs) (run_after_use ns (run_after_binding q name x k) ∷ map (run_after_use ns) bs)
-      (tallies_on q ns ms runs (started k) pair fs (apart_front fs bs k top up) listed.0 parts.0)
-      (All-cons (Tally (ms ++ more)) (run_after_use ns (run_after_binding q name x k)) (map (run_after_use ns) bs) (tally_bound (All-head (Tally ms) k bs parts.1))
-      (tallies_on q ns ms runs (started k) pair bs (apart_back fs bs k top up) listed.1 (All-tail (Tally ms) k bs parts.1))))
+      subst (All (Tally x.0 (ms ++ more))) (sym (map-append (run_after_use ns) fs (run_after_binding q name x k ∷ bs)))
+      (All-append (Tally x.0 (ms ++ more)) (map (run_after_use ns) fs) (run_after_use ns (run_after_binding q name x k) ∷ map (run_after_use ns) bs)
+      (tallies_on q x.0 ns ms runs (started k) pair fs (apart_front fs bs k top up) listed.0 parts.0)
+      (All-cons (Tally x.0 (ms ++ more)) (run_after_use ns (run_after_binding q name x k)) (map (run_after_use ns) bs) (tally_bound (All-head (Tally x.0 ms) k bs parts.1))
+      (tallies_on q x.0 ns ms runs (started k) pair bs (apart_back fs bs k top up) listed.1 (All-tail (Tally x.0 ms) k bs parts.1))))
 
 -- a move that is not about a run
-tally_past : (ms : List Move) (m : Move) (k : Kept) → pair_given k.number m ≡ [] → abandons k.number m ≡ false → Tally ms k → Tally (ms ++ m ∷ []) k
-tally_past ms m k nothing no_one tally = record {
-  given = tally.given ∙ ap (λ (l : List Pair). pairs (before k) ++ l)
+tally_past : (n : ℕ) (ms : List Move) (m : Move) (k : Kept) → pair_given k.number m ≡ [] → abandons k.number m ≡ false → Tally n ms k → Tally n (ms ++ m ∷ []) k
+tally_past n ms m k nothing no_one tally = record {
+  given = tally.given ∙ ap (λ (l : List Pair). pairs (before n k) ++ l)
       (sym (append-nil (flat_map (pair_given k.number) ms)) ∙ (λ i. flat_map (pair_given k.number) ms ++ (sym nothing i ++ [])) ∙ sym (flat_map-append (pair_given k.number) ms (m ∷ [])));
   leaves = list_any-append (abandons k.number) ms (m ∷ []) ∙ (λ i. tally.leaves i || (no_one i || false)) ∙ or_false (is_leaving k.fate);
 }
@@ -124,33 +123,33 @@ tally_past ms m k nothing no_one tally = record {
     or_false false = refl
 
 -- one run leaves
-pub leave_tallies : (fs bs : List Kept) (k : Kept) (top : ℕ) (ms : List Move) → Rising 0 top (map started (fs ++ k ∷ bs)) → All (Tally ms) (fs ++ k ∷ bs)
-    → All (Tally (ms ++ Abandoned k.number ∷ [])) (fs ++ (record k { fate = Leaves }) ∷ bs)
-leave_tallies fs bs k top ms up tallies =
-    let parts = all_parts (Tally ms) fs (k ∷ bs) tallies in
+pub leave_tallies : (n : ℕ) (fs bs : List Kept) (k : Kept) (top : ℕ) (ms : List Move) → Rising 0 top (map started (fs ++ k ∷ bs)) → All (Tally n ms) (fs ++ k ∷ bs)
+    → All (Tally n (ms ++ Abandoned k.number ∷ [])) (fs ++ (record k { fate = Leaves }) ∷ bs)
+leave_tallies n fs bs k top ms up tallies =
+    let parts = all_parts (Tally n ms) fs (k ∷ bs) tallies in
     let apart = apart_front fs bs k top up in
     let behind = apart_back fs bs k top up in
-    let rest = All-tail (Tally ms) k bs parts.1 in
-    All-append (Tally (ms ++ Abandoned k.number ∷ [])) fs ((record k { fate = Leaves }) ∷ bs)
-    (λ i d within. tally_past ms (Abandoned k.number) (get_or fs i d) refl (apart i d within) (parts.0 i d within))
-    (All-cons (Tally (ms ++ Abandoned k.number ∷ [])) (record k { fate = Leaves }) bs (own (All-head (Tally ms) k bs parts.1))
-    (λ i d within. tally_past ms (Abandoned k.number) (get_or bs i d) refl (behind i d within) (rest i d within)))
+    let rest = All-tail (Tally n ms) k bs parts.1 in
+    All-append (Tally n (ms ++ Abandoned k.number ∷ [])) fs ((record k { fate = Leaves }) ∷ bs)
+    (λ i d within. tally_past n ms (Abandoned k.number) (get_or fs i d) refl (apart i d within) (parts.0 i d within))
+    (All-cons (Tally n (ms ++ Abandoned k.number ∷ [])) (record k { fate = Leaves }) bs (own (All-head (Tally n ms) k bs parts.1))
+    (λ i d within. tally_past n ms (Abandoned k.number) (get_or bs i d) refl (behind i d within) (rest i d within)))
   where
     any_true : (b : Bool) → (b || (true || false)) ≡ true
     any_true true = refl
     any_true false = refl
 
-    own : Tally ms k → Tally (ms ++ Abandoned k.number ∷ []) (record k { fate = Leaves })
+    own : Tally n ms k → Tally n (ms ++ Abandoned k.number ∷ []) (record k { fate = Leaves })
     own tally = record {
-      given = tally.given ∙ (λ i. pairs (sym (before_fate Leaves k) i) ++ flat_map (pair_given k.number) ms)
-          ∙ ap (λ (l : List Pair). pairs (before (record k { fate = Leaves })) ++ l) (sym (append-nil (flat_map (pair_given k.number) ms)) ∙ sym (flat_map-append (pair_given k.number) ms (Abandoned k.number ∷ [])));
+      given = tally.given ∙ (λ i. pairs (sym (before_fate n Leaves k) i) ++ flat_map (pair_given k.number) ms)
+          ∙ ap (λ (l : List Pair). pairs (before n (record k { fate = Leaves })) ++ l) (sym (append-nil (flat_map (pair_given k.number) ms)) ∙ sym (flat_map-append (pair_given k.number) ms (Abandoned k.number ∷ [])));
       leaves = list_any-append (abandons k.number) ms (Abandoned k.number ∷ []) ∙ (λ i. list_any (abandons k.number) ms || (itself k.number i || false)) ∙ any_true (list_any (abandons k.number) ms);
     }
 
 -- a new run starts: the runs before it
-pub start_tallies : (q : Plan) (x : Numbered) (ks : List Kept) (name n : ℕ) (ms : List Move) (runs : List Started) → open_runs ks ≡ runs → Rising 0 n (map started ks) → All (Tally ms) ks
+pub start_tallies : (q : Plan) (x : Numbered) (ks : List Kept) (name n : ℕ) (ms : List Move) (runs : List Started) → open_runs ks ≡ runs → Rising 0 n (map started ks) → All (Tally x.0 ms) ks
     → (let pair : Pair = record { name = name; number = x.0; event = x.1 } in
-    All (Tally ((ms ++ Opened ∷ []) ++ growing q (runs ++ (n + 1, []) ∷ []) (n + 1, []) pair)) (map (run_after_use (used_by_binding q name x (empty (n + 1)))) ks))
+    All (Tally x.0 ((ms ++ Opened ∷ []) ++ growing q (runs ++ (n + 1, []) ∷ []) (n + 1, []) pair)) (map (run_after_use (used_by_binding q name x (empty (n + 1)))) ks))
 start_tallies q x ks name n ms runs opens up tallies =
     let k : Kept = empty (n + 1) in
     let pair : Pair = record { name = name; number = x.0; event = x.1 } in
@@ -161,5 +160,5 @@ start_tallies q x ks name n ms runs opens up tallies =
     let gone : without_run (n + 1) (runs ++ run ∷ []) ≡ open_runs ks =
     ap (λ (l : List Started). without_run (n + 1) (l ++ run ∷ [])) (sym opens) ∙ without_middle (open_runs ks) run [] none_open tt ∙ append-nil (open_runs ks) in
     let uses : used_by_binding q name x k ≡ (if is_complete q grown then used q grown else []) = λ i. if is_complete q grown then used_grown q name x.0 x.1 k refl refl i else [] in
-    tallies_on q (used_by_binding q name x k) (ms ++ Opened ∷ []) (runs ++ run ∷ []) run pair ks (all_apart (n + 1) ks none)
-    (losing_lists q name x k (runs ++ run ∷ []) ks n run pair uses gone up) (λ i d within. tally_past ms Opened (get_or ks i d) refl refl (tallies i d within))
+    tallies_on q x.0 (used_by_binding q name x k) (ms ++ Opened ∷ []) (runs ++ run ∷ []) run pair ks (all_apart (n + 1) ks none)
+    (losing_lists q name x k (runs ++ run ∷ []) ks n run pair uses gone up) (λ i d within. tally_past x.0 ms Opened (get_or ks i d) refl refl (tallies i d within))

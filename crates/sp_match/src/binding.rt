@@ -8,7 +8,6 @@ ghost use Rattle.sp_match.specs.inside.Kept.{kept, all_kept};
 ghost use Rattle.sp_match.specs.inside.Good.{Good, NumbersBelow, RunUndoes, Undoes};
 ghost use Rattle.sp_match.specs.inside.Offer.{IsOffer, IsShared, numbered};
 ghost use Rattle.sp_match.specs.inside.Effects.{Adds, run_after_binding, binding_told, completes, used_by_binding, run_at, runs_after_binding, runs_binding_told};
-ghost use Rattle.sp_match.specs.declared.run.Turn.TheVariants.{Idle};
 
 use crate::Memory;
 use crate::completing::finish;
@@ -17,6 +16,7 @@ use crate::moves::Move;
 use crate::offer::{Offer, share};
 use crate::run::Run;
 use crate::stock::Stock;
+use crate::taking::{ahead_still, look_on};
 use sp_plan::Plan;
 
 // Whether the query consumes the events of a name.
@@ -39,7 +39,6 @@ fn grow(
     requires offer { IsOffer offer.now }
     requires shared { IsShared offer.now shared.old }
     requires good { Good offer.now.plan.now (kept run.old) }
-    requires idle { run.old.turn ≡ Idle }
     requires named { name < length offer.now.plan.now.names }
     requires below { NumbersBelow offer.now.number (kept run.old) }
     ensures run { OnOk result (kept run.new
@@ -49,11 +48,13 @@ fn grow(
     ensures complete { IfOk result (λ complete. complete
         ≡ completes offer.now.plan.now name (numbered offer.now) (kept run.old)) }
     ensures shared { IsShared offer.now shared.new }
-    ensures undoes { RunUndoes offer.now.plan.now (kept run.old) (kept run.new) }
+    ensures undoes { RunUndoes offer.now.plan.now offer.now.number (kept run.old) (kept run.new) }
 {
     let consumed = is_consumed(offer.plan, name);
     let event = share(offer, shared)?;
+    let known = ahead_still(run, name);
     run.grow(name, consumed, offer.number, event)?;
+    look_on(offer.plan, run, known);
     list.push(Move::Grown {
         run: run.number,
         number: offer.number,
@@ -78,7 +79,6 @@ pub(crate) fn bind(
     requires named { name < length offer.now.plan.now.names }
     requires below { NumbersBelow offer.now.number (run_at (all_kept runs.old) at) }
     requires within { at < length runs.old }
-    requires idle { (run_at (all_kept runs.old) at).turn ≡ Idle }
     ensures used { IfOk result (λ used. used ≡ is_among
         (used_by_binding offer.now.plan.now name (numbered offer.now)
         (run_at (all_kept runs.old) at)) offer.now.number) }
@@ -87,7 +87,8 @@ pub(crate) fn bind(
     ensures told { OnOk result (Adds list.old.items list.new.items
         (runs_binding_told offer.now.plan.now name (numbered offer.now) at (all_kept runs.old))) }
     ensures shared { IsShared offer.now shared.new }
-    ensures undoes { Undoes offer.now.plan.now (all_kept runs.old) (all_kept runs.new) }
+    ensures undoes { Undoes offer.now.plan.now offer.now.number (all_kept runs.old)
+        (all_kept runs.new) }
 {
     let is_whole = grow(offer, shared, &mut runs[at], name, list)?;
     if !is_whole {

@@ -37,7 +37,7 @@ fn handle(
         (all_kept runs.old.items) began (all_kept runs.new.items) (all_seen list.new.items)) }
     ensures quiet { OnOk result
         (all_seen list.new.items ≡ [] → all_kept runs.new.items ≡ all_kept runs.old.items) }
-    ensures undoes { Undoes offer.now.plan.now (all_kept runs.old.items)
+    ensures undoes { Undoes offer.now.plan.now offer.now.number (all_kept runs.old.items)
         (take (length runs.old.items) (all_kept runs.new.items)) }
 {
     let so_far = offer_to_all(offer, shared, runs, list)?;
@@ -71,7 +71,7 @@ pub(crate) fn handle_all<const WANTED: bool>(
         → s.open_runs ≡ map started (all_kept runs.old.items) → s.started ≡ count
         → moves.new.wanted.items ≡ definitions.still_wanted offer.now.plan.now s
         (definitions.moves offer.now.plan.now s (numbered offer.now))) }
-    ensures undoes { Undoes offer.now.plan.now (all_kept runs.old.items)
+    ensures undoes { Undoes offer.now.plan.now offer.now.number (all_kept runs.old.items)
         (take (length runs.old.items) (all_kept runs.new.items)) }
 {
     moves.clear();

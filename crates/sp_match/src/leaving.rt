@@ -1,6 +1,6 @@
 // Runs that are abandoned. They are only marked, since memory may be refused later in the handling of
 // the event.
-ghost use Rattle.std.specs.Prelude.{◌≡◌, ◌&&◌, false, [], ◌∷◌, ◌++◌, map, OnOk, OnErr};
+ghost use Rattle.std.specs.Prelude.{◌≡◌, ℕ, ◌&&◌, false, [], ◌∷◌, ◌++◌, map, OnOk, OnErr};
 ghost use Rattle.std.specs.List.{All, flat_map};
 ghost use Rattle.sp_plan.specs.declared.plan.Plan.{Plan};
 ghost use Rattle.sp_match.specs.inside.Kept.{kept, all_kept};
@@ -56,8 +56,8 @@ pub(crate) fn abandon(runs: &mut [Run], used: &Numbers, list: &mut Vec<Move>) ->
         (all_kept runs.new ≡ map (run_after_use used.now.list) (all_kept runs.old)) }
     ensures told { OnOk result (Adds list.old.items list.new.items
         (flat_map (use_told used.now.list) (all_kept runs.old))) }
-    ensures undoes { (q : Plan) → All (Good q) (all_kept runs.old)
-        → Undoes q (all_kept runs.old) (all_kept runs.new) }
+    ensures undoes { (q : Plan) (n : ℕ) → All (Good q) (all_kept runs.old)
+        → Undoes q n (all_kept runs.old) (all_kept runs.new) }
 {
     for i in 0..runs.len() {
         leave_with(&mut runs[i], used, list)?;

@@ -207,12 +207,12 @@ impl Matcher {
         ) {
             Ok(started) => {
                 let is_quiet = moves.list.is_empty();
-                settle(&self.plan, &mut self.runs, &mut self.stock, is_quiet);
+                settle(&mut self.runs, &mut self.stock, is_quiet);
                 self.count = count_after(self.count, started);
                 Ok(())
             }
             Err(memory) => {
-                undo(&mut self.runs, open);
+                undo(&mut self.runs, open, number);
                 moves.clear();
                 Err(memory)
             }

@@ -1,9 +1,10 @@
 // One partial match.
-ghost use Rattle.std.specs.Prelude.{◌≡◌, ℕ, ◌<◌, ◌-◌, not, [], IfOk, OnOk, OnErr, slice_index_or, false, map};
+ghost use Rattle.std.specs.Prelude.{◌≡◌, ℕ, ◌<◌, ◌-◌, not, [], None, Some, length, IfOk, OnOk, OnErr, slice_index_or, false, map};
 ghost use Rattle.std.specs.List.{All, AllPairs, list_any};
 ghost use Rattle.sp_base.specs.Numbers.{is_among};
 ghost use Rattle.sp_match.specs.inside.Tally.{is_leaving};
-ghost use Rattle.sp_match.specs.inside.Kept.{kept, stays, empty, grown, before, CanGrow, CanUndo};
+ghost use Rattle.sp_match.specs.inside.Kept.{kept, stays, empty, grown, before, binds, last_under, name_under, undone, CanGrow, CanUndo};
+ghost use Rattle.sp_match.specs.declared.run.Fate.TheVariants.{Stays};
 
 use crate::Memory;
 use sp_base::Numbers;
@@ -23,11 +24,8 @@ pub struct Run {
     pub(crate) events: Bound,
     // which names are bound
     pub(crate) names: [bool; 32],
-    // so many elements of the pattern, from the first on, are filled
-    pub(crate) filled: usize,
     // what it may take next, where that was looked for since it bound its last event
     pub(crate) ahead: Option<Ahead>,
-    pub(crate) turn: Turn,
     pub(crate) fate: Fate,
 }
 
@@ -40,25 +38,19 @@ pub(crate) struct Ahead {
     pub(crate) again: Option<u8>,
 }
 
-/// What a run did with the event that is being handled.
-#[derive(Clone, Copy, Drop)]
-pub(crate) enum Turn {
-    /// Nothing, or it comes later.
-    Idle,
-    /// It bound the event: to a name that it hadn't bound before, or once more; to a consumed one, or not.
-    Grew {
-        name: u8,
-        anew: bool,
-        consumed: bool,
-    },
-}
-
 /// Whether a run stays open when the event has been handled.
 #[derive(Clone, Copy, Drop)]
 pub(crate) enum Fate {
     Stays,
     Completes,
     Leaves,
+}
+
+// The name of a pair, where it is of the event of this number.
+fn name_under(pair: (u8, u32), number: u32) -> Option<u8>
+    ensures { result ≡ name_under number (Some pair) }
+{
+    if pair.1 == number { Some(pair.0) } else { None }
 }
 
 impl Run {
@@ -72,9 +64,7 @@ impl Run {
             used: Numbers::new(alloc),
             events: Bound::new(alloc),
             names: [false; 32],
-            filled: 0,
             ahead: None,
-            turn: Turn::Idle,
             fate: Fate::Stays,
         }
     }
@@ -88,9 +78,7 @@ impl Run {
         self.used.clear();
         self.events.clear();
         self.names = [false; 32];
-        self.filled = 0;
         self.ahead = None;
-        self.turn = Turn::Idle;
         self.fate = Fate::Stays;
         self
     }
@@ -136,7 +124,7 @@ impl Run {
         false
     }
 
-    // Binds an event to a name. After want of memory it is as before.
+    // Binds an event to a name. What it may take next isn't looked for. After want of memory it is as before.
     pub(crate) fn grow(
         &mut self,
         name: u8,
@@ -156,40 +144,56 @@ impl Run {
         if consumed {
             self.used.put(number);
         }
-        let at = name as usize;
-        let anew = !self.names[at];
-        self.names[at] = true;
-        self.turn = Turn::Grew {
-            name,
-            anew,
-            consumed,
-        };
+        self.names[name as usize] = true;
+        self.ahead = None;
         Ok(())
     }
 
-    // Takes the pair away that the event at hand brought, if it brought one: the run is as before the
-    // event, and stays.
-    pub(crate) fn undo(&mut self)
-        requires { CanUndo (kept self.old) }
-        ensures { kept self.new ≡ before (kept self.old) }
+    // The name of its last pair, where that is of the event of this number.
+    fn last_under(&self, number: u32) -> Option<u8>
+        ensures { result ≡ last_under number (kept self.now) }
     {
-        self.fate = Fate::Stays;
-        let Turn::Grew {
-            name,
-            anew,
-            consumed,
-        } = self.turn
-        else {
-            return;
-        };
-        self.turn = Turn::Idle;
+        match self.bound.last() {
+            Some(pair) => name_under(*pair, number),
+            None => None,
+        }
+    }
+
+    // Whether some event is bound to the name.
+    fn binds(&self, name: u8) -> bool
+        ensures { result ≡ binds name self.now.bound.items }
+    {
+        self.bound.as_slice().iter().any(|pair| pair.0 == name)
+    }
+
+    // Takes the last pair away, which the event of this number brought under the name.
+    fn take_last(&mut self, name: u8, number: u32)
+        requires named { name < 32 }
+        requires some { 0 < length self.old.events }
+        requires stays { self.old.fate ≡ Stays }
+        requires unknown { self.old.ahead ≡ None }
+        ensures { kept self.new ≡ undone number (Some name) (kept self.old) }
+    {
         self.bound.pop();
         self.events.unbind();
-        if consumed {
+        if self.used.has(number) {
             self.used.pop();
         }
-        if anew {
+        if !self.binds(name) {
             self.names[name as usize] = false;
+        }
+    }
+
+    // Takes the pair away that the event of this number brought, if it brought one: the run is as before the
+    // event, and stays. What it may take next has to be looked for.
+    pub(crate) fn undo(&mut self, number: u32)
+        requires { CanUndo (kept self.old) }
+        ensures { kept self.new ≡ before number (kept self.old) }
+    {
+        self.fate = Fate::Stays;
+        self.ahead = None;
+        if let Some(name) = self.last_under(number) {
+            self.take_last(name, number);
         }
     }
 
@@ -203,9 +207,7 @@ impl Run {
             used: self.used.copy(alloc)?,
             events: self.events.copy(alloc)?,
             names: self.names,
-            filled: self.filled,
             ahead: self.ahead,
-            turn: self.turn,
             fate: self.fate,
         })
     }

@@ -89,7 +89,7 @@ pub(crate) fn open(
         ∷ runs_binding_told offer.now.plan.now name (numbered offer.now) (length runs.old.items)
         (all_kept runs.old.items ++ empty (count + 1) ∷ []))) }
     ensures good { OnOk result (All (Good offer.now.plan.now) (all_kept runs.new.items)) }
-    ensures undoes { Undoes offer.now.plan.now (all_kept runs.old.items)
+    ensures undoes { Undoes offer.now.plan.now offer.now.number (all_kept runs.old.items)
         (take (length runs.old.items) (all_kept runs.new.items)) }
 {
     let at = runs.len();

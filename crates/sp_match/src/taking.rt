@@ -8,8 +8,8 @@ ghost use Rattle.sp_plan.specs.Runs;
 ghost use Rattle.sp_plan.specs.Runs.{is_bound, is_plus, names_of, name_holds, unbound};
 ghost use Rattle.sp_match.specs.inside.Kept.{kept, pairs};
 ghost use Rattle.sp_match.specs.inside.Good.{Good, IsNamed};
-ghost use Rattle.sp_match.specs.inside.Taking.{IsAhead, IsMask, next_element, held_of, held_once_more, last_again};
-ghost use Rattle.sp_match.specs.declared.run.Turn.TheVariants.{Idle};
+ghost use Rattle.sp_match.specs.inside.Taking.{IsAhead, IsMask, ahead_still, is_again, next_element, held_of, held_once_more, last_again};
+ghost use Rattle.sp_match.specs.inside.Effects.{looking};
 
 use crate::run::{Ahead, Run};
 use sp_plan::{Element, Event, Plan, holds};
@@ -85,19 +85,15 @@ fn is_filled(run: &Run, element: Element) -> bool
     true
 }
 
-/// How many elements in front the run has filled: the next one is the first that it hasn't filled. Those
-/// that it had filled before aren't looked at.
-pub(crate) fn filled_front(plan: &Plan, run: &Run) -> usize
+// How many elements in front the run has filled: the next one is the first that it hasn't filled.
+fn filled_front(plan: &Plan, run: &Run) -> usize
     requires compiled { IsCompiled plan.now }
     requires good { Good plan.now (kept run.now) }
-    ensures within { result ≤ length plan.now.elements }
-    ensures filled { list_all (Runs.is_filled (pairs (kept run.now)))
-        (take result plan.now.elements) ≡ true }
-    ensures next { next_element plan.now (pairs (kept run.now))
+    ensures { next_element plan.now (pairs (kept run.now))
         ≡ slice_get plan.now.elements result }
 {
     let elements = plan.elements.as_slice();
-    for i in run.filled..elements.len() {
+    for i in 0..elements.len() {
         if !is_filled(run, elements[i]) {
             return i;
         }
@@ -129,15 +125,6 @@ fn first_unfilled(plan: &Plan, run: &Run) -> Option<Element>
     ensures named { IfSome result IsNamed }
 {
     element_at(plan, filled_front(plan, run))
-}
-
-/// Whether a run has filled every element.
-pub(crate) fn is_complete(plan: &Plan, run: &Run) -> bool
-    requires compiled { IsCompiled plan.now }
-    requires good { Good plan.now (kept run.now) }
-    ensures { result ≡ Runs.is_complete plan.now (pairs (kept run.now)) }
-{
-    first_unfilled(plan, run).is_none()
 }
 
 // Whether a run has bound no event to the name, and takes the event under it.
@@ -214,8 +201,8 @@ fn last_again(plan: &Plan, run: &Run) -> Option<u8>
     }
 }
 
-/// What a run may take next, by what it has bound.
-pub(crate) fn look_ahead(plan: &Plan, run: &Run) -> Ahead
+// What a run may take next, by what it has bound.
+fn look_ahead(plan: &Plan, run: &Run) -> Ahead
     requires compiled { IsCompiled plan.now }
     requires good { Good plan.now (kept run.now) }
     ensures ahead { IsAhead plan.now (pairs (kept run.now)) result }
@@ -227,25 +214,10 @@ pub(crate) fn look_ahead(plan: &Plan, run: &Run) -> Ahead
     }
 }
 
-/// The same, where so many elements in front are known to be filled, and the next one isn't.
-pub(crate) fn look_ahead_at(plan: &Plan, run: &Run, filled: usize) -> Ahead
-    requires compiled { IsCompiled plan.now }
-    requires good { Good plan.now (kept run.now) }
-    requires next { next_element plan.now (pairs (kept run.now))
-        ≡ slice_get plan.now.elements filled }
-    ensures ahead { IsAhead plan.now (pairs (kept run.now)) result }
-{
-    Ahead {
-        element: element_at(plan, filled),
-        again: last_again(plan, run),
-    }
-}
-
 // What a run may take next, which is looked for only where the run doesn't keep it.
 fn ahead_of(plan: &Plan, run: &Run) -> Ahead
     requires compiled { IsCompiled plan.now }
     requires good { Good plan.now (kept run.now) }
-    requires idle { run.now.turn ≡ Idle }
     ensures ahead { IsAhead plan.now (pairs (kept run.now)) result }
     ensures element { IfSome result.element IsNamed }
 {
@@ -253,6 +225,62 @@ fn ahead_of(plan: &Plan, run: &Run) -> Ahead
         Some(ahead) => ahead,
         None => look_ahead(plan, run),
     }
+}
+
+/// Whether a run has filled every element.
+pub(crate) fn is_complete(plan: &Plan, run: &Run) -> bool
+    requires compiled { IsCompiled plan.now }
+    requires good { Good plan.now (kept run.now) }
+    ensures { result ≡ Runs.is_complete plan.now (pairs (kept run.now)) }
+{
+    ahead_of(plan, run).element.is_none()
+}
+
+// Whether this is the name.
+fn is_again(again: Option<u8>, name: u8) -> bool
+    ensures { result ≡ is_again name again }
+{
+    match again {
+        Some(again) => again == name,
+        None => false,
+    }
+}
+
+/// What a run may take next when it has bound the name, where that is known: the same as before, since it has
+/// only bound its last name once more. None where it has to be looked for anew.
+pub(crate) fn ahead_still(run: &Run, name: u8) -> Option<Ahead>
+    ensures { result ≡ ahead_still name (kept run.now) }
+{
+    let ahead = run.ahead?;
+    if is_again(ahead.again, name) {
+        Some(ahead)
+    } else {
+        None
+    }
+}
+
+// What a run may take next, which is looked for only where it isn't known.
+fn known_ahead(plan: &Plan, run: &Run, known: Option<Ahead>) -> Ahead
+    requires compiled { IsCompiled plan.now }
+    requires good { Good plan.now (kept run.now) }
+    requires known { IfSome known (λ ahead. IsAhead plan.now (pairs (kept run.now)) ahead) }
+    ensures { IsAhead plan.now (pairs (kept run.now)) result }
+{
+    match known {
+        Some(ahead) => ahead,
+        None => look_ahead(plan, run),
+    }
+}
+
+/// What the run may take next is kept in it from now on.
+pub(crate) fn look_on(plan: &Plan, run: &mut Run, known: Option<Ahead>)
+    requires compiled { IsCompiled plan.now }
+    requires good { Good plan.now (kept run.old) }
+    requires known { IfSome known (λ ahead. IsAhead plan.now (pairs (kept run.old)) ahead) }
+    ensures { kept run.new ≡ looking plan.now (kept run.old) }
+{
+    let ahead = known_ahead(plan, run, known);
+    run.ahead = Some(ahead);
 }
 
 // The name, which may be bound more than once, where the run takes the event under it.
@@ -306,7 +334,6 @@ pub(crate) fn takes(plan: &Plan, run: &Run, event: &Event, may: &[bool; 32]) -> 
     requires good { Good plan.now (kept run.now) }
     requires small { IsSmall event.now }
     requires may { IsMask plan.now event.now may.now }
-    requires idle { run.now.turn ≡ Idle }
     ensures { result ≡ Runs.takes plan.now (pairs (kept run.now)) event.now }
 {
     let ahead = ahead_of(plan, run);

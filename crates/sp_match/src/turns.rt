@@ -8,7 +8,6 @@ ghost use Rattle.sp_match.specs.inside.Offer.{IsOffer, IsShared, lets_leave, num
 ghost use Rattle.sp_match.specs.inside.Effects.{Adds, run_at, runs_after_offer, offer_told, reception_after_offer};
 ghost use Rattle.sp_match.specs.inside.Turn.{IsTurn, taken_at};
 ghost use Rattle.sp_match.specs.inside.Going.{AllHadTurns, IsSet};
-ghost use Rattle.sp_match.specs.declared.run.Turn.TheVariants.{Idle};
 
 use crate::Memory;
 use crate::binding::bind;
@@ -44,7 +43,6 @@ fn deal(
     requires good { All (Good offer.now.plan.now) (all_kept runs.old) }
     requires below { NumbersBelow offer.now.number (run_at (all_kept runs.old) at) }
     requires within { at < length runs.old }
-    requires idle { (run_at (all_kept runs.old) at).turn ≡ Idle }
     ensures received { IfOk result (λ r. r ≡ reception_after_offer offer.now.plan.now
         (numbered offer.now) (run_at (all_kept runs.old) at) so_far
         (taken_at offer.now.plan.now at (numbered offer.now) (all_kept runs.old))) }
@@ -55,7 +53,8 @@ fn deal(
         (lets_leave offer.now) at (numbered offer.now) (all_kept runs.old)
         (taken_at offer.now.plan.now at (numbered offer.now) (all_kept runs.old)))) }
     ensures shared { IsShared offer.now shared.new }
-    ensures undoes { Undoes offer.now.plan.now (all_kept runs.old) (all_kept runs.new) }
+    ensures undoes { Undoes offer.now.plan.now offer.now.number (all_kept runs.old)
+        (all_kept runs.new) }
 {
     match takes(offer.plan, &runs[at], offer.event, offer.may) {
         Some(name) => {
@@ -88,12 +87,12 @@ fn turn(
     requires good { All (Good offer.now.plan.now) (all_kept runs.old) }
     requires below { NumbersBelow offer.now.number (run_at (all_kept runs.old) at) }
     requires within { at < length runs.old }
-    requires idle { (run_at (all_kept runs.old) at).turn ≡ Idle }
     ensures turned { IfOk result (λ r. IsTurn offer.now.plan.now (lets_leave offer.now) at
         (numbered offer.now) (all_kept runs.old) (all_kept runs.new) (all_seen list.old.items)
         (all_seen list.new.items) so_far r) }
     ensures shared { IsShared offer.now shared.new }
-    ensures undoes { Undoes offer.now.plan.now (all_kept runs.old) (all_kept runs.new) }
+    ensures undoes { Undoes offer.now.plan.now offer.now.number (all_kept runs.old)
+        (all_kept runs.new) }
 {
     if matches!(so_far, Reception::Used) || !runs[at].stays() {
         return Ok(so_far);
@@ -117,7 +116,8 @@ pub(crate) fn offer_to_all(
     ensures quiet { OnOk result
         (all_seen list.new.items ≡ [] → all_kept runs.new ≡ all_kept runs.old) }
     ensures shared { IsShared offer.now shared.new }
-    ensures undoes { Undoes offer.now.plan.now (all_kept runs.old) (all_kept runs.new) }
+    ensures undoes { Undoes offer.now.plan.now offer.now.number (all_kept runs.old)
+        (all_kept runs.new) }
 {
     let mut so_far = Reception::Passed;
     for at in 0..runs.len() {

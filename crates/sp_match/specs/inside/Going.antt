@@ -7,7 +7,6 @@ use Rattle.sp_plan.specs.Windows.{Numbered}
 use Rattle.sp_plan.specs.Runs.{Started, State, may_start, takes}
 use Rattle.sp_plan.specs.Moves.{Acting, Told, act_run, handling_of}
 use Rattle.sp_match.specs.declared.turns.Reception.{Reception}
-use Rattle.sp_match.specs.declared.run.Turn.TheVariants.{Idle}
 use Rattle.sp_match.specs.declared.run.Fate.TheVariants.{Stays}
 use Rattle.sp_match.specs.public.Laws.{Ordered}
 use Rattle.sp_match.specs.inside.Kept.{Kept, started}
@@ -20,9 +19,9 @@ use Rattle.sp_match.specs.inside.Tally.{Tally}
 abbrev pub standing : ℕ → List Kept → State
 standing count ks = record { open_runs = map started ks; matched = []; started = count }
 
--- No event is being handled.
+-- The run stays open.
 abbrev pub IsIdle : Kept → Type 0
-IsIdle k = (k.turn ≡ Idle) × (k.fate ≡ Stays)
+IsIdle k = k.fate ≡ Stays
 
 -- The runs are as they are between two events, of which the next one has the number n.
 pub record IsReady (q : Plan) (n count : ℕ) (ks : List Kept) : Type 0 where
@@ -47,7 +46,7 @@ none_takes q x runs = list_all (λ run. is_none (takes q run.1 x.1)) runs
 pub record Going (q : Plan) (x : Numbered) (s : State) (old : List Kept) (i : ℕ) (ks : List Kept) (ts : List Told) (r : Reception) : Type 0 where
   pub shows : Shows q s (acted_by q x s (take i (map started old))) ks ts
   pub front : (fs : List Kept) × (length fs ≡ i) × (ks ≡ fs ++ map (run_after_use (acted_by q x s (take i (map started old))).taken) (drop i old))
-  pub tally : All (Tally (acted_by q x s (take i (map started old))).moves) ks
+  pub tally : All (Tally x.0 (acted_by q x s (take i (map started old))).moves) ks
   pub used : is_used r ≡ is_among (acted_by q x s (take i (map started old))).taken x.0
   pub taken : is_taken r ≡ not (none_takes q x (take i (map started old)))
   pub unused : is_taken r ≡ false → (acted_by q x s (take i (map started old))).taken ≡ []

@@ -1,12 +1,11 @@
 -- What every run of a matcher keeps.
-use Rattle.std.specs.Prelude.{◌≡◌, ◌⊎◌, ℕ, ◌+◌, ◌<◌, ◌≤◌, false, true, List, IfSome, length, map, take, slice_index_or}
-use Rattle.std.specs.List.{All, AllPairs, list_all}
+use Rattle.std.specs.Prelude.{◌≡◌, ◌⊎◌, ℕ, ◌+◌, ◌<◌, ◌≤◌, false, List, IfSome, length, map, slice_index_or}
+use Rattle.std.specs.List.{All, AllPairs}
 use Rattle.sp_plan.specs.declared.plan.Plan.{Plan}
 use Rattle.sp_plan.specs.declared.plan.Element.{Element}
 use Rattle.sp_plan.specs.declared.plan.Element.TheVariants.{One, Plus, Set}
 use Rattle.sp_plan.specs.Bounds.{AllSmall}
-use Rattle.sp_plan.specs.Runs.{is_bound, is_filled, used}
-use Rattle.sp_match.specs.declared.run.Turn.TheVariants.{Idle}
+use Rattle.sp_plan.specs.Runs.{is_bound, used}
 use Rattle.sp_match.specs.inside.Kept.{Kept, CanUndo, before, pairs}
 use Rattle.sp_match.specs.inside.Taking.{IsAhead}
 
@@ -16,16 +15,14 @@ IsNamed (One name) = name < 32
 IsNamed (Plus name) = name < 32
 IsNamed (Set first count) = (first + count ≤ 32) ⊎ (count ≡ 0)
 
--- The parts of a run fit together: the events and the flags are those of its pairs, the elements in front are filled, what it
--- may take next is so where it has bound nothing since, the numbers rise, and it would use those of consumed names.
+-- The parts of a run fit together: the events and the flags are those of its pairs, what it may take next is so where it is known,
+-- the numbers rise, and it would use those of consumed names.
 pub record Good (q : Plan) (k : Kept) : Type 0 where
   pub same_names : map (λ p. p.0) k.bound ≡ map (λ p. p.0) k.events
   pub named : All (λ p. p.0 < length q.names) k.bound
   pub flags : length k.names ≡ 32
   pub marks : (name : ℕ) → name < 32 → slice_index_or k.names name false ≡ is_bound (pairs k) name
-  pub within : k.filled ≤ length q.elements
-  pub filled : list_all (is_filled (pairs k)) (take k.filled q.elements) ≡ true
-  pub ahead_is : k.turn ≡ Idle → IfSome k.ahead (λ ahead. IsAhead q (pairs k) ahead)
+  pub ahead_is : IfSome k.ahead (λ ahead. IsAhead q (pairs k) ahead)
   pub used_is : k.used ≡ used q (pairs k)
   pub rising : AllPairs (λ m n. m < n) (map (λ p. p.1) k.bound)
   pub small : AllSmall k.events
@@ -35,12 +32,12 @@ pub record Good (q : Plan) (k : Kept) : Type 0 where
 abbrev pub NumbersBelow : ℕ → Kept → Type 0
 NumbersBelow n k = All (λ m. m < n) (map (λ p. p.1) k.bound)
 
--- The run keeps what every run keeps, and is as before where the event at hand is undone.
-pub record RunUndoes (q : Plan) (old new : Kept) : Type 0 where
+-- The run keeps what every run keeps, and is as before where the event of the number n is undone.
+pub record RunUndoes (q : Plan) (n : ℕ) (old new : Kept) : Type 0 where
   pub good : Good q new
-  pub before : before new ≡ before old
+  pub before : before n new ≡ before n old
 
 -- The same of all runs.
-pub record Undoes (q : Plan) (old new : List Kept) : Type 0 where
+pub record Undoes (q : Plan) (n : ℕ) (old new : List Kept) : Type 0 where
   pub good : All (Good q) new
-  pub before : map before new ≡ map before old
+  pub before : map (before n) new ≡ map (before n) old

@@ -20,6 +20,6 @@ count_after count began = if began then count + 1 else count
 pub record IsHandled (q : Plan) (x : Numbered) (count : ℕ) (old : List Kept) (began : Bool) (new : List Kept) (ts : List Told) : Type 0 where
   pub shows : (s : State) → s.open_runs ≡ map started old → s.started ≡ count → Shows q s (act q s x) new ts
   pub started_is : (s : State) → s.open_runs ≡ map started old → s.started ≡ count → (act q s x).now.started ≡ count_after count began
-  pub tally : (s : State) → s.open_runs ≡ map started old → s.started ≡ count → All (Tally (act q s x).moves) (take (length old) new)
+  pub tally : (s : State) → s.open_runs ≡ map started old → s.started ≡ count → All (Tally x.0 (act q s x).moves) (take (length old) new)
   pub good : All (Good q) new
   pub ordered : Ordered (standing (count_after count began) new)

@@ -1,12 +1,11 @@
--- A run in plain values, with what the handling of the event at hand has done to it.
-use Rattle.std.specs.Prelude.{◌≡◌, ℕ, ◌-◌, ◌<◌, Bool, false, true, not, List, [], ◌∷◌, ◌++◌, length, map, take, replicate, Option, None, slice_set, slice_index_or, if◌then◌else◌}
-use Rattle.std.specs.List.{All, zip}
+-- A run in plain values, and what the handling of an event does to it.
+use Rattle.std.specs.Prelude.{◌≡◌, ℕ, ◌-◌, ◌<◌, ◌==◌, Bool, false, true, List, [], ◌∷◌, ◌++◌, length, map, take, replicate, Option, None, Some, slice_set, if◌then◌else◌}
+use Rattle.std.specs.List.{All, last_or, list_any, zip}
+use Rattle.sp_base.specs.Numbers.{is_among}
 use Rattle.sp_plan.specs.declared.event.Event.{Event}
 use Rattle.sp_plan.specs.Runs.{Pair, Started}
 use Rattle.sp_match.specs.declared.run.Run.{Run}
 use Rattle.sp_match.specs.declared.run.Ahead.{Ahead}
-use Rattle.sp_match.specs.declared.run.Turn.{Turn}
-use Rattle.sp_match.specs.declared.run.Turn.TheVariants.{Idle, Grew}
 use Rattle.sp_match.specs.declared.run.Fate.{Fate}
 use Rattle.sp_match.specs.declared.run.Fate.TheVariants.{Stays, Completes, Leaves}
 
@@ -17,14 +16,12 @@ pub record Kept : Type 0 where
   pub used : List ℕ
   pub events : List (ℕ × Event)
   pub names : List Bool
-  pub filled : ℕ
   pub ahead : Option Ahead
-  pub turn : Turn
   pub fate : Fate
 
 -- the plain values of a run
 abbrev pub kept : Run → Kept
-kept r = record { number = r.number; bound = r.bound.items; used = r.used.list; events = r.events; names = r.names; filled = r.filled; ahead = r.ahead; turn = r.turn; fate = r.fate }
+kept r = record { number = r.number; bound = r.bound.items; used = r.used.list; events = r.events; names = r.names; ahead = r.ahead; fate = r.fate }
 
 -- those of all runs
 abbrev pub all_kept : List Run → List Kept
@@ -50,37 +47,50 @@ stays Leaves = false
 
 -- a run that has bound no event
 abbrev pub empty : ℕ → Kept
-empty number = record { number = number; bound = []; used = []; events = []; names = replicate 32 false; filled = 0; ahead = None; turn = Idle; fate = Stays }
+empty number = record { number = number; bound = []; used = []; events = []; names = replicate 32 false; ahead = None; fate = Stays }
 
--- a run with one pair more
+-- a run with one pair more, of which it isn't yet known what it may take next
 abbrev pub grown : ℕ → Bool → ℕ → Event → Kept → Kept
 grown name consumed number event k = record k {
   bound = k.bound ++ (name, number) ∷ [];
   used = if consumed then k.used ++ number ∷ [] else k.used;
   events = k.events ++ (name, event) ∷ [];
   names = slice_set k.names name true;
-  turn = Grew name (not (slice_index_or k.names name false)) consumed;
+  ahead = None;
 }
 
 -- a list without its last element
 abbrev pub but_last : {X : Type 0} → List X → List X
 but_last xs = take (length xs - 1) xs
 
--- a run without the pair that it got by this turn, and open
-abbrev pub undone : Turn → Kept → Kept
-undone Idle k = record k { turn = Idle; fate = Stays }
-undone (Grew name anew consumed) k = record k {
+-- whether one of these pairs is of the name
+abbrev pub binds : ℕ → List (ℕ × ℕ) → Bool
+binds name bound = list_any (λ pair. pair.0 == name) bound
+
+-- the name of a pair that is of the event of this number
+abbrev pub name_under : ℕ → Option (ℕ × ℕ) → Option ℕ
+name_under number None = None
+name_under number (Some pair) = if pair.1 == number then Some pair.0 else None
+
+-- the name of a run's last pair, where that is of the event of this number
+abbrev pub last_under : ℕ → Kept → Option ℕ
+last_under number k = name_under number (last_or None k.bound)
+
+-- a run without its last pair, which the event of this number brought under this name
+abbrev pub undone : ℕ → Option ℕ → Kept → Kept
+undone number None k = record k { ahead = None; fate = Stays }
+undone number (Some name) k = record k {
   bound = but_last k.bound;
-  used = if consumed then but_last k.used else k.used;
+  used = if is_among k.used number then but_last k.used else k.used;
   events = but_last k.events;
-  names = if anew then slice_set k.names name false else k.names;
-  turn = Idle;
+  names = if binds name (but_last k.bound) then k.names else slice_set k.names name false;
+  ahead = None;
   fate = Stays;
 }
 
--- a run as it was before the event at hand
-abbrev pub before : Kept → Kept
-before k = undone k.turn k
+-- a run as it was before the event of this number, but for what it may take next, which has to be looked for
+abbrev pub before : ℕ → Kept → Kept
+before number k = undone number (last_under number k) k
 
 -- A run can bind an event of the number to the name.
 pub record CanGrow (name number : ℕ) (k : Kept) : Type 0 where
@@ -88,11 +98,6 @@ pub record CanGrow (name number : ℕ) (k : Kept) : Type 0 where
   pub flags : length k.names ≡ 32
   pub below : All (λ n. n < number) k.used
 
--- There is a pair to take away after a turn that brought one.
-abbrev pub HasPair : Turn → List (ℕ × Event) → Type 0
-HasPair Idle events = Unit {0}
-HasPair (Grew name anew consumed) events = (name < 32) × (0 < length events)
-
--- What a run's turn brought it can be taken away.
+-- A run's last pair can be taken away.
 abbrev pub CanUndo : Kept → Type 0
-CanUndo k = HasPair k.turn k.events
+CanUndo k = All (λ pair. pair.0 < 32) k.bound × (length k.bound ≡ length k.events)

@@ -1,11 +1,12 @@
 -- The name under which a run takes an event, step by step.
-use Rattle.std.specs.Prelude.{◌≡◌, ℕ, Bool, true, false, not, List, Option, Some, None, find, slice_index_or, if◌then◌else◌}
+use Rattle.std.specs.Prelude.{◌≡◌, ℕ, ◌==◌, Bool, true, false, not, List, Option, Some, None, find, slice_index_or, if◌then◌else◌}
 use Rattle.std.specs.List.{last_or, list_any}
 use Rattle.sp_plan.specs.declared.event.Event.{Event}
 use Rattle.sp_plan.specs.declared.plan.Element.{Element}
 use Rattle.sp_plan.specs.declared.plan.Plan.{Plan}
 use Rattle.sp_plan.specs.Runs.{Pair, is_filled, is_plus, name_holds, unbound}
 use Rattle.sp_match.specs.declared.run.Ahead.{Ahead}
+use Rattle.sp_match.specs.inside.Kept.{Kept}
 
 -- the first element that a run of these pairs hasn't filled
 abbrev pub next_element : Plan → List Pair → Option Element
@@ -31,6 +32,20 @@ last_again q r = again_name q.elements (last_or None r)
 -- what a run of these pairs may take next is so: the first element that it hasn't filled, and its last name once more
 abbrev pub IsAhead : Plan → List Pair → Ahead → Type 0
 IsAhead q r ahead = (ahead.element ≡ next_element q r) × (ahead.again ≡ last_again q r)
+
+-- whether this is the name
+abbrev pub is_again : ℕ → Option ℕ → Bool
+is_again name None = false
+is_again name (Some again) = again == name
+
+-- what a run may take next where that is known and it may bind the name once more
+abbrev pub ahead_if : ℕ → Option Ahead → Option Ahead
+ahead_if name None = None
+ahead_if name (Some ahead) = if is_again name ahead.again then Some ahead else None
+
+-- so of a run
+abbrev pub ahead_still : ℕ → Kept → Option Ahead
+ahead_still name k = ahead_if name k.ahead
 
 -- the name, where the run takes the event under it
 abbrev pub held_once_more : Plan → List Pair → Event → Option ℕ → Option ℕ

@@ -24,13 +24,13 @@ use Rattle.sp_match.proofs.handling.handle.Goals as goal
 record Turned (q : Plan) (x : Numbered) (count : ℕ) (old new now : List Run) (ts : List Told) (r : Reception) (name : Option ℕ) : Type 0 where
   now_is : now ≡ new
   ready : IsReady q x.0 count (map kept old)
-  undoes : Undoes q (map kept old) (map kept new)
+  undoes : Undoes q x.0 (map kept old) (map kept new)
   going : (s : State) → s.open_runs ≡ map started (map kept old) → Going q x s (map kept old) (length (map kept old)) (map kept new) ts r
   name_is : (s : State) → s.open_runs ≡ map started (map kept old) → name ≡ starting q x s
   long : length now ≡ length old
 
 turned : (q : Plan) (x : Numbered) (count size : ℕ) (old lent new tail seen_now : List Run) (ts : List Told) (r : Reception) (name : Option ℕ) → IsReady q x.0 count (map kept old) → lent ≡ old → length new ≡ size → length lent ≡ size
-    → seen_now ≡ take size (new ++ tail) → Undoes q (map kept lent) (map kept new)
+    → seen_now ≡ take size (new ++ tail) → Undoes q x.0 (map kept lent) (map kept new)
     → ((s : State) → s.open_runs ≡ map started (map kept lent) → Going q x s (map kept lent) (length (map kept lent)) (map kept new) ts r)
     → ((s : State) (before : List Kept) (told : List Told) → s.open_runs ≡ map started before → length before ≡ length seen_now → Going q x s before (length before) (map kept seen_now) told r → name ≡ starting q x s)
     → Turned q x count old new (take size (new ++ tail)) ts r name
@@ -43,7 +43,7 @@ turned q x count size old lent new tail seen_now ts r name ready same long lent_
     record {
       now_is = whole;
       ready = ready;
-      undoes = subst (λ (l : List Run). Undoes q (map kept l) (map kept new)) same undoes;
+      undoes = subst (λ (l : List Run). Undoes q x.0 (map kept l) (map kept new)) same undoes;
       going = goes;
       name_is = λ s is. names s (map kept old) ts is sizes (subst (λ (l : List Run). Going q x s (map kept old) (length (map kept old)) (map kept l) ts r) all_seen (goes s is));
       long = ap length whole ∙ long ∙ sym lent_long ∙ ap length same;
@@ -56,10 +56,10 @@ no_run q x count old new now ts r name t none =
     (none_starts q x count (map kept old) (map kept new) ts r t.ready t.undoes t.going (λ s is. sym none ∙ t.name_is s is))
 
 undone_more : (q : Plan) (x : Numbered) (count : ℕ) (old new now : List Run) (ts : List Told) (r : Reception) (name : Option ℕ) (more : List Kept) → Turned q x count old new now ts r name
-    → Undoes q (map kept now) (take (length now) more) → Undoes q (map kept old) (take (length old) more)
+    → Undoes q x.0 (map kept now) (take (length now) more) → Undoes q x.0 (map kept old) (take (length old) more)
 undone_more q x count old new now ts r name more t u =
-    subst (λ (n : ℕ). Undoes q (map kept old) (take n more)) t.long
-    (undoes_on q (map kept old) (map kept new) (take (length now) more) t.undoes (subst (λ (l : List Run). Undoes q (map kept l) (take (length now) more)) t.now_is u))
+    subst (λ (n : ℕ). Undoes q x.0 (map kept old) (take n more)) t.long
+    (undoes_on q x.0 (map kept old) (map kept new) (take (length now) more) t.undoes (subst (λ (l : List Run). Undoes q x.0 (map kept l) (take (length now) more)) t.now_is u))
 
 a_run : (q : Plan) (x : Numbered) (count : ℕ) (old new now : List Run) (ts : List Told) (r : Reception) (name : ℕ) (o : Option ℕ) (more : List Kept) (told : List Told) → Turned q x count old new now ts r o → o ≡ Some name
     → more ≡ runs_after_binding q name x (length now) (map kept now ++ empty (count + 1) ∷ []) → told ≡ ts ++ OpenedTold (count + 1) ∷ runs_binding_told q name x (length now) (map kept now ++ empty (count + 1) ∷ [])

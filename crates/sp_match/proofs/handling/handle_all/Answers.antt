@@ -22,8 +22,8 @@ returns-clause-wanted g c = λ asked s is count_is.
     let long : length old ≡ length rs = length-map rs kept in
     let size : length c.deref-2.result.now ≡ length rs = ap length lefts_is ∙ length-map old (λ (k : Kept). left q (pairs k)) ∙ long in
     c.in_ok-want_after.ensures ∙ (λ i. wanted_all q (lefts_is i) (take (size i) (map kept (c.deref-3.ensures.value i))))
-    ∙ wanted_is q s (act q s x).moves old (take (length rs) new) c.requires.ready.idle c.in_ok-began.ensures.undoes is
-    (subst (λ (n : ℕ). All (Tally (act q s x).moves) (take n new)) long (c.in_ok-began.ensures.handled.tally s is count_is))
+    ∙ wanted_is q c.args.offer.now.number s (act q s x).moves old (take (length rs) new) c.requires.ready.below c.in_ok-began.ensures.undoes is
+    (subst (λ (n : ℕ). All (Tally c.args.offer.now.number (act q s x).moves) (take n new)) long (c.in_ok-began.ensures.handled.tally s is count_is))
 
 pub returns-in_err-want_before-clause-undoes : goal.returns-in_err-want_before-clause-undoes
 returns-in_err-want_before-clause-undoes g c = grind (arith, common_steps)

@@ -18,20 +18,20 @@ leave_with-requires c =
     let k = kept (get_or rs i c.index-runs-i.result) in
     let within : i < length rs = omega (arith, c.loop-i.auto.runs, c.loop-i-test.true) in
     let at : k ≡ get_or (map kept rs) i k = sym (get_or-map kept rs i c.index-runs-i.result k within) in
-    let good = (after_use_undoes q c.args.used.now.list i (map kept c.args.runs.now) c.requires.1).good in
+    let good = (after_use_undoes q 0 c.args.used.now.list i (map kept c.args.runs.now) c.requires.1).good in
     (q, subst (Good q) (sym at) (All-get_or (Good q) (map kept rs) i k (omega (arith, within, length-map rs kept)) (subst (All (Good q)) (sym c.loop-i.invariant.runs) good)))
 
 pub returns-in_err-leave_with-clause-undoes : goal.returns-in_err-leave_with-clause-undoes
-returns-in_err-leave_with-clause-undoes c = λ q all_good.
+returns-in_err-leave_with-clause-undoes c = λ q n all_good.
     let rs = c.loop-i.runs in
     let i = c.loop-i.i in
     let k = kept (get_or rs i c.index-runs-i.result) in
     let within : i < length rs = omega (arith, c.loop-i.auto.runs, c.loop-i-test.true) in
     let at : k ≡ get_or (map kept rs) i k = sym (get_or-map kept rs i c.index-runs-i.result k within) in
-    let undo : Undoes q (map kept c.args.runs.now) (map kept rs) = subst (Undoes q (map kept c.args.runs.now)) (sym c.loop-i.invariant.runs) (after_use_undoes q c.args.used.now.list i (map kept c.args.runs.now) all_good) in
+    let undo : Undoes q n (map kept c.args.runs.now) (map kept rs) = subst (Undoes q n (map kept c.args.runs.now)) (sym c.loop-i.invariant.runs) (after_use_undoes q n c.args.used.now.list i (map kept c.args.runs.now) all_good) in
     let good : Good q k = subst (Good q) (sym at) (All-get_or (Good q) (map kept rs) i k (omega (arith, within, length-map rs kept)) undo.good) in
-    subst (Undoes q (map kept c.args.runs.now)) (sym (map-set kept rs i c.leave_with.new.run ∙ ap (set (map kept rs) i) c.in_err-leave_with.ensures.err))
-    (undoes_set q (map kept c.args.runs.now) (map kept rs) i k k undo at (run_stays q k good))
+    subst (Undoes q n (map kept c.args.runs.now)) (sym (map-set kept rs i c.leave_with.new.run ∙ ap (set (map kept rs) i) c.in_err-leave_with.ensures.err))
+    (undoes_set q n (map kept c.args.runs.now) (map kept rs) i k k undo at (run_stays q n k good))
 
 pub loop-i-preserved : goal.loop-i-preserved
 loop-i-preserved c =
@@ -57,5 +57,5 @@ returns c =
     record {
       runs = c.loop-i.invariant.runs ∙ all_after_use ns c.loop-i.i ks done;
       told = c.loop-i.invariant.told ∙ ap (λ l. map seen c.args.list.now.items ++ l) (all_told ns c.loop-i.i ks done);
-      undoes = λ q good. subst (Undoes q ks) (sym c.loop-i.invariant.runs) (after_use_undoes q ns c.loop-i.i ks good);
+      undoes = λ q n good. subst (Undoes q n ks) (sym c.loop-i.invariant.runs) (after_use_undoes q n ns c.loop-i.i ks good);
     }

@@ -19,7 +19,7 @@ undo-requires c =
     let inside : i < length items = omega (arith, within, c.loop-run.auto.run-items) in
     let deep : i < length ks = omega (arith, within, length-map rs kept) in
     let at : k ≡ get_or (map kept items) i k = sym (get_or-map kept items i r k inside) in
-    let was : k ≡ get_or ks i k = over_at before ks (map kept items) i k deep c.loop-run.invariant at in
+    let was : k ≡ get_or ks i k = over_at (before c.args.number) ks (map kept items) i k deep c.loop-run.invariant at in
     let front : ks ≡ take c.args.count (map kept c.args.runs.now.items) = ap (map kept) (c.deref_mut-run-items.ensures.value ∙ c.truncate.ensures.items) ∙ sym (take-map kept c.args.count c.args.runs.now.items) in
     subst CanUndo (sym was) (All-get_or CanUndo ks i k deep (subst (All CanUndo) (sym front) c.requires))
 
@@ -34,7 +34,7 @@ loop-run-preserved c =
     let inside : i < length items = omega (arith, within, c.loop-run.auto.run-items) in
     let at : k ≡ get_or (map kept items) i k = sym (get_or-map kept items i r k inside) in
     map-set kept items i c.undo.new.self ∙ ap (set (map kept items) i) c.undo.ensures
-    ∙ map_over_more before (map kept rs) (map kept items) i k (omega (arith, within, length-map rs kept)) c.loop-run.invariant at
+    ∙ map_over_more (before c.args.number) (map kept rs) (map kept items) i k (omega (arith, within, length-map rs kept)) c.loop-run.invariant at
 
 pub returns : goal.returns
 returns c =
@@ -45,4 +45,4 @@ returns c =
     let done : length ks ≤ i = omega (arith, c.loop-run-test.false, length-map rs kept) in
     let front : ks ≡ take c.args.count (map kept c.args.runs.now.items) = ap (map kept) (c.deref_mut-run-items.ensures.value ∙ c.truncate.ensures.items) ∙ sym (take-map kept c.args.count c.args.runs.now.items) in
     ap (map kept) (take_at items (drop (length items) c.truncate.new.self.items) c.truncate.new.self.len (c.loop-run.auto.run-items ∙ c.deref_mut-run-items.ensures.len))
-    ∙ c.loop-run.invariant ∙ (λ j. map before (take_all i ks done j) ++ drop_all i ks done j) ∙ append-nil (map before ks) ∙ ap (map before) front
+    ∙ c.loop-run.invariant ∙ (λ j. map (before c.args.number) (take_all i ks done j) ++ drop_all i ks done j) ∙ append-nil (map (before c.args.number) ks) ∙ ap (map (before c.args.number)) front

@@ -16,12 +16,12 @@ pushed : (rs now : List Run) (r : Run) (n : ℕ) → now ≡ rs ++ r ∷ [] → 
 pushed rs now r n is new = ap (map kept) is ∙ map_push kept rs r ∙ ap (λ (k : Kept). map kept rs ++ k ∷ []) new
 
 -- and what undoes them
-undone : (q : Plan) (rs now new tail : List Run) (n size : ℕ) → map kept now ≡ map kept rs ++ empty n ∷ [] → length new ≡ size → Undoes q (map kept now) (map kept new)
-    → Undoes q (map kept rs) (take (length rs) (map kept (take size (new ++ tail))))
-undone q rs now new tail n size is long u =
-    subst (λ (l : List Run). Undoes q (map kept rs) (take (length rs) (map kept l))) (sym (take_at new tail size long))
-    (subst (λ (m : ℕ). Undoes q (map kept rs) (take m (map kept new))) (length-map rs kept)
-    (undoes_take q (map kept rs) (map kept new) (empty n) (subst (λ (l : List Kept). Undoes q l (map kept new)) is u)))
+undone : (q : Plan) (number : ℕ) (rs now new tail : List Run) (n size : ℕ) → map kept now ≡ map kept rs ++ empty n ∷ [] → length new ≡ size → Undoes q number (map kept now) (map kept new)
+    → Undoes q number (map kept rs) (take (length rs) (map kept (take size (new ++ tail))))
+undone q number rs now new tail n size is long u =
+    subst (λ (l : List Run). Undoes q number (map kept rs) (take (length rs) (map kept l))) (sym (take_at new tail size long))
+    (subst (λ (m : ℕ). Undoes q number (map kept rs) (take m (map kept new))) (length-map rs kept)
+    (undoes_take q number (map kept rs) (map kept new) (empty n) (subst (λ (l : List Kept). Undoes q number l (map kept new)) is u)))
 
 pub bind-requires-clause-good : goal.bind-requires-clause-good
 bind-requires-clause-good c =
@@ -32,13 +32,13 @@ bind-requires-clause-good c =
 
 pub returns-in_err-bind-clause-undoes : goal.returns-in_err-bind-clause-undoes
 returns-in_err-bind-clause-undoes c =
-    undone c.args.offer.now.plan.now c.args.runs.now.items c.deref_mut.result.now c.bind.new.runs (drop (length c.bind.new.runs) c.push.new.self.items) (c.args.count + 1) c.push.new.self.len
+    undone c.args.offer.now.plan.now c.args.offer.now.number c.args.runs.now.items c.deref_mut.result.now c.bind.new.runs (drop (length c.bind.new.runs) c.push.new.self.items) (c.args.count + 1) c.push.new.self.len
     (pushed c.args.runs.now.items c.deref_mut.result.now c.run.result (c.args.count + 1) (c.deref_mut.ensures.value ∙ c.in_ok-push.ensures.items) c.run.ensures.run)
     (c.bind.auto.runs ∙ c.deref_mut.ensures.len) c.in_err-bind.ensures.undoes
 
 pub returns-clause-undoes : goal.returns-clause-undoes
 returns-clause-undoes c =
-    undone c.args.offer.now.plan.now c.args.runs.now.items c.deref_mut.result.now c.bind.new.runs (drop (length c.bind.new.runs) c.push.new.self.items) (c.args.count + 1) c.push.new.self.len
+    undone c.args.offer.now.plan.now c.args.offer.now.number c.args.runs.now.items c.deref_mut.result.now c.bind.new.runs (drop (length c.bind.new.runs) c.push.new.self.items) (c.args.count + 1) c.push.new.self.len
     (pushed c.args.runs.now.items c.deref_mut.result.now c.run.result (c.args.count + 1) (c.deref_mut.ensures.value ∙ c.in_ok-push.ensures.items) c.run.ensures.run)
     (c.bind.auto.runs ∙ c.deref_mut.ensures.len) c.in_ok-bind.ensures.undoes
 
@@ -54,9 +54,6 @@ returns-in_err-push-2-clause-undoes c = grind (arith, common_steps)
 
 pub bind-requires-clause-below : goal.bind-requires-clause-below
 bind-requires-clause-below c = grind (arith, common_steps)
-
-pub bind-requires-clause-idle : goal.bind-requires-clause-idle
-bind-requires-clause-idle c = grind (arith, common_steps)
 
 pub returns-clause-runs : goal.returns-clause-runs
 returns-clause-runs c = grind (arith, common_steps)

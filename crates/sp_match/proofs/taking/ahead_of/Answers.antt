@@ -13,7 +13,7 @@ pub returns-in-Some : goal.returns-in-Some
 returns-in-Some c =
     let q = c.args.plan.now in
     let r = pairs (kept c.args.run.now) in
-    let kept_ahead : IfSome (Some c.in-Some.ahead) (λ ahead. IsAhead q r ahead) = subst (λ (o : Option Ahead). IfSome o (λ ahead. IsAhead q r ahead)) c.in-Some.is (c.requires.good.ahead_is c.requires.idle) in
+    let kept_ahead : IfSome (Some c.in-Some.ahead) (λ ahead. IsAhead q r ahead) = subst (λ (o : Option Ahead). IfSome o (λ ahead. IsAhead q r ahead)) c.in-Some.is c.requires.good.ahead_is in
     record {
       ahead = kept_ahead;
       element = subst (λ o. IfSome o IsNamed) (sym kept_ahead.0) (found_keeps IsNamed (λ element. not (is_filled r element)) q.elements (elements_named q c.requires.compiled));

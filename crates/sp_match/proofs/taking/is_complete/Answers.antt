@@ -13,4 +13,4 @@ is_it_none true (Some x) e = cc
 is_it_none false (Some x) e = refl
 
 pub returns : goal.returns
-returns c = is_it_none c.is_none.result c.first_unfilled.result (sym c.is_none.ensures) ∙ ap is_none c.first_unfilled.ensures.first ∙ sym (all_or_found (is_filled (pairs (kept c.args.run.now))) c.args.plan.now.elements)
+returns c = is_it_none c.is_none.result c.ahead_of.result.element (sym c.is_none.ensures) ∙ ap is_none c.ahead_of.ensures.ahead.0 ∙ sym (all_or_found (is_filled (pairs (kept c.args.run.now))) c.args.plan.now.elements)

@@ -20,17 +20,17 @@ pub returns-in_err-leave-in-None-clause-undoes : goal.returns-in_err-leave-in-No
 returns-in_err-leave-in-None-clause-undoes c =
     let q = c.args.offer.now.plan.now in
     let k = kept (get_or c.args.runs.now c.args.at c.index-runs-at-in-None.result) in
-    let same = run_stays q k (good_here q c.args.runs.now c.args.at c.index-runs-at-in-None.result c.requires.within c.requires.good) in
-    undone_set q c.args.runs.now c.args.at c.index-runs-at-in-None.result c.leave.new.run c.requires.within c.requires.good
-    (subst (RunUndoes q k) (sym c.in_err-leave-in-None.ensures.err) same)
+    let same = run_stays q c.args.offer.now.number k (good_here q c.args.runs.now c.args.at c.index-runs-at-in-None.result c.requires.within c.requires.good) in
+    undone_set q c.args.offer.now.number c.args.runs.now c.args.at c.index-runs-at-in-None.result c.leave.new.run c.requires.within c.requires.good
+    (subst (RunUndoes q c.args.offer.now.number k) (sym c.in_err-leave-in-None.ensures.err) same)
 
 pub returns-in_ok-leave-in-None-clause-undoes : goal.returns-in_ok-leave-in-None-clause-undoes
 returns-in_ok-leave-in-None-clause-undoes c =
     let q = c.args.offer.now.plan.now in
     let k = kept (get_or c.args.runs.now c.args.at c.index-runs-at-in-None.result) in
-    let same = run_stays q k (good_here q c.args.runs.now c.args.at c.index-runs-at-in-None.result c.requires.within c.requires.good) in
-    undone_set q c.args.runs.now c.args.at c.index-runs-at-in-None.result c.leave.new.run c.requires.within c.requires.good
-    (subst (RunUndoes q k) (sym c.in_ok-leave-in-None.ensures.run) (run_fate q k k Leaves same))
+    let same = run_stays q c.args.offer.now.number k (good_here q c.args.runs.now c.args.at c.index-runs-at-in-None.result c.requires.within c.requires.good) in
+    undone_set q c.args.offer.now.number c.args.runs.now c.args.at c.index-runs-at-in-None.result c.leave.new.run c.requires.within c.requires.good
+    (subst (RunUndoes q c.args.offer.now.number k) (sym c.in_ok-leave-in-None.ensures.run) (run_fate q c.args.offer.now.number k k Leaves same))
 
 pub returns-in_ok-leave-in-None-clause-runs : goal.returns-in_ok-leave-in-None-clause-runs
 returns-in_ok-leave-in-None-clause-runs c =
@@ -46,7 +46,7 @@ returns-in_ok-leave-in-None-clause-runs c =
     ∙ (λ i. if (sym c.if-leaves.true ∙ c.leaves.ensures) i then runs_after_leaving at ks else ks) ∙ ap (runs_after_offer q (lets_leave c.args.offer.now) at x ks) none
 
 pub takes-requires-clause-good : goal.takes-requires-clause-good
-takes-requires-clause-good c = grind (arith, common_steps)
+takes-requires-clause-good c = good_here c.args.offer.now.plan.now c.args.runs.now c.args.at c.index-runs-at.result c.requires.within c.requires.good
 
 pub returns-then-used-clause-received : goal.returns-then-used-clause-received
 returns-then-used-clause-received c = grind (arith, common_steps)

@@ -7,7 +7,7 @@ use Rattle.sp_match.specs.public.Seen.{seen}
 use Rattle.sp_match.specs.inside.Going.{Going, standing}
 use Rattle.sp_match.specs.declared.turns.Reception.TheVariants.{Passed}
 use Rattle.sp_match.proofs.RunsUndo.{all_stay, undoes_on}
-use Rattle.sp_match.proofs.AllTurnsGoOn.{below_at_hand, going_more, going_start, idle_at_hand}
+use Rattle.sp_match.proofs.AllTurnsGoOn.{below_at_hand, going_more, going_start}
 use Rattle.sp_match.specs.inside.Offer.{lets_leave}
 use Rattle.sp_match.proofs.QuietTurns.{turn_quiet}
 use Rattle.sp_match.proofs.turns.offer_to_all.Goals as goal
@@ -19,10 +19,10 @@ loop-at-init c =
     let x : Numbered = (c.args.offer.now.number, c.args.offer.now.event.now) in
     let none = ap (map seen) c.requires.none in
     record {
-      going = λ s is. subst (λ (l : List Told). Going q x s old 0 old l Passed) (sym none) (going_start q x s c.args.offer.now.number c.requires.ready.0 old c.requires.ready.1 is);
+      going = λ s is. subst (λ (l : List Told). Going q x s old 0 old l Passed) (sym none) (going_start q x s c.requires.ready.0 old c.requires.ready.1 is);
       quiet = λ e. refl;
       shared = c.requires.shared;
-      undoes = all_stay q old c.requires.ready.1.good;
+      undoes = all_stay q x.0 old c.requires.ready.1.good;
     }
 
 pub turn-requires-clause-good : goal.turn-requires-clause-good
@@ -35,16 +35,9 @@ turn-requires-clause-below c =
     below_at_hand c.args.offer.now.plan.now (c.args.offer.now.number, c.args.offer.now.event.now) c.args.offer.now.number count c.loop-at.at old (map kept c.loop-at.runs) (map seen c.loop-at.list.items) c.loop-at.so_far c.requires.ready.1
     (omega (arith, c.loop-at-test.true, length-map c.args.runs.now kept)) (c.loop-at.invariant.going (standing count old) refl)
 
-pub turn-requires-clause-idle : goal.turn-requires-clause-idle
-turn-requires-clause-idle c =
-    let old = map kept c.args.runs.now in
-    let count = c.requires.ready.0 in
-    idle_at_hand c.args.offer.now.plan.now (c.args.offer.now.number, c.args.offer.now.event.now) c.args.offer.now.number count c.loop-at.at old (map kept c.loop-at.runs) (map seen c.loop-at.list.items) c.loop-at.so_far c.requires.ready.1
-    (omega (arith, c.loop-at-test.true, length-map c.args.runs.now kept)) (c.loop-at.invariant.going (standing count old) refl)
-
 pub returns-in_err-so_far-clause-undoes : goal.returns-in_err-so_far-clause-undoes
 returns-in_err-so_far-clause-undoes c =
-    undoes_on c.args.offer.now.plan.now (map kept c.args.runs.now) (map kept c.loop-at.runs) (map kept c.turn.new.runs) c.loop-at.invariant.undoes c.in_err-so_far.ensures.undoes
+    undoes_on c.args.offer.now.plan.now c.args.offer.now.number (map kept c.args.runs.now) (map kept c.loop-at.runs) (map kept c.turn.new.runs) c.loop-at.invariant.undoes c.in_err-so_far.ensures.undoes
 
 pub loop-at-preserved : goal.loop-at-preserved
 loop-at-preserved c =
@@ -53,14 +46,14 @@ loop-at-preserved c =
     let x : Numbered = (c.args.offer.now.number, c.args.offer.now.event.now) in
     let within : c.loop-at.at < length old = omega (arith, c.loop-at-test.true, length-map c.args.runs.now kept) in
     record {
-      going = λ s is. going_more q x s c.requires.ready.0 c.args.offer.now.number c.loop-at.at old (map kept c.loop-at.runs) (map kept c.turn.new.runs) (map seen c.loop-at.list.items) (map seen c.turn.new.list.items)
-          c.loop-at.so_far c.in_ok-so_far.so_far c.requires.ready.1 within c.loop-at.invariant.undoes (c.loop-at.invariant.going s is) c.in_ok-so_far.ensures.turned;
+      going = λ s is. going_more q x s c.requires.ready.0 c.loop-at.at old (map kept c.loop-at.runs) (map kept c.turn.new.runs) (map seen c.loop-at.list.items) (map seen c.turn.new.list.items)
+          c.loop-at.so_far c.in_ok-so_far.so_far c.requires.offer.compiled.names c.requires.ready.1 within c.loop-at.invariant.undoes (c.loop-at.invariant.going s is) c.in_ok-so_far.ensures.turned;
       quiet = λ e.
           let turn = turn_quiet q (lets_leave c.args.offer.now) c.loop-at.at x (map kept c.loop-at.runs) (map kept c.turn.new.runs) (map seen c.loop-at.list.items) (map seen c.turn.new.list.items) c.loop-at.so_far c.in_ok-so_far.so_far
           c.in_ok-so_far.ensures.turned e in
           turn.1 ∙ c.loop-at.invariant.quiet turn.0;
       shared = c.in_ok-so_far.ensures.shared;
-      undoes = undoes_on q old (map kept c.loop-at.runs) (map kept c.turn.new.runs) c.loop-at.invariant.undoes c.in_ok-so_far.ensures.undoes;
+      undoes = undoes_on q x.0 old (map kept c.loop-at.runs) (map kept c.turn.new.runs) c.loop-at.invariant.undoes c.in_ok-so_far.ensures.undoes;
     }
 
 pub returns : goal.returns

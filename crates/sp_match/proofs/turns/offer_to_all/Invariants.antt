@@ -12,5 +12,5 @@ invariant-loop-at l = record {
   going : (s : State) → s.open_runs ≡ map started (map kept l.initial.runs) → Going l.offer.plan.now (l.offer.number, l.offer.event.now) s (map kept l.initial.runs) l.at (map kept l.runs) (map seen l.list.items) l.so_far;
   quiet : map seen l.list.items ≡ [] → map kept l.runs ≡ map kept l.initial.runs;
   shared : IsShared l.offer l.shared;
-  undoes : Undoes l.offer.plan.now (map kept l.initial.runs) (map kept l.runs);
+  undoes : Undoes l.offer.plan.now l.offer.number (map kept l.initial.runs) (map kept l.runs);
 }

@@ -1,17 +1,16 @@
-use Rattle.std.proofs.Common.{◌≡◌, ℕ, map, length, refl, sym, subst, ◌∙◌, rules}
-use Rattle.std.specs.List.{All}
+use Rattle.std.proofs.Common.{◌≡◌, ℕ, map, length, refl, sym, ap, subst, ◌∙◌, rules}
 use Rattle.std.specs.Arc.{arc_value}
 use Rattle.sp_plan.specs.declared.plan.Plan.{Plan}
 use Rattle.sp_plan.specs.Windows.{Numbered}
 use Rattle.sp_match.specs.public.Laws.{Below}
 use Rattle.sp_match.specs.public.Matching.{Matching, runs_of}
 use Rattle.sp_match.specs.inside.Kept.{kept, started}
-use Rattle.sp_match.specs.inside.Good.{Good}
 use Rattle.sp_match.specs.inside.Going.{IsReady}
 use Rattle.sp_match.specs.inside.Keeping.{IsKept}
 use Rattle.sp_match.specs.inside.Handling.{count_after}
 use Rattle.sp_match.specs.public.Seen.{seen}
-use Rattle.sp_match.proofs.MatcherAfterEvent.{ready}
+use Rattle.sp_match.proofs.GrownRunIsGood.{looked_for}
+use Rattle.sp_match.proofs.MatcherAfterEvent.{all_started_looked, kept_looked, ready}
 use Rattle.sp_match.proofs.EventIsOffered.{back, kept_after, offered, wanted_after}
 use Rattle.sp_match.proofs.matcher.Matcher.offer_known.Goals as goal
 
@@ -32,7 +31,7 @@ invariant_of-self g c =
     let after : Matching = record { plan = q; open_runs = map started settled; started = count_after count c.in-Ok.started } in
     subst (λ (n : ℕ). IsKept q n settled) (sym c.count_after-self-inside.ensures)
     (kept_after q c.deref-2.result.now x count old c.in-Ok.started (map kept c.handle_all.new.runs.items) settled (map seen c.handle_all.new.moves.list.items) c.args.self.now after c.deref-2.ensures c.self.view_is c.self.invariant
-    c.in-Ok.ensures.handled c.settle.ensures.runs refl (subst (λ (p : Plan). All (Good p) settled) (c.deref-in-Ok.ensures ∙ sym c.deref-2.ensures) c.settle.ensures.good) c.settle.ensures.idle)
+    c.in-Ok.ensures.handled c.settle.ensures.runs refl (c.settle.ensures.good c.deref-2.result.now c.in-Ok.ensures.handled.good) c.settle.ensures.idle)
 
 pub returns-in-Ok : goal.returns-in-Ok
 returns-in-Ok g c =
@@ -53,16 +52,16 @@ pub invariant_of-self-in-Err : goal.invariant_of-self-in-Err
 invariant_of-self-in-Err g c =
     let q = arc_value c.self.inside.plan in
     let old = map kept c.self.inside.runs.items in
-    let same : map kept c.undo.new.runs.items ≡ old =
-    back q c.deref-2.result.now old (map kept c.handle_all.new.runs.items) (map kept c.undo.new.runs.items) (length c.self.inside.runs.items) c.len-open.result c.self.invariant.idle (c.len-open.ensures ∙ c.self.inside.runs.ok.0) c.in-Err.ensures.undoes
-    c.undo.ensures in
-    subst (IsKept q c.self.inside.count) (sym same) c.self.invariant
+    let same : map kept c.undo.new.runs.items ≡ map looked_for old =
+    back q c.deref-2.result.now c.args.number c.self.inside.count old (map kept c.handle_all.new.runs.items) (map kept c.undo.new.runs.items) (length c.self.inside.runs.items) c.len-open.result c.deref-2.ensures c.self.invariant
+    (subst (λ (m : Matching). Below c.args.number (runs_of m)) (sym c.self.view_is) c.requires.below) (c.len-open.ensures ∙ c.self.inside.runs.ok.0) c.in-Err.ensures.undoes c.undo.ensures in
+    subst (IsKept q c.self.inside.count) (sym same) (kept_looked q c.self.inside.count old c.self.invariant)
 
 pub returns-in-Err-clause-err : goal.returns-in-Err-clause-err
 returns-in-Err-clause-err g c =
     let q = arc_value c.self.inside.plan in
     let old = map kept c.self.inside.runs.items in
-    let same : map kept c.undo.new.runs.items ≡ old =
-    back q c.deref-2.result.now old (map kept c.handle_all.new.runs.items) (map kept c.undo.new.runs.items) (length c.self.inside.runs.items) c.len-open.result c.self.invariant.idle (c.len-open.ensures ∙ c.self.inside.runs.ok.0) c.in-Err.ensures.undoes
-    c.undo.ensures in
-    (λ i. record { plan = q; open_runs = map started (same i); started = c.self.inside.count }) ∙ c.self.view_is
+    let same : map kept c.undo.new.runs.items ≡ map looked_for old =
+    back q c.deref-2.result.now c.args.number c.self.inside.count old (map kept c.handle_all.new.runs.items) (map kept c.undo.new.runs.items) (length c.self.inside.runs.items) c.len-open.result c.deref-2.ensures c.self.invariant
+    (subst (λ (m : Matching). Below c.args.number (runs_of m)) (sym c.self.view_is) c.requires.below) (c.len-open.ensures ∙ c.self.inside.runs.ok.0) c.in-Err.ensures.undoes c.undo.ensures in
+    (λ i. record { plan = q; open_runs = (ap (map started) same ∙ all_started_looked old) i; started = c.self.inside.count }) ∙ c.self.view_is
