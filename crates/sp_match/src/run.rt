@@ -1,5 +1,5 @@
 // One partial match.
-ghost use Rattle.std.specs.Prelude.{◌≡◌, ℕ, ◌<◌, ◌-◌, not, [], None, Some, length, IfOk, OnOk, OnErr, slice_index_or, false, map};
+ghost use Rattle.std.specs.Prelude.{◌≡◌, ℕ, ◌<◌, ◌-◌, not, [], None, Some, length, IfOk, IsTrue, OnOk, OnErr, slice_index_or, false, map};
 ghost use Rattle.std.specs.List.{All, AllPairs, list_any};
 ghost use Rattle.sp_base.specs.Numbers.{is_among};
 ghost use Rattle.sp_match.specs.inside.Tally.{is_leaving};
@@ -51,6 +51,14 @@ fn name_under(pair: (u8, u32), number: u32) -> Option<u8>
     ensures { result ≡ name_under number (Some pair) }
 {
     if pair.1 == number { Some(pair.0) } else { None }
+}
+
+// Makes room for one number more where it is consumed; for others none is needed.
+fn make_room(used: &mut Numbers, consumed: bool) -> Result<(), Memory>
+    ensures list { used.new.list ≡ used.old.list }
+    ensures room { OnOk result (IsTrue consumed → 0 < used.new.spare) }
+{
+    if consumed { used.reserve(1) } else { Ok(()) }
 }
 
 impl Run {
@@ -138,9 +146,9 @@ impl Run {
         ensures err { OnErr result (kept self.new ≡ kept self.old) }
     {
         self.bound.reserve(1)?;
-        self.used.reserve(1)?;
+        make_room(&mut self.used, consumed)?;
         self.events.bind_shared(name, event)?;
-        self.bound.push((name, number))?;
+        self.bound.push_reserved((name, number));
         if consumed {
             self.used.put(number);
         }
