@@ -19,3 +19,4 @@ pub mod Holds
 pub mod Times
 pub mod Pieces
 pub mod Points
+pub mod PlainDecimals

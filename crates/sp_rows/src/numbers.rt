@@ -1,5 +1,5 @@
 // Numbers as cells write them.
-ghost use Rattle.std.specs.Prelude.{◌≡◌, ℕ, List, ◌<◌, ◌≤◌, ◌^◌, ◌≢◌, ◌∷◌, true, false, ◌++◌, ◌==◌, ◌-◌, IfSome, IfNone, length, take, drop, pos, neg_ℤ, [], slice_index_or};
+ghost use Rattle.std.specs.Prelude.{◌≡◌, ℕ, List, ◌+◌, ◌<◌, ◌≤◌, ◌^◌, ◌≢◌, ◌∷◌, true, false, ◌++◌, ◌==◌, ◌-◌, Some, IfSome, IfNone, length, take, drop, pos, neg_ℤ, [], slice_index_or};
 ghost use Rattle.std.specs.List.{list_all, suffix_len, All};
 ghost use Rattle.std.specs.Option.{option_map, ForSome};
 ghost use Rattle.sp_base.specs.Limits.{number_limit, past_number_limit};
@@ -84,6 +84,7 @@ fn with_digit(value: u64, digit: u8) -> u64
 fn leading(digits: &[u8]) -> (u64, usize)
     ensures value { result.0 ≡ with_more 0 (take result.1 digits.now) }
     ensures small { result.0 ≤ past_number_limit }
+    ensures below { result.0 < 10 ^ result.1 }
     ensures within { result.1 ≤ length digits.now }
     ensures digits { list_all Numbers.is_digit (take result.1 digits.now) ≡ true }
     ensures ends { result.1 < length digits.now
@@ -236,9 +237,56 @@ pub(crate) fn whole_number_of(cell: &[u8]) -> Option<i64>
     }
 }
 
+// The number with as many decimals as the scale has, where these are digits and all digits are few.
+fn few_scaled(scale: u8, whole: u64, count: usize, decimals: &[u8]) -> Option<u64>
+    requires below { whole < 10 ^ count }
+    requires few { count + scale ≤ 15 }
+    ensures value { IfSome result
+        (λ n. n ≡ with_more whole (Numbers.decimals_to scale decimals.now)) }
+    ensures digits { IfSome result
+        (λ n. list_all Numbers.is_digit (Numbers.decimals_to scale decimals.now) ≡ true) }
+    ensures below { IfSome result (λ n. n ≤ number_limit) }
+{
+    let mut value = whole;
+    for place in 0..usize::from(scale) {
+        let digit = decimal_at(decimals, place);
+        if !digit.is_ascii_digit() {
+            return None;
+        }
+        value = value * 10 + u64::from(digit - b'0');
+    }
+    Some(value)
+}
+
+// The units that a cell of a few digits writes, with a point among them or none, and nothing else.
+fn few_units(scale: u8, cell: &[u8]) -> Option<u64>
+    ensures value { IfSome result (λ n. Some (pos n) ≡ Numbers.number_of scale cell.now) }
+    ensures below { IfSome result (λ n. n ≤ number_limit) }
+{
+    let (whole, count) = leading(cell);
+    if count == 0 || count > FEW || usize::from(scale) > FEW - count {
+        return None;
+    }
+    if count == cell.len() {
+        return few_scaled(scale, whole, count, &[]);
+    }
+    if cell[count] != b'.' {
+        return None;
+    }
+    let (_, decimals) = cell.split_at(count + 1);
+    let past = past_scale(scale, decimals);
+    if decimals.is_empty() || !are_zeros(past) {
+        return None;
+    }
+    few_scaled(scale, whole, count, decimals)
+}
+
 /// The units of this scale that a cell writes, None where it writes no such number.
 pub(crate) fn number_of(scale: u8, cell: &[u8]) -> Option<i64>
     ensures { result ≡ Numbers.number_of scale cell.now }
 {
-    signed(scale, trimmed(cell))
+    match few_units(scale, cell) {
+        Some(units) => as_value(Some(units)),
+        None => signed(scale, trimmed(cell)),
+    }
 }
