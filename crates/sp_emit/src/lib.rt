@@ -19,4 +19,4 @@ pub use law::one_match;
 pub use read::read_match_line;
 pub use state::{push_id, push_numbers, push_truth, state_lines};
 pub use summary::summary_text;
-pub use write::match_line;
+pub use write::{match_line, push_match_line};

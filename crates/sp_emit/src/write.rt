@@ -1,17 +1,39 @@
 // Lines of matches.
-ghost use Rattle.std.specs.Prelude.{◌≡◌, ◌<◌, ◌^◌, ◌++◌, IfOk, OnOk, slice_get, string_bytes};
+ghost use Rattle.std.specs.Prelude.{◌≡◌, ◌<◌, ◌^◌, ◌++◌, IfOk, OnOk, slice_get, string_bytes, codes};
+ghost use Rattle.std.specs.Fmt.{decimal};
 ghost use Rattle.std.specs.List.{All, flat_map};
 ghost use Rattle.sp_base.specs.Commas.{commas, list_text};
 ghost use Rattle.sp_emit.specs.Matches.{ArePlaces, Binds, IsLine};
 ghost use Rattle.sp_plan.specs.Lines.{line, binding_text, name_text};
 
+use itoa::Buffer;
 use sp_base::{push_commas, push_list};
 use sp_plan::{Match, Memory, Places, Plan};
 use std::alloc::Global;
-use std::fmt::Write;
 
 // Room for the line of a match with few events.
 const ROOM: usize = 96;
+
+// Adds a number.
+fn push_number(out: &mut String, number: u64) -> Result<(), Memory>
+    ensures { OnOk result (string_bytes out.new ≡ string_bytes out.old ++ decimal number) }
+{
+    out.push_str(Buffer::new().format(number))
+}
+
+// Adds the window's number and the match's own.
+fn push_head(out: &mut String, found: &Match) -> Result<(), Memory>
+    ensures text { OnOk result
+        (string_bytes out.new ≡ string_bytes out.old ++ codes "w=" ++ decimal found.now.window
+        ++ codes " m=" ++ decimal found.now.number) }
+    ensures window { OnOk result (found.now.window < 2 ^ 32) }
+    ensures number { OnOk result (found.now.number < 2 ^ 64) }
+{
+    out.push_str("w=")?;
+    push_number(out, u64::from(found.window))?;
+    out.push_str(" m=")?;
+    push_number(out, found.number)
+}
 
 // Adds the numbers of events.
 fn push_places(out: &mut String, places: &Places) -> Result<(), Memory>
@@ -67,22 +89,33 @@ fn push_used(out: &mut String, used: &Places) -> Result<(), Memory>
     push_list(out, used.list())
 }
 
-/// The line of a match: its window's number, its own number, each bound name with the numbers of its
-/// events, the numbers of the events that it consumes or a dash, and one line feed. The text of a name
-/// that the plan hasn't is empty. Where each name of the plan is bound once, in its order, to at least
-/// one event, `read_match_line` gives the match back.
+/// Adds the line of a match behind a text, whose room may so be used from line to line: the window's
+/// number, the match's own number, each bound name with the numbers of its events, the numbers of the
+/// events that it consumes or a dash, and one line feed. The text of a name that the plan hasn't is empty.
+/// Where each name of the plan is bound once, in its order, to at least one event, `read_match_line` gives
+/// the match back. After want of memory a part of the line may stand there.
+pub fn push_match_line(out: &mut String, plan: &Plan, found: &Match) -> Result<(), Memory>
+    ensures line { OnOk result
+        (string_bytes out.new ≡ string_bytes out.old ++ line plan.now found.now) }
+    ensures back { Binds plan.now found.now
+        → OnOk result (IsLine plan.now found.now (line plan.now found.now)) }
+{
+    out.reserve(ROOM)?;
+    push_head(out, found)?;
+    push_bindings(out, plan, found.bound.as_slice())?;
+    out.push_str(" used=")?;
+    push_used(out, &found.used)?;
+    out.push_str("\n")?;
+    Ok(())
+}
+
+/// The line of a match, as `push_match_line` adds it.
 pub fn match_line(alloc: Global, plan: &Plan, found: &Match) -> Result<String, Memory>
     ensures line { IfOk result (λ text. string_bytes text ≡ line plan.now found.now) }
     ensures back { Binds plan.now found.now
         → IfOk result (λ text. IsLine plan.now found.now (string_bytes text)) }
 {
-    let window = found.window;
-    let number = found.number;
-    let mut out = String::with_capacity(alloc, ROOM)?;
-    write!(out, "w={window} m={number}")?;
-    push_bindings(&mut out, plan, found.bound.as_slice())?;
-    out.push_str(" used=")?;
-    push_used(&mut out, &found.used)?;
-    out.push_str("\n")?;
+    let mut out = String::new(alloc);
+    push_match_line(&mut out, plan, found)?;
     Ok(out)
 }
