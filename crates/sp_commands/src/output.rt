@@ -5,12 +5,13 @@ ghost use Rattle.sp_plan.specs.Lines.{text};
 ghost use Rattle.sp_trace.specs.Traced.{joined};
 
 use sp_answer::Written;
-use sp_emit::match_line;
+use sp_emit::push_match_line;
 use sp_io::Sink;
 use sp_plan::{Match, Memory, Plan};
 use std::alloc::Global;
 
-/// Writes the line of each match by one call. Whatever it answers, what was written begins their text.
+/// Writes the line of each match by one call. Whatever it answers, what was written begins their text. The
+/// room of a line is used again for the next one.
 pub(crate) fn write_lines<K: Sink>(
     alloc: Global,
     plan: &Plan,
@@ -19,9 +20,11 @@ pub(crate) fn write_lines<K: Sink>(
 ) -> Result<Written, Memory>
     ensures { WritesText (text plan.now matches.now) (K.state out.old) (K.state out.new) result }
 {
+    let mut line = String::new(alloc);
     for found in matches {
-        let one = match_line(alloc, plan, found)?;
-        match out.write_all(one.as_bytes()) {
+        line.clear();
+        push_match_line(&mut line, plan, found)?;
+        match out.write_all(line.as_bytes()) {
             Ok(()) => {}
             Err(_) => return Ok(Written::Failed),
         }
