@@ -1,14 +1,52 @@
 // Texts with escapes: `\\`, `\n`, `\r`, `\t`, `\xHH` for a byte, `{NAME}` for a text that was given this
-// name, and `\c` as the last one, for a line without its line feed.
+// name, or for the row's number, `{NAME+N}` for N more than that, and `\c` as the last one, for a line without its
+// line feed.
 use crate::fault::Fault;
-use crate::line::push;
+use crate::line::{number, push};
 use std::alloc::Global;
+use std::str;
 
 /// A text that was given a name.
 #[derive(Drop)]
 pub(crate) struct NamedText {
     pub(crate) name: Vec<u8>,
     pub(crate) bytes: Vec<u8>,
+}
+
+/// The number that a row of many is run for, and its name.
+#[derive(Drop)]
+pub(crate) struct NamedNumber {
+    pub(crate) name: String,
+    pub(crate) value: u32,
+}
+
+/// What names stand for.
+#[derive(Clone, Copy, Drop)]
+pub(crate) struct Names<'a> {
+    pub(crate) texts: &'a [NamedText],
+    pub(crate) number: Option<&'a NamedNumber>,
+}
+
+impl<'a> Names<'a> {
+    // The text that was given this name last.
+    fn text(&self, name: &[u8]) -> Option<&'a NamedText> {
+        self.texts
+            .iter()
+            .rev()
+            .find(|it| it.name.as_slice() == name)
+    }
+
+    // The row's number, or so many more, where the name asks for that.
+    fn number(&self, name: &[u8]) -> Result<u32, Fault> {
+        let (Some(own), Ok(name)) = (self.number, str::from_utf8(name)) else {
+            return Err(Fault("a name that no text was given"));
+        };
+        let (name, more) = name.split_once('+').unwrap_or((name, "0"));
+        if name != own.name.as_str() {
+            return Err(Fault("a name that no text was given"));
+        }
+        Ok(own.value.saturating_add(number(more)?))
+    }
 }
 
 /// What a text stands for, and whether it said that no line feed follows.
@@ -31,20 +69,22 @@ enum Place {
 
 #[derive(Drop)]
 struct Written {
+    alloc: Global,
     bytes: Vec<u8>,
     name: Vec<u8>,
     place: Place,
 }
 
 /// What a text stands for.
-pub(crate) fn unescaped(alloc: Global, named: &[NamedText], text: &str) -> Result<Text, Fault> {
+pub(crate) fn unescaped(alloc: Global, names: Names<'_>, text: &str) -> Result<Text, Fault> {
     let mut so_far = Written {
+        alloc,
         bytes: Vec::new(alloc),
         name: Vec::new(alloc),
         place: Place::Plain,
     };
     for byte in text.as_bytes() {
-        so_far.place = so_far.take(named, *byte)?;
+        so_far.place = so_far.take(names, *byte)?;
     }
     match so_far.place {
         Place::Plain => Ok(Text {
@@ -61,7 +101,7 @@ pub(crate) fn unescaped(alloc: Global, named: &[NamedText], text: &str) -> Resul
 
 impl Written {
     // Takes the next byte, and answers where the one behind it stands.
-    fn take(&mut self, named: &[NamedText], byte: u8) -> Result<Place, Fault> {
+    fn take(&mut self, names: Names<'_>, byte: u8) -> Result<Place, Fault> {
         match self.place {
             Place::Plain => self.take_plain(byte),
             Place::Escape => self.take_escape(byte),
@@ -70,7 +110,7 @@ impl Written {
                 let byte = first.wrapping_mul(16).wrapping_add(digit(byte)?);
                 self.put(byte)
             }
-            Place::Name => self.take_name(named, byte),
+            Place::Name => self.take_name(names, byte),
             Place::Cut => Err(Fault("a text behind \\c")),
         }
     }
@@ -104,19 +144,20 @@ impl Written {
         }
     }
 
-    fn take_name(&mut self, named: &[NamedText], byte: u8) -> Result<Place, Fault> {
+    fn take_name(&mut self, names: Names<'_>, byte: u8) -> Result<Place, Fault> {
         if byte != b'}' {
             push(&mut self.name, byte)?;
             return Ok(Place::Name);
         }
-        let name = self.name.as_slice();
-        match named.iter().rev().find(|it| it.name.as_slice() == name) {
-            Some(found) => {
-                self.bytes.extend_from_slice(found.bytes.as_slice())?;
-                Ok(Place::Plain)
+        match names.text(&self.name) {
+            Some(found) => self.bytes.extend_from_slice(found.bytes.as_slice())?,
+            None => {
+                let number = names.number(&self.name)?;
+                let digits = format!(in self.alloc; "{number}")?;
+                self.bytes.extend_from_slice(digits.as_bytes())?;
             }
-            None => Err(Fault("a name that no text was given")),
         }
+        Ok(Place::Plain)
     }
 }
 

@@ -16,16 +16,16 @@ pub(crate) fn repeated(word: &str) -> Result<(&str, u32), Fault> {
     }
 }
 
-// The number that a text is.
-fn number(text: &str) -> Result<u32, Fault> {
+/// The number that a text is.
+pub(crate) fn number(text: &str) -> Result<u32, Fault> {
     match text.parse::<u32>() {
         Ok(number) => Ok(number),
         Err(_) => Err(Fault("no number")),
     }
 }
 
-// The two numbers that a text is, with a blank between them.
-fn two_numbers(text: &str) -> Result<(u32, u32), Fault> {
+/// The two numbers that a text is, with a blank between them.
+pub(crate) fn two_numbers(text: &str) -> Result<(u32, u32), Fault> {
     match text.split_once(' ') {
         Some((first, second)) => Ok((number(first)?, number(second)?)),
         None => Err(Fault("no two numbers")),
@@ -190,6 +190,10 @@ fn put_number(key: &str, text: &str, row: &mut Row) -> Result<(), Fault> {
     match key {
         "status" => set(text, &mut row.expected.status),
         "piece" => set(text, &mut row.call.piece),
+        "cut" => {
+            row.expected.output.truncate(number(text)? as usize);
+            Ok(())
+        }
         "load-fails" => push(&mut row.call.failing.loads, number(text)?),
         "read-fails" => {
             row.call.failing.reads = Some(u64::from(number(text)?));

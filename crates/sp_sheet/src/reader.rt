@@ -1,6 +1,6 @@
-use crate::escapes::{NamedText, unescaped};
+use crate::escapes::{NamedNumber, NamedText, Names, unescaped};
 use crate::fault::Fault;
-use crate::line::{push, put, repeated};
+use crate::line::{push, put, repeated, two_numbers};
 use crate::row::Row;
 use std::alloc::Global;
 
@@ -9,6 +9,10 @@ use std::alloc::Global;
 struct Reader {
     named: Vec<NamedText>,
     rows: Vec<Row>,
+    // From where on they are the last one that was begun: one row, or one for each of some numbers.
+    open: usize,
+    // Whether that has a part.
+    has_part: bool,
 }
 
 /// The rows of a sheet, or the number of the first line, from 1, that is not taken, and why.
@@ -16,6 +20,8 @@ pub(crate) fn rows_of(alloc: Global, text: &str) -> Result<Vec<Row>, (usize, Fau
     let mut reader = Reader {
         named: Vec::new(alloc),
         rows: Vec::new(alloc),
+        open: 0,
+        has_part: false,
     };
     let mut number = 0usize;
     for line in text.lines() {
@@ -38,6 +44,7 @@ impl Reader {
         match key {
             "row" => self.begin(alloc, text),
             "let" => self.name(alloc, text, times),
+            "each" => self.begin_each(alloc, text),
             _ => self.put(alloc, key, times, text),
         }
     }
@@ -45,7 +52,29 @@ impl Reader {
     // Begins a row.
     fn begin(&mut self, alloc: Global, name: &str) -> Result<(), Fault> {
         let name = String::from_str(alloc, name)?;
+        self.open = self.rows.len();
+        self.has_part = false;
         push(&mut self.rows, Row::new(alloc, name))
+    }
+
+    // Has a row in place of the one that was just begun for each number from one to another.
+    fn begin_each(&mut self, alloc: Global, text: &str) -> Result<(), Fault> {
+        let Some((name, numbers)) = text.split_once(' ') else {
+            return Err(Fault("a name without numbers"));
+        };
+        let (first, last) = two_numbers(numbers)?;
+        let begun = match self.rows.pop() {
+            Some(row) if !self.has_part && row.number.is_none() => row,
+            _ => return Err(Fault("numbers that are not right behind the row's name")),
+        };
+        for value in first..=last {
+            let title = format!(in alloc; "{}, {name} = {value}", begun.name)?;
+            let mut row = Row::new(alloc, title);
+            let name = String::from_str(alloc, name)?;
+            row.number = Some(NamedNumber { name, value });
+            push(&mut self.rows, row)?;
+        }
+        Ok(())
     }
 
     // Gives a name to so many times a text.
@@ -53,18 +82,30 @@ impl Reader {
         let Some((name, text)) = text.split_once(' ') else {
             return Err(Fault("a name without a text"));
         };
-        let text = unescaped(alloc, self.named.as_slice(), text)?;
+        let names = Names {
+            texts: self.named.as_slice(),
+            number: None,
+        };
+        let text = unescaped(alloc, names, text)?;
         let bytes = text.bytes.repeat(alloc, times as usize)?;
         let name = name.as_bytes().to_vec(alloc)?;
         push(&mut self.named, NamedText { name, bytes })
     }
 
-    // Puts a part into the last row.
+    // Puts a part into the last row, or into each of those that stand for one.
     fn put(&mut self, alloc: Global, key: &str, times: u32, text: &str) -> Result<(), Fault> {
-        let text = unescaped(alloc, self.named.as_slice(), text)?;
-        match self.rows.last_mut() {
-            Some(row) => put(alloc, key, times, &text, row),
-            None => Err(Fault("a part before the first row")),
+        if self.rows.is_empty() {
+            return Err(Fault("a part before the first row"));
         }
+        self.has_part = true;
+        for row in self.rows.iter_mut().skip(self.open) {
+            let names = Names {
+                texts: self.named.as_slice(),
+                number: row.number.as_ref(),
+            };
+            let text = unescaped(alloc, names, text)?;
+            put(alloc, key, times, &text, row)?;
+        }
+        Ok(())
     }
 }

@@ -1,5 +1,6 @@
 use crate::call::{Call, Failing, Outcome};
 use crate::delayed::Delayed;
+use crate::escapes::NamedNumber;
 use crate::told::Told;
 use std::alloc::Global;
 
@@ -7,6 +8,8 @@ use std::alloc::Global;
 #[derive(Drop)]
 pub struct Row {
     pub(crate) name: String,
+    /// The number that it is run for, where it is one of many.
+    pub(crate) number: Option<NamedNumber>,
     pub(crate) call: Call,
     pub(crate) expected: Outcome,
     /// Whether the output is to be that of `plain` with the same query over the same input.
@@ -18,6 +21,7 @@ impl Row {
     pub(crate) fn new(alloc: Global, name: String) -> Row {
         Row {
             name,
+            number: None,
             call: Call {
                 single: String::new(alloc),
                 words: Vec::new(alloc),
