@@ -26,7 +26,7 @@ use Rattle.sp_rows.specs.Rows.{RowsRead, ColumnAt, nothing, place_of, columns_at
 use Rattle.sp_rows.specs.Cells.{RowCells, blank, one, several, row_cells}
 use Rattle.sp_commands.specs.Alike.{Alike, NamesAlike, OpeningsAlike}
 use Rattle.sp_intake.specs.Reading.{Reading, start, with_result, with_row, stopped_by, take_row, read}
-use Rattle.sp_intake.specs.declared.input.Failure.TheVariants.{Limit}
+use Rattle.sp_ports.specs.declared.stop.Failure.TheVariants.{Limit}
 
 module _ (q p : Plan) (alike : Alike q p) where
   -- ---- rows

@@ -13,9 +13,9 @@ use Rattle.sp_plan.specs.declared.event.Event.{Event}
 use Rattle.sp_plan.specs.declared.plan.Plan.{Plan}
 use Rattle.sp_sched.specs.Schedules.{OneSchedule}
 use Rattle.sp_sched.specs.declared.step.TraceStep.{TraceStep}
-use Rattle.sp_intake.specs.declared.input.Failure.{Failure}
-use Rattle.sp_intake.specs.declared.input.Stop.{Stop}
-use Rattle.sp_intake.specs.declared.input.Stop.TheVariants.{End, Failed}
+use Rattle.sp_ports.specs.declared.stop.Failure.{Failure}
+use Rattle.sp_ports.specs.declared.stop.Stop.{Stop}
+use Rattle.sp_ports.specs.declared.stop.Stop.TheVariants.{End, Failed}
 use Rattle.sp_intake.specs.Reading.{Reading, start, take_row, read, stop_of, stop_or}
 use Rattle.sp_intake.proofs.Leading.{stopped_stays}
 use Rattle.sp_load.specs.Places.{Place, HasText, IsLonger, long_word, long_file}

@@ -9,8 +9,9 @@ use Rattle.sp_plan.specs.declared.plan.Plan.{Plan}
 use Rattle.sp_sched.specs.Schedules.{OneSchedule}
 use Rattle.sp_sched.specs.declared.step.TraceStep.{TraceStep}
 use Rattle.sp_emit.specs.Summary.{summary}
-use Rattle.sp_intake.specs.Reading.{Reading, read, is_end}
-use Rattle.sp_intake.specs.declared.input.Stop.{Stop}
+use Rattle.sp_ports.specs.Stopping.{is_end}
+use Rattle.sp_intake.specs.Reading.{Reading, read}
+use Rattle.sp_ports.specs.declared.stop.Stop.{Stop}
 use Rattle.sp_load.specs.Places.{Place}
 use Rattle.sp_load.specs.Queries.{IsPlanFor, IsFaulty, IsPlanAt, IsFaultyAt}
 use Rattle.sp_load.specs.Laws.{OneReading, OneText}

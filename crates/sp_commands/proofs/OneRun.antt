@@ -9,7 +9,7 @@ use Rattle.sp_plan.specs.declared.plan.Pred.{Pred}
 use Rattle.sp_plan.specs.declared.plan.Opening.{Opening}
 use Rattle.sp_plan.specs.declared.plan.Opening.TheVariants.{EveryEvents, EveryTime, When}
 use Rattle.sp_plan.specs.Lines.{text}
-use Rattle.sp_intake.specs.declared.input.Stop.{Stop}
+use Rattle.sp_ports.specs.declared.stop.Stop.{Stop}
 use Rattle.sp_plan.specs.Sequential.{Progress, whole}
 use Rattle.sp_plan.specs.Texts.{with_text}
 use Rattle.sp_plan.specs.Values.{BoundEvents, holds}
@@ -27,7 +27,8 @@ use Rattle.sp_commands.specs.Alike.{Alike, HoldAlike, NamesAlike, OpeningsAlike}
 use Rattle.sp_answer.specs.Outcome.{outcome}
 use Rattle.sp_commands.specs.Ends.{status_of, reading_outcome}
 use Rattle.sp_commands.specs.Run.{run_outcome, windows_text}
-use Rattle.sp_intake.specs.Reading.{Reading, read, stop_of, is_end}
+use Rattle.sp_ports.specs.Stopping.{is_end}
+use Rattle.sp_intake.specs.Reading.{Reading, read, stop_of}
 use Rattle.sp_commands.proofs.Alike.{read_same, whole_same, lines_same}
 
 -- trees have one list of texts

@@ -9,10 +9,10 @@ use Rattle.sp_plan.specs.declared.plan.Plan.{Plan}
 use Rattle.sp_intake.specs.Intake.{TakesNoFurther}
 use Rattle.sp_intake.specs.Reading.{Reading, read, stop_of, stop_or}
 use Rattle.sp_intake.specs.declared.input.InputEvents.{InputEvents}
-use Rattle.sp_intake.specs.declared.input.Stop.{Stop}
-use Rattle.sp_intake.specs.declared.input.Stop.TheVariants.{End, Failed, Open}
-use Rattle.sp_intake.specs.declared.input.Failure.{Failure}
-use Rattle.sp_intake.specs.declared.input.Failure.TheVariants.{Row, Limit}
+use Rattle.sp_ports.specs.declared.stop.Stop.{Stop}
+use Rattle.sp_ports.specs.declared.stop.Stop.TheVariants.{End, Failed, Open}
+use Rattle.sp_ports.specs.declared.stop.Failure.{Failure}
+use Rattle.sp_ports.specs.declared.stop.Failure.TheVariants.{Row, Limit}
 use Rattle.sp_load.specs.Places.{Place, file}
 use Rattle.sp_load.specs.Loads.{IsUnread}
 use Rattle.sp_load.specs.Queries.{IsPlanAt, RefusesPlace}

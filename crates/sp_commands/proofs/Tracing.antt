@@ -11,9 +11,9 @@ use Rattle.sp_base.specs.Limits.{schedule_limit}
 use Rattle.sp_io.specs.Outside.{ToldFiles, SinkState, HoldsLonger, Grew, GrewWithin}
 use Rattle.sp_plan.specs.declared.event.Event.{Event}
 use Rattle.sp_plan.specs.declared.plan.Plan.{Plan}
-use Rattle.sp_intake.specs.Reading.{is_end}
-use Rattle.sp_intake.specs.declared.input.Stop.{Stop}
-use Rattle.sp_intake.specs.declared.input.Stop.TheVariants.{End, Failed as StopFailed, Open}
+use Rattle.sp_ports.specs.Stopping.{is_end}
+use Rattle.sp_ports.specs.declared.stop.Stop.{Stop}
+use Rattle.sp_ports.specs.declared.stop.Stop.TheVariants.{End, Failed as StopFailed, Open}
 use Rattle.sp_sched.specs.Schedules.{CanStand, AreSteps, none, blank, step}
 use Rattle.sp_sched.specs.declared.step.TraceStep.{TraceStep}
 use Rattle.sp_trace.specs.Traced.{Tracing, after, lines_for, lines_from, joined, traced}

@@ -10,7 +10,7 @@ use Rattle.sp_plan.specs.Sequential.{whole}
 use Rattle.sp_sched.specs.Schedules.{IsSchedule}
 use Rattle.sp_sched.specs.declared.step.TraceStep.{TraceStep}
 use Rattle.sp_trace.specs.Traced.{traced}
-use Rattle.sp_intake.specs.declared.input.Stop.TheVariants.{End}
+use Rattle.sp_ports.specs.declared.stop.Stop.TheVariants.{End}
 use Rattle.sp_intake.specs.Reading.{read, stop_of}
 use Rattle.sp_load.specs.Places.{Place, word, file}
 use Rattle.sp_load.specs.Queries.{IsPlanFor}

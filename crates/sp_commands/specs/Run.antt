@@ -6,8 +6,8 @@ use Rattle.sp_plan.specs.declared.event.Event.{Event}
 use Rattle.sp_plan.specs.declared.plan.Plan.{Plan}
 use Rattle.sp_plan.specs.Sequential.{whole}
 use Rattle.sp_plan.specs.Lines.{text}
-use Rattle.sp_intake.specs.Reading.{is_end}
-use Rattle.sp_intake.specs.declared.input.Stop.{Stop}
+use Rattle.sp_ports.specs.Stopping.{is_end}
+use Rattle.sp_ports.specs.declared.stop.Stop.{Stop}
 use Rattle.sp_load.specs.Places.{Place, IsLonger}
 use Rattle.sp_load.specs.Queries.{IsPlanAt, IsFaultyAt}
 use Rattle.sp_answer.specs.Outcome.{Outcome, nothing_for}

@@ -8,8 +8,8 @@ use Rattle.sp_plan.specs.declared.plan.Plan.{Plan}
 use Rattle.sp_sched.specs.Schedules.{IsSchedule, IsBadLine}
 use Rattle.sp_sched.specs.declared.step.TraceStep.{TraceStep}
 use Rattle.sp_trace.specs.Traced.{traced}
-use Rattle.sp_intake.specs.Reading.{is_end}
-use Rattle.sp_intake.specs.declared.input.Stop.{Stop}
+use Rattle.sp_ports.specs.Stopping.{is_end}
+use Rattle.sp_ports.specs.declared.stop.Stop.{Stop}
 use Rattle.sp_load.specs.Places.{Place, HasText, IsLonger}
 use Rattle.sp_load.specs.Queries.{IsPlanFor, IsFaulty}
 use Rattle.sp_load.specs.declared.refusal.Refusal.{Refusal}

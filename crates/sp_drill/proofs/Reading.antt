@@ -10,8 +10,8 @@ use Rattle.sp_plan.specs.declared.event.Event.{Event}
 use Rattle.sp_plan.specs.declared.plan.Plan.{Plan}
 use Rattle.sp_cut.specs.CutRows.{row, rows, rows_of_parts}
 use Rattle.sp_rows.specs.Rows.{RowsRead}
-use Rattle.sp_intake.specs.declared.input.Failure.{Failure}
-use Rattle.sp_intake.specs.declared.input.Failure.TheVariants.{Limit}
+use Rattle.sp_ports.specs.declared.stop.Failure.{Failure}
+use Rattle.sp_ports.specs.declared.stop.Failure.TheVariants.{Limit}
 use Rattle.sp_intake.specs.Reading.{Reading, start, stopped_by, with_event, with_result, with_row, take_row, read, stop_or, end_stop}
 use Rattle.sp_gen.specs.Generated.{drawn, row_text, lines, generated}
 use Rattle.sp_gen.specs.Plain.{LinesArePlain}

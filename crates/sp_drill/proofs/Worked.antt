@@ -9,7 +9,7 @@ use Rattle.sp_plan.specs.declared.plan.Plan.{Plan}
 use Rattle.sp_plan.specs.declared.plan.Length.TheVariants.{Events}
 use Rattle.sp_plan.specs.declared.plan.Opening.TheVariants.{EveryEvents}
 use Rattle.sp_plan.specs.declared.plan.Select.TheVariants.{First}
-use Rattle.sp_intake.specs.declared.input.Stop.TheVariants.{End}
+use Rattle.sp_ports.specs.declared.stop.Stop.TheVariants.{End}
 use Rattle.sp_intake.specs.Reading.{Reading, read, stop_of}
 use Rattle.sp_gen.specs.Generated.{generated}
 use Rattle.sp_drill.specs.Drill.{drill_columns}

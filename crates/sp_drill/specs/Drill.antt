@@ -5,7 +5,7 @@ use Rattle.sp_base.specs.Limits.{event_limit}
 use Rattle.sp_plan.specs.declared.plan.Column.{Column}
 use Rattle.sp_plan.specs.declared.plan.Kind.TheVariants.{Int, Dec, Text}
 use Rattle.sp_plan.specs.declared.plan.Plan.{Plan}
-use Rattle.sp_intake.specs.declared.input.Stop.TheVariants.{End}
+use Rattle.sp_ports.specs.declared.stop.Stop.TheVariants.{End}
 use Rattle.sp_intake.specs.Reading.{Reading, read, stop_of}
 use Rattle.sp_gen.specs.Generated.{generated}
 

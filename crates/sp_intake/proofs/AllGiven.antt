@@ -1,5 +1,5 @@
 -- All that an input gives, in a list.
-use Rattle.std.proofs.Common.{◌≡◌, ◌⊎◌, inl, inr, ◌≤◌, List, [], length, Ok, Err, sym, ◌∙◌, ap, subst}
+use Rattle.std.proofs.Common.{◌≡◌, ◌≤◌, List, [], length, Ok, Err, sym, ◌∙◌, ap, subst}
 use Rattle.std.specs.Prelude.{Option, Some, Result, IsErr, IfOk}
 use Rattle.std.specs.declared.alloc.AllocError.{AllocError}
 use Rattle.sp_base.specs.Limits.{event_limit}
@@ -8,22 +8,15 @@ use Rattle.sp_plan.specs.Events.{AllFit, NeverGoesBack}
 use Rattle.sp_plan.specs.declared.event.Event.{Event}
 use Rattle.sp_plan.specs.declared.plan.Plan.{Plan}
 use Rattle.sp_intake.specs.declared.input.InputEvents.{InputEvents}
-use Rattle.sp_intake.specs.declared.input.Stop.{Stop}
-use Rattle.sp_intake.specs.declared.step.Polled.{Polled}
-use Rattle.sp_intake.specs.declared.step.Polled.TheVariants as polled
+use Rattle.sp_ports.specs.declared.stop.Stop.{Stop}
 use Rattle.sp_intake.specs.Intake.{ReadsInput}
 use Rattle.sp_intake.specs.ReadAll.{ReadsAll}
-use Rattle.sp_intake.specs.Standing.{Standing, Gives, HasRead, ReadSoFar, ReadsFrom, stop_in, polled_in}
+use Rattle.sp_intake.specs.Standing.{Standing, Gives, HasRead, ReadSoFar, ReadsFrom, stop_in}
 
 -- memory ran out behind these events
 pub short_all : (old new : Standing) (events : List Event) (result : Result InputEvents AllocError) → IsErr result → Gives old events new → ReadsAll old new result
 short_all old new events (Ok given) failed gives = absurd (cc failed)
 short_all old new events (Err e) failed gives = record { events = events; gives = gives; given = tt; stop = tt }
-
--- an answer that there are no more events gives none
-pub none_given : (old new : Standing) (answer : Polled) (given : Option Event) → (answer ≡ polled.End) ⊎ (answer ≡ polled.Stop) → Gives old (polled_in answer given) new → Gives old [] new
-none_given old new answer given (inl is) = subst (λ (a : Polled). Gives old (polled_in a given) new) is
-none_given old new answer given (inr is) = subst (λ (a : Polled). Gives old (polled_in a given) new) is
 
 -- what was read to a stop is a reading of the input
 pub reads_input : (q : Plan) (before after : SourceState) (old new : Standing) (result : Result InputEvents AllocError) → ReadsFrom q before old → ReadsAll old new result → after ≡ new.source → ReadsInput q before after result

@@ -12,7 +12,7 @@ use Rattle.sp_plan.specs.declared.plan.Plan.{Plan}
 use Rattle.sp_cut.specs.CutRows.{CutRow, row, long_row, open_quote, rows}
 use Rattle.sp_rows.specs.Rows.{RowsRead, RowResult, nothing, event, refused, row_result}
 use Rattle.sp_rows.proofs.FitEvents.{PlacesFit, GivesFit, row_fits}
-use Rattle.sp_intake.specs.declared.input.Failure.TheVariants.{Limit}
+use Rattle.sp_ports.specs.declared.stop.Failure.TheVariants.{Limit}
 use Rattle.sp_intake.specs.Reading.{Reading, start, with_event, with_result, with_row, stopped_by, take_row, read}
 
 -- the events of the reading fit the plan, and none is before one in front of it, nor behind the last time

@@ -8,7 +8,7 @@ use Rattle.sp_plan.specs.declared.event.Event.{Event}
 use Rattle.sp_plan.specs.declared.plan.Plan.{Plan}
 use Rattle.sp_cut.specs.CutRows.{CutRow, row, long_row, open_quote}
 use Rattle.sp_rows.specs.Rows.{RowResult, nothing, event, refused, row_result}
-use Rattle.sp_intake.specs.declared.input.Failure.TheVariants.{Limit}
+use Rattle.sp_ports.specs.declared.stop.Failure.TheVariants.{Limit}
 use Rattle.sp_intake.specs.Reading.{Reading, with_result, with_row, stopped_by, take_row}
 use Rattle.sp_intake.specs.Standing.{IsFront}
 

@@ -11,7 +11,7 @@ use Rattle.sp_plan.specs.declared.event.Event.{Event}
 use Rattle.sp_plan.specs.declared.plan.Plan.{Plan}
 use Rattle.sp_intake.specs.declared.reader.Reader.{Reader}
 use Rattle.sp_intake.specs.Kept.{plan_in, reading_of, TakesRow}
-use Rattle.sp_intake.specs.declared.input.Failure.{Failure}
+use Rattle.sp_ports.specs.declared.stop.Failure.{Failure}
 use Rattle.sp_intake.specs.Coming.{LeadsAs, IsSettled, with_left, comes_to, ends_as}
 use Rattle.sp_intake.specs.Reading.{Reading, take_row}
 

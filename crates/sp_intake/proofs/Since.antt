@@ -13,9 +13,9 @@ use Rattle.sp_ports.specs.Giving.{AreGood}
 use Rattle.sp_intake.specs.declared.events.State.{State}
 use Rattle.sp_intake.specs.declared.events.State.TheVariants.{Going, Stopped, Broken}
 use Rattle.sp_intake.specs.declared.step.Step.{Step}
-use Rattle.sp_intake.specs.declared.input.Failure.{Failure}
-use Rattle.sp_intake.specs.declared.input.Stop.{Stop}
-use Rattle.sp_intake.specs.declared.input.Stop.TheVariants.{Open}
+use Rattle.sp_ports.specs.declared.stop.Failure.{Failure}
+use Rattle.sp_ports.specs.declared.stop.Stop.{Stop}
+use Rattle.sp_ports.specs.declared.stop.Stop.TheVariants.{Open}
 use Rattle.sp_intake.specs.declared.kept.Kept.{Kept}
 use Rattle.sp_intake.specs.declared.reader.Reader.{Reader}
 use Rattle.sp_intake.specs.Coming.{comes_to, ends_as, IsSettled, LeadsAs}

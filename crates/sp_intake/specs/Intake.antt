@@ -7,7 +7,7 @@ use Rattle.sp_plan.specs.Events.{AllFit, NeverGoesBack}
 use Rattle.sp_plan.specs.declared.plan.Plan.{Plan}
 use Rattle.sp_intake.specs.Reading.{read, stop_of}
 use Rattle.sp_intake.specs.declared.input.InputEvents.{InputEvents}
-use Rattle.sp_intake.specs.declared.input.Stop.TheVariants.{Open}
+use Rattle.sp_ports.specs.declared.stop.Stop.TheVariants.{Open}
 
 -- Reading ends with the piece in which it stops: what was taken before the last piece had not stopped it.
 pub record TakesNoFurther (q : Plan) (taken : List ℕ) : Type 0 where

@@ -8,10 +8,10 @@ use Rattle.sp_cut.specs.CutRows.{CutRow, row, long_row, open_quote, rows}
 use Rattle.sp_rows.specs.Codes.{code_of}
 use Rattle.sp_rows.specs.Rows.{RowsRead, RowResult, nothing, event, refused, row_result}
 use Rattle.sp_rows.specs.Rows as row_states
-use Rattle.sp_intake.specs.declared.input.Stop.{Stop}
-use Rattle.sp_intake.specs.declared.input.Stop.TheVariants.{End, Failed, Open}
-use Rattle.sp_intake.specs.declared.input.Failure.{Failure}
-use Rattle.sp_intake.specs.declared.input.Failure.TheVariants.{Row, Limit}
+use Rattle.sp_ports.specs.declared.stop.Stop.{Stop}
+use Rattle.sp_ports.specs.declared.stop.Stop.TheVariants.{End, Failed, Open}
+use Rattle.sp_ports.specs.declared.stop.Failure.{Failure}
+use Rattle.sp_ports.specs.declared.stop.Failure.TheVariants.{Row, Limit}
 
 -- how far the reading has come: what the rows were read to, the events, and why no more rows count, where none do
 pub record Reading : Type 0 where
@@ -69,8 +69,3 @@ stop_or r ended None = if not ended then Open else end_stop r.so_far.places
 -- why reading stops: a failure, the end of the input, or neither; ended input without a header is faulty
 abbrev pub stop_of : Reading → Bool → Stop
 stop_of r ended = stop_or r ended r.stopped
-
-abbrev pub is_end : Stop → Bool
-is_end End = true
-is_end (Failed failure) = false
-is_end Open = false

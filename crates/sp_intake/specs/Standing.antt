@@ -1,5 +1,5 @@
 -- How an input stands, and what it has read since its source stood at its start.
-use Rattle.std.specs.Prelude.{not, ◌≡◌, ◌≤◌, ◌<◌, ℕ, ◌+◌, Bool, true, false, List, [], ◌++◌, length, Option, Some, None, IfSome, take, Result, Ok, Err, IfOk, OnOk, OnErr}
+use Rattle.std.specs.Prelude.{◌≡◌, ◌≤◌, ◌<◌, ℕ, ◌+◌, Bool, true, false, List, [], ◌++◌, length, Option, Some, None, IfSome, take, Result, Ok, Err, IfOk, OnOk, OnErr}
 use Rattle.std.specs.declared.alloc.AllocError.{AllocError}
 use Rattle.sp_base.specs.Limits.{event_limit, piece_limit}
 use Rattle.sp_io.specs.Outside.{SourceState, Gave, Rose}
@@ -7,20 +7,19 @@ use Rattle.sp_io.specs.declared.outside.Failed.{Failed}
 use Rattle.sp_plan.specs.declared.event.Event.{Event}
 use Rattle.sp_plan.specs.declared.plan.Plan.{Plan}
 use Rattle.sp_ports.specs.Giving.{AreGood}
+use Rattle.sp_ports.specs.Stopping.{is_end}
 use Rattle.sp_intake.specs.declared.events.State.{State}
 use Rattle.sp_intake.specs.declared.events.State.TheVariants.{Going, Stopped, Broken}
 use Rattle.sp_intake.specs.declared.step.Step.{Step}
 use Rattle.sp_intake.specs.declared.step.Step.TheVariants as step
-use Rattle.sp_intake.specs.declared.step.Polled.{Polled}
-use Rattle.sp_intake.specs.declared.step.Polled.TheVariants as polled
-use Rattle.sp_intake.specs.declared.input.Stop.{Stop}
-use Rattle.sp_intake.specs.declared.input.Stop.TheVariants.{Open}
+use Rattle.sp_ports.specs.declared.stop.Stop.{Stop}
+use Rattle.sp_ports.specs.declared.stop.Stop.TheVariants.{Open}
 use Rattle.sp_intake.specs.declared.reader.Reader.{Reader}
 use Rattle.sp_intake.specs.Coming.{comes_to, ends_as, IsSettled}
 use Rattle.sp_intake.specs.Following.{ComeNext}
 use Rattle.sp_intake.specs.Intake.{TakesNoFurther}
 use Rattle.sp_intake.specs.Kept.{plan_in, last_in, event_in}
-use Rattle.sp_intake.specs.Reading.{read, stop_of, is_end}
+use Rattle.sp_intake.specs.Reading.{read, stop_of}
 
 -- an input, its source seen by its state
 pub record Standing : Type 0 where
@@ -38,12 +37,6 @@ stop_in Broken = None
 abbrev pub is_whole : Option Stop → Bool
 is_whole None = false
 is_whole (Some stop) = is_end stop
-
--- it stopped before the end of its input
-abbrev pub is_halted : State → Bool
-is_halted Going = false
-is_halted (Stopped stop) = not (is_end stop)
-is_halted Broken = false
 
 -- these events are the first of those
 abbrev pub IsFront : List Event → List Event → Type 0
@@ -109,14 +102,6 @@ given_in (Ok step.Event) given = event_in given
 given_in (Ok (step.Stop stop)) given = []
 given_in (Ok step.Ask) given = []
 given_in (Err e) given = []
-
--- the event that an answer gives, which was put in, if it gives one
-abbrev pub polled_in : Polled → Option Event → List Event
-polled_in polled.Event given = event_in given
-polled_in polled.End given = []
-polled_in polled.Stop given = []
-polled_in polled.Memory given = []
-polled_in polled.Ask given = []
 
 -- no row is left, and the input may go on
 pub record IsHungry (reader : Reader) : Type 0 where

@@ -5,17 +5,17 @@ ghost use Rattle.sp_io.specs.Outside.{SourceState, Rose};
 ghost use Rattle.sp_plan.specs.Compiled.{IsCompiled};
 ghost use Rattle.sp_plan.specs.declared.event.Event as event;
 ghost use Rattle.sp_ports.specs.Giving.{given_at};
+ghost use Rattle.sp_ports.specs.Stopping.{Halts};
 ghost use Rattle.sp_intake.specs.declared.events.State.TheVariants.{Going};
 ghost use Rattle.sp_intake.specs.Coming.{IsReady};
-ghost use Rattle.sp_intake.specs.Standing.{is_halted};
+ghost use Rattle.sp_ports.specs.declared.stop.Stop.{Stop};
 
-use crate::input::Stop;
 use crate::reader::Reader;
-use crate::step::{Polled, Step, answer, take_step};
+use crate::step::{Step, take_step};
 use sp_io::Failed;
 use sp_plan::{Event, Memory, Plan};
-use sp_ports::Next;
-use std::alloc::Global;
+use sp_ports::{Next, Stop};
+use std::alloc::{AllocError, Global};
 use std::sync::Arc;
 
 /// Whether an input goes on.
@@ -36,11 +36,10 @@ pub struct EventReader {
     stops: u64,
     ghost sound: { state ≡ Going → IsReady reader },
     ghost few: { reader.kept.given ≤ event_limit },
-    ghost halted: { 0 < stops → is_halted state ≡ true },
 }
 
 impl EventReader {
-    ghost use Rattle.sp_intake.specs.Standing.{Reads, WasRead, stop_in, is_whole, polled_in};
+    ghost use Rattle.sp_intake.specs.Standing.{Reads, WasRead, stop_in, is_whole, given_in};
     ghost use Rattle.sp_intake.specs.Pieces.{TakesPiece};
     ghost use Rattle.sp_intake.specs.Asked.{standing, IsFresh, IsUnasked, IsAsking};
     ghost use Rattle.sp_intake.specs.Kept.{plan_in};
@@ -60,48 +59,35 @@ impl EventReader {
         })
     }
 
-    /// Why there are no more events, where reading stopped: `End` is the end of the input.
-    pub fn stop(&self) -> Option<Stop>
-        ensures { result ≡ stop_in self.now.state }
-    {
-        match self.state {
-            State::Stopped(stop) => Some(stop),
-            State::Going | State::Broken => None,
-        }
-    }
-
     /// Puts in the next event, or tells why there is none.
     #[inline(always)]
-    pub(crate) fn poll(&mut self, alloc: Global, event: &mut Option<Event>) -> Polled
+    pub(crate) fn poll(&mut self, alloc: Global, event: &mut Option<Event>) -> Result<Step, Memory>
         ensures reads { (source : SourceState)
-            → Reads (standing source self.old) [] (polled_in result event.new)
+            → Reads (standing source self.old) [] (given_in result event.new)
             (standing source self.new) }
-        ensures some { result ≡ Polled.Event → IsSome event.new }
-        ensures asks { result ≡ Polled.Ask → IsAsking self.new }
-        ensures end { result ≡ Polled.End → stop_in self.new.state ≡ Some Stop.End }
-        ensures rose { result ≡ Polled.Stop → Rose self.old.stops self.new.stops }
-        ensures never_falls { self.old.stops ≤ self.new.stops }
-        ensures uncounted { result ≡ Polled.Memory → self.new.stops ≡ self.old.stops }
-        ensures unasked { result ≡ Polled.Ask → self.new.stops ≡ self.old.stops }
-        ensures still { result ≡ Polled.Ask → self.new.state ≡ self.old.state }
-        ensures event { result ≡ Polled.Event
-            → (self.new.state ≡ self.old.state) × (self.new.stops ≡ self.old.stops) }
+        ensures some { result ≡ Ok Step.Event → IsSome event.new }
+        ensures asks { result ≡ Ok Step.Ask → IsAsking self.new }
+        ensures stop { (why : Stop) → result ≡ Ok (Step.Stop why)
+            → stop_in self.new.state ≡ Some why }
+        ensures stops { self.new.stops ≡ self.old.stops }
+        ensures still { result ≡ Ok Step.Ask → self.new.state ≡ self.old.state }
+        ensures event { result ≡ Ok Step.Event → self.new.state ≡ self.old.state }
     {
         match self.state {
             State::Going => {}
-            State::Stopped(stop) => return answer(stop, &mut self.stops),
-            State::Broken => return Polled::Memory,
+            State::Stopped(stop) => return Ok(Step::Stop(stop)),
+            State::Broken => return Err(AllocError),
         }
         match take_step(alloc, &mut self.reader, event) {
-            Ok(Step::Event) => Polled::Event,
+            Ok(Step::Event) => Ok(Step::Event),
             Ok(Step::Stop(stop)) => {
                 self.state = State::Stopped(stop);
-                answer(stop, &mut self.stops)
+                Ok(Step::Stop(stop))
             }
-            Ok(Step::Ask) => Polled::Ask,
+            Ok(Step::Ask) => Ok(Step::Ask),
             Err(_) => {
                 self.state = State::Broken;
-                Polled::Memory
+                Err(AllocError)
             }
         }
     }
@@ -114,8 +100,9 @@ impl EventReader {
         ensures event { (given : event.Event) → result ≡ Some (Next.Event given)
             → (self.new.state ≡ self.old.state) × (self.new.stops ≡ self.old.stops) }
         ensures asks { result ≡ None → IsAsking self.new }
-        ensures end { result ≡ Some Next.End → stop_in self.new.state ≡ Some Stop.End }
-        ensures stop { result ≡ Some Next.Stop → Rose self.old.stops self.new.stops }
+        ensures end { result ≡ Some Next.End → is_whole (stop_in self.new.state) ≡ true }
+        ensures stop { (why : Stop) → result ≡ Some (Next.Stop why)
+            → Rose self.old.stops self.new.stops × Halts why (stop_in self.new.state) }
         ensures never_falls { self.old.stops ≤ self.new.stops }
         ensures memory { result ≡ Some Next.Memory → self.new.stops ≡ self.old.stops }
         ensures unasked { result ≡ None → self.new.stops ≡ self.old.stops }
@@ -123,11 +110,16 @@ impl EventReader {
     {
         let mut event = None;
         match self.poll(alloc, &mut event) {
-            Polled::Event => Some(Next::Event(event.unwrap())),
-            Polled::End => Some(Next::End),
-            Polled::Stop => Some(Next::Stop),
-            Polled::Memory => Some(Next::Memory),
-            Polled::Ask => None,
+            Ok(Step::Event) => Some(Next::Event(event.unwrap())),
+            Ok(Step::Stop(stop)) => {
+                if stop.is_end() {
+                    return Some(Next::End);
+                }
+                self.stops = self.stops.saturating_add(1);
+                Some(Next::Stop(stop))
+            }
+            Ok(Step::Ask) => None,
+            Err(_) => Some(Next::Memory),
         }
     }
 

@@ -1,12 +1,12 @@
-ghost use Rattle.std.specs.Prelude.{◌≡◌, ◌<◌, [], true};
-ghost use Rattle.sp_intake.specs.Standing.{Gives, stop_in, is_whole, is_halted};
+ghost use Rattle.std.specs.Prelude.{◌≡◌, []};
+ghost use Rattle.sp_intake.specs.Standing.{Gives, stop_in, is_whole};
 ghost use Rattle.sp_intake.specs.Pieces.{TakesPiece, Asked};
 ghost use Rattle.sp_intake.specs.Asked.{standing, IsAsking};
 ghost use Rattle.sp_intake.specs.ReadAll.{ReadsAll};
 
 use crate::events::EventReader;
-use crate::input::{InputEvents, Stop};
-use crate::step::Polled;
+use crate::input::InputEvents;
+use crate::step::Step;
 use sp_base::limits::PIECE_LIMIT;
 use sp_io::Source;
 use sp_plan::Memory;
@@ -38,14 +38,6 @@ impl<'a, S: Source> Input<'a, S> {
         }
     }
 
-    /// Why it gives no more, where it stopped: `End` is the end of its input.
-    pub fn stop(&self) -> Option<Stop>
-        ensures stop { result ≡ stop_in self.now.events.state }
-        ensures halted { 0 < self.now.events.stops → is_halted self.now.events.state ≡ true }
-    {
-        self.events.stop()
-    }
-
     // Asks the source for a piece, which the events are read of next.
     fn ask(&mut self)
         requires asks { IsAsking self.old.events }
@@ -67,19 +59,14 @@ impl<'a, S: Source> Input<'a, S> {
         let mut events = Vec::new(alloc);
         let mut room = None;
         for _ in 0..u64::MAX {
-            match self.events.poll(alloc, &mut room) {
-                Polled::Event => {
+            match self.events.poll(alloc, &mut room)? {
+                Step::Event => {
                     if let Some(event) = room.take() {
                         events.push(event)?;
                     }
                 }
-                Polled::Ask => self.ask(),
-                Polled::End | Polled::Stop => {
-                    if let Some(stop) = self.stop() {
-                        return Ok(InputEvents { events, stop });
-                    }
-                }
-                Polled::Memory => return Err(AllocError),
+                Step::Ask => self.ask(),
+                Step::Stop(stop) => return Ok(InputEvents { events, stop }),
             }
         }
         Err(AllocError)
@@ -106,6 +93,8 @@ impl<'a, S: Source> Intake for Input<'a, S> {
     ghost ended = { λ input. is_whole (stop_in input.events.state) };
 
     ghost stops = { λ input. input.events.stops };
+
+    ghost cause = { λ input. stop_in input.events.state };
 
     ghost gave = { λ old events new. Gives (standing (S.state old.source.now) old.events) events (standing (S.state new.source.now) new.events) };
 

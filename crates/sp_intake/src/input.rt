@@ -2,43 +2,14 @@ ghost use Rattle.std.specs.Prelude.{◌≡◌, false};
 ghost use Rattle.std.specs.Arc.{arc_value};
 ghost use Rattle.sp_plan.specs.Compiled.{IsCompiled};
 ghost use Rattle.sp_intake.specs.Intake.{ReadsInput};
-ghost use Rattle.sp_intake.specs.Reading;
 
 use crate::events::EventReader;
 use crate::giving::Input;
 use sp_io::Source;
 use sp_plan::{Event, Memory, Plan};
+use sp_ports::Stop;
 use std::alloc::Global;
 use std::sync::Arc;
-
-/// Why no later row of the input counts.
-#[derive(Clone, Copy, Drop, PartialEq, Eq)]
-pub enum Failure {
-    /// A row was faulty, or the input had no header: the fault's code, the row from 1 and the cell's
-    /// place from 1, or 0 where there is none.
-    Row { code: u8, row: u32, column: u32 },
-    /// The input has more rows or more events than this.
-    Limit { limit: u32 },
-}
-
-/// Why the reading of the input stopped.
-#[derive(Clone, Copy, Drop, PartialEq, Eq)]
-pub enum Stop {
-    /// The input was read to its end.
-    End,
-    Failed(Failure),
-    /// The source failed.
-    Open,
-}
-
-impl Stop {
-    /// Whether the input was read to its end.
-    pub fn is_end(self) -> bool
-        ensures { result ≡ Reading.is_end self }
-    {
-        matches!(self, Stop::End)
-    }
-}
 
 /// The events that the rows gave, and why there are no more.
 #[derive(Drop)]

@@ -10,9 +10,9 @@ ghost use Rattle.sp_intake.specs.Following.{ComeNext};
 ghost use Rattle.sp_rows.specs.Codes.{code_of};
 ghost use Rattle.sp_intake.specs.Kept.{plan_in, last_in, reading_of, event_in, answered, IsCounted, SuitsPlan, TakesRow};
 
-use crate::input::{Failure, Stop};
 use sp_base::limits::EVENT_LIMIT;
 use sp_plan::{Event, Memory, Plan};
+use sp_ports::{Failure, Stop};
 use sp_rows::{RowError, RowFault, Rows};
 use std::alloc::{AllocError, Global};
 use std::sync::Arc;

@@ -12,4 +12,5 @@ mod step;
 
 pub use events::EventReader;
 pub use giving::Input;
-pub use input::{Failure, InputEvents, Stop, read_input};
+pub use input::{InputEvents, read_input};
+pub use sp_ports::{Failure, Stop};

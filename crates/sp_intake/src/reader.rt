@@ -6,10 +6,10 @@ ghost use Rattle.sp_plan.specs.Compiled.{IsTimeOf};
 ghost use Rattle.sp_intake.specs.Reading.{read, stop_of};
 ghost use Rattle.sp_intake.specs.Following.{ComeNext};
 
-use crate::input::Stop;
 use crate::kept::Kept;
 use sp_cut::{CutFault, Cutter};
 use sp_plan::{Event, Memory, Plan};
+use sp_ports::Stop;
 use std::alloc::{AllocError, Global};
 use std::sync::Arc;
 

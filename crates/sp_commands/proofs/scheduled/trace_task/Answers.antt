@@ -6,7 +6,7 @@ use Rattle.sp_plan.specs.declared.plan.Plan.{Plan}
 use Rattle.sp_sched.specs.declared.step.TraceStep.{TraceStep}
 use Rattle.sp_trace.specs.Traced.{traced}
 use Rattle.sp_intake.specs.Intake.{TakesNoFurther}
-use Rattle.sp_intake.specs.Reading.{is_end}
+use Rattle.sp_ports.specs.Stopping.{is_end}
 use Rattle.sp_intake.proofs.Gave.{gave_none}
 use Rattle.sp_intake.proofs.Since.{no_further_none}
 use Rattle.sp_answer.specs.Ran.{Outside, outside}

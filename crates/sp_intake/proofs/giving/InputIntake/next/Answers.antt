@@ -1,5 +1,6 @@
-use Rattle.std.proofs.Common.{◌≡◌, inr, [], Bool, sym, ◌∙◌, ap, subst, arith}
+use Rattle.std.proofs.Common.{◌≡◌, inr, ℕ, [], Bool, sym, ◌∙◌, ap, subst, arith}
 use Rattle.std.specs.Prelude.{Option, Some, None}
+use Rattle.sp_io.specs.Outside.{Rose}
 use Rattle.sp_ports.specs.Giving.{given_by, given_at}
 use Rattle.sp_ports.specs.declared.intake.Next.{Next}
 use Rattle.sp_intake.specs.declared.events.State.{State}
@@ -39,6 +40,11 @@ pub returns-in-Some-clause-event : goal.returns-in-Some-clause-event
 returns-in-Some-clause-event g c given is =
     let at = c.in-Some.ensures.event given (ap (λ (answer : Next). Some answer) is) in
     (ap is_whole_in at.0 ∙ c.loop.invariant.ended, at.1 ∙ c.loop.invariant.stops)
+
+pub returns-in-Some-clause-stop : goal.returns-in-Some-clause-stop
+returns-in-Some-clause-stop g c why is =
+    let at = c.in-Some.ensures.stop why (ap (λ (answer : Next). Some answer) is) in
+    (subst (λ (n : ℕ). Rose n c.at_hand.new.self.stops) c.loop.invariant.stops at.0, at.1)
 
 pub returns-clause-given : goal.returns-clause-given
 returns-clause-given g c from events before =
