@@ -16,7 +16,6 @@ use Rattle.sp_plan.proofs.plan.Length.TheSendSync as lengths
 use Rattle.sp_plan.specs.contracts.plan.Expr as expr
 use Rattle.sp_plan.specs.contracts.plan.Pred as pred
 use Rattle.sp_plan.specs.contracts.plan.Plan as plan
-use Rattle.sp_rows.specs.contracts.reading.Reading as reading
 use Rattle.sp_rows.specs.contracts.rows.Rows as rows
 use Rattle.sp_intake.specs.contracts.kept.Kept as kept
 use Rattle.sp_intake.specs.contracts.reader.Reader as reader
@@ -41,13 +40,10 @@ plan_sent = search (pred_sent, listed.the_send, text.the_send, schema.the_field_
 plan_common : IsSync plan.the_row
 plan_common = search (pred_common, listed.the_sync, text.the_sync, schema.the_field_sync, element.the_sync, select.the_field_sync, lengths.the_field_sync, sendable, crosses) depth 30
 
-reading_sent : IsSend reading.the_field.row
-reading_sent =
-    struct_send (shape reading.the_type)
-    (search (plan_sent, plan_common, sendable, crosses) depth 30, (search (sendable, crosses) depth 30, (search (sendable, crosses) depth 30, (search (sendable, crosses) depth 30, tt))))
-
 rows_sent : IsSend rows.the_field.row
-rows_sent = struct_send (shape rows.the_type) (reading_sent, (search (sendable, crosses) depth 30, (search (sendable, crosses) depth 30, tt)))
+rows_sent =
+    struct_send (shape rows.the_type)
+    (search (plan_sent, plan_common, sendable, crosses) depth 30, (search (sendable, crosses) depth 30, (search (sendable, crosses) depth 30, (search (sendable, crosses) depth 30, (search (sendable, crosses) depth 30, (search (sendable, crosses) depth 30, tt))))))
 
 kept_sent : IsSend kept.the_field.row
 kept_sent = struct_send (shape kept.the_type) (rows_sent, (search (sendable, crosses) depth 30, (search (sendable, crosses) depth 30, (search (sendable, crosses) depth 30, tt))))

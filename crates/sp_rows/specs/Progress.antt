@@ -9,7 +9,6 @@ use Rattle.sp_rows.specs.declared.fault.RowKind.TheVariants.{NoHeader}
 use Rattle.sp_rows.specs.declared.fault.RowError.{RowError}
 use Rattle.sp_rows.specs.declared.fault.RowError.TheVariants.{Fault, Memory}
 use Rattle.sp_rows.specs.declared.progress.Progress.{Progress}
-use Rattle.sp_rows.specs.declared.reading.Reading.{Reading}
 use Rattle.sp_rows.specs.declared.rows.Rows.{Rows}
 use Rattle.sp_rows.specs.Rows.{RowsRead, RowResult, nothing, event, refused}
 
@@ -17,21 +16,13 @@ use Rattle.sp_rows.specs.Rows.{RowsRead, RowResult, nothing, event, refused}
 abbrev pub reading : Option (List ℕ) → Progress → RowsRead
 reading places progress = record { places = places; read = progress.read; last = progress.last; texts = progress.texts }
 
--- the plan of a reading
-abbrev pub plan_in : Reading → Plan
-plan_in now = arc_value now.plan
-
--- how far a reading has come
-abbrev pub read_in : Reading → RowsRead
-read_in now = reading (option_map (λ places. places.items) now.places) now.progress
-
 -- the plan of the rows
 abbrev pub plan_of : Rows → Plan
-plan_of rows = plan_in rows.reading
+plan_of rows = arc_value rows.plan
 
 -- how far reading has come
 abbrev pub read_of : Rows → RowsRead
-read_of rows = read_in rows.reading
+read_of rows = reading (option_map (λ places. places.items) rows.places) rows.progress
 
 -- an error tells the fault that a row has, or want of memory
 abbrev pub ErrorIs : RowResult → RowError → Type 0

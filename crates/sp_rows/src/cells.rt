@@ -1,9 +1,8 @@
 // The cells of a row, cut at its commas or read byte by byte.
-ghost use Rattle.std.specs.Prelude.{◌≡◌, ◌<◌, ◌≤◌, false, take, drop, length, IfOk, IfSome};
+ghost use Rattle.std.specs.Prelude.{◌≡◌, ◌<◌, ◌≤◌, false, take, drop, length, IfOk};
 ghost use Rattle.sp_base.specs.Marks.{is_mark};
 ghost use Rattle.sp_rows.specs.Cells as rows;
-ghost use Rattle.sp_rows.specs.Plain.{pieces};
-ghost use Rattle.sp_rows.specs.Shapes.{read_as, shape_of};
+ghost use Rattle.sp_rows.specs.Shapes.{read_as};
 
 use crate::quoted::{Cells, Record};
 use crate::split::{Fields, find_cells};
@@ -39,28 +38,8 @@ fn without_marks(row: &[u8]) -> &[u8]
     rest
 }
 
-// Reads the cells of any row, which are left in the room where they are one record.
-fn read_row(row: &[u8], room: &mut Record) -> Result<Cells, Memory>
-    ensures { IfOk result (λ cells. shape_of cells room.new.cells ≡ rows.row_cells row.now) }
-{
-    room.read_cells(without_marks(row))
-}
-
-// The bytes of a row that are cut at its commas, where that gives what the crate csv reads, and the
-// places of its cells. If not, or where memory is wanted, any places may come.
-fn cut_row<'a>(row: &'a [u8], nexts: &mut Vec<usize>) -> Result<Option<&'a [u8]>, Memory>
-    ensures { IfOk result
-        (λ cut. IfSome cut
-        (λ rest. rows.one (pieces rest.now 0 nexts.new.items) ≡ rows.row_cells row.now)) }
-{
-    let rest = without_marks(row);
-    if find_cells(rest, nexts)? {
-        return Ok(Some(rest));
-    }
-    Ok(None)
-}
-
-/// Reads a row, whose cells are left in the row and its places, or in the room for a row with quotes.
+/// Reads a row, whose cells are left in the row and its places where it may be cut at its commas, or in
+/// the room for a row with quotes.
 pub(crate) fn read_cells<'a>(
     row: &'a [u8],
     nexts: &'a mut Vec<usize>,
@@ -68,13 +47,14 @@ pub(crate) fn read_cells<'a>(
 ) -> Result<Row<'a>, Memory>
     ensures { IfOk result (λ read. read_as read ≡ rows.row_cells row.now) }
 {
-    if let Some(rest) = cut_row(row, nexts)? {
+    let rest = without_marks(row);
+    if find_cells(rest, nexts)? {
         return Ok(Row::One(Fields {
             row: rest,
             nexts: nexts.as_slice(),
         }));
     }
-    match read_row(row, record)? {
+    match record.read_cells(rest)? {
         Cells::Blank => Ok(Row::Blank),
         Cells::One => Ok(Row::One(record.fields())),
         Cells::Several => Ok(Row::Several),

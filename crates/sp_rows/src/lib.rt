@@ -10,7 +10,6 @@ mod header;
 mod numbers;
 mod progress;
 mod quoted;
-mod reading;
 mod rows;
 mod split;
 mod texts;

@@ -1,11 +1,12 @@
 // What is kept from row to row, but for the places of the columns.
-ghost use Rattle.std.specs.Prelude.{◌≡◌, ◌+◌, ◌<◌, ◌^◌, Some, None, IfOk, IfErr, IfSome, OnOk, OnErr, option_map, length, take};
+ghost use Rattle.std.specs.Prelude.{◌≡◌, ◌+◌, ◌<◌, ◌^◌, Some, None, IfOk, IfErr, IfSome, OnOk, OnErr, map, option_map, length, take};
 ghost use Rattle.sp_rows.specs.Rows as spec;
 ghost use Rattle.sp_rows.specs.Shapes.{column_of, fields_in};
 ghost use Rattle.sp_rows.specs.Progress.{reading, ErrorIs, Gave};
 
-use crate::columns::{Layout, Placed, time_column};
+use crate::columns::{Layout, Placed, place_columns, time_column};
 use crate::fault::{RowError, RowFault, RowKind};
+use crate::header::{Header, read_header};
 use crate::split::Fields;
 use crate::texts::Texts;
 use crate::values::{RowValues, read_values, time_in};
@@ -79,6 +80,39 @@ impl Progress {
         match column {
             Some(column) => self.refusal_at(kind, column.place),
             None => RowError::Fault(self.refusal(kind, 0)),
+        }
+    }
+
+    /// Takes the next row as the header: the places of the columns of the plan, and the columns with them.
+    pub(crate) fn header(
+        &mut self,
+        alloc: Global,
+        cells: &Fields<'_>,
+        plan: &Plan,
+    ) -> Result<(Vec<usize>, Vec<Placed>), RowError>
+        requires { self.old.read + 1 < 2 ^ 32 }
+        ensures header { IfOk result
+            (λ given. spec.header_row plan.now (reading None self.old) (fields_in cells.now)
+            ≡ spec.nothing (reading (Some given.0.items) self.new)) }
+        ensures columns { IfOk result
+            (λ given. map column_of given.1.items ≡ spec.columns_at plan.now given.0.items) }
+        ensures read { OnOk result (self.new.read ≡ self.old.read + 1) }
+        ensures error { IfErr result
+            (λ e. ErrorIs (spec.header_row plan.now (reading None self.old) (fields_in cells.now)) e) }
+        ensures err { OnErr result (self.new ≡ self.old) }
+    {
+        match read_header(alloc, cells, plan.schema.columns.as_slice()) {
+            Err(_) => Err(RowError::Memory),
+            Ok(Header::Lacks(name)) => {
+                Err(RowError::Fault(self.refusal(RowKind::NoColumn(name), 0)))
+            }
+            Ok(Header::Places(places)) => {
+                let Ok(columns) = place_columns(alloc, plan, places.as_slice()) else {
+                    return Err(RowError::Memory);
+                };
+                self.read += 1;
+                Ok((places, columns))
+            }
         }
     }
 

@@ -1,11 +1,14 @@
-ghost use Rattle.std.specs.Prelude.{◌≡◌, ◌<◌, ◌+◌, if◌then◌else◌, is_ok, None, IsSome, IfOk, IfErr, OnOk, OnErr};
+ghost use Rattle.std.specs.Prelude.{◌≡◌, ◌<◌, ◌+◌, if◌then◌else◌, is_ok, map, None, IsSome, IfOk, IfErr, OnOk, OnErr};
 ghost use Rattle.std.specs.Arc.{arc_value};
+ghost use Rattle.std.specs.Option.{ForSome};
 ghost use Rattle.sp_rows.specs.Rows as spec;
+ghost use Rattle.sp_rows.specs.Shapes.{column_of};
 
 use crate::cells::{Row, read_cells};
+use crate::columns::{Layout, Placed};
 use crate::fault::{RowError, RowFault, RowKind};
+use crate::progress::Progress;
 use crate::quoted::Record;
-use crate::reading::Reading;
 use sp_plan::{Event, Memory, Plan};
 use std::alloc::Global;
 use std::sync::Arc;
@@ -14,10 +17,15 @@ use std::sync::Arc;
 /// blank gives an event.
 #[derive(Drop)]
 pub struct Rows {
-    reading: Reading,
+    plan: Arc<Plan>,
+    places: Option<Vec<usize>>,
+    // The columns of the plan at these places, and none before the header.
+    columns: Vec<Placed>,
+    progress: Progress,
     // Room for the places of a row's cells, and for those of a row with quotes.
     nexts: Vec<usize>,
     record: Record,
+    ghost placed: { ForSome places (λ own. map column_of columns.items ≡ spec.columns_at (arc_value plan) own.items) },
 }
 
 impl Rows {
@@ -28,8 +36,12 @@ impl Rows {
         ensures plan { IfOk result (λ rows. plan_of rows ≡ arc_value plan) }
         ensures start { IfOk result (λ rows. read_of rows ≡ spec.start (arc_value plan)) }
     {
+        let progress = Progress::new(alloc, &plan)?;
         Ok(Rows {
-            reading: Reading::new(alloc, plan)?,
+            plan,
+            places: None,
+            columns: Vec::new(alloc),
+            progress,
             nexts: Vec::new(alloc),
             record: Record::new(alloc),
         })
@@ -68,15 +80,34 @@ impl Rows {
         ensures answers { Answers (spec.row_result (plan_of self.old) (read_of self.old) row.now)
             (read_of self.old) (read_of self.new) (given_as result event.new) }
     {
-        match read_cells(row, &mut self.nexts, &mut self.record) {
-            Err(_) => Err(RowError::Memory),
+        let cells = match read_cells(row, &mut self.nexts, &mut self.record) {
+            Err(_) => return Err(RowError::Memory),
             Ok(Row::Blank) => {
-                self.reading.pass();
+                self.progress.read += 1;
                 *event = None;
+                return Ok(());
+            }
+            Ok(Row::Several) => {
+                return Err(RowError::Fault(self.progress.refusal(RowKind::TwoRows, 0)));
+            }
+            Ok(Row::One(cells)) => cells,
+        };
+        if let Some(places) = &self.places {
+            let layout = Layout {
+                plan: &self.plan,
+                places,
+                columns: self.columns.as_slice(),
+            };
+            return self.progress.event(alloc, &cells, &layout, event);
+        }
+        *event = None;
+        match self.progress.header(alloc, &cells, &self.plan) {
+            Ok((places, columns)) => {
+                self.places = Some(places);
+                self.columns = columns;
                 Ok(())
             }
-            Ok(Row::One(cells)) => self.reading.row_of(alloc, &cells, event),
-            Ok(Row::Several) => Err(self.reading.refuse(RowKind::TwoRows)),
+            Err(error) => Err(error),
         }
     }
 
@@ -86,7 +117,7 @@ impl Rows {
         ensures headless { OnErr result ((read_of self.now).places ≡ None) }
         ensures fault { IfErr result (λ fault. fault ≡ no_header) }
     {
-        if self.reading.has_header() {
+        if self.places.is_some() {
             return Ok(());
         }
         Err(RowFault {

@@ -85,17 +85,6 @@ fn start_at(nexts: &[usize], place: usize) -> usize
     }
 }
 
-// The cell of a row that was cut at this place from 0.
-fn piece_at<'a>(row: &'a [u8], nexts: &[usize], place: usize) -> Option<&'a [u8]>
-    ensures { option_map (λ cell. cell.now) result
-        ≡ slice_get (plain.pieces row.now 0 nexts.now) place }
-{
-    match nexts.get(place) {
-        None => None,
-        Some(next) => Some(piece(row, start_at(nexts, place), *next)),
-    }
-}
-
 impl<'a> Fields<'a> {
     /// How many cells there are.
     pub(crate) fn len(&self) -> usize
@@ -108,6 +97,9 @@ impl<'a> Fields<'a> {
     pub(crate) fn get(&self, place: usize) -> Option<&'a [u8]>
         ensures { option_map (λ cell. cell.now) result ≡ slice_get (fields_in self.now) place }
     {
-        piece_at(self.row, self.nexts, place)
+        match self.nexts.get(place) {
+            None => None,
+            Some(next) => Some(piece(self.row, start_at(self.nexts, place), *next)),
+        }
     }
 }
