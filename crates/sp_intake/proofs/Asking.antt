@@ -5,21 +5,37 @@ use Rattle.sp_base.specs.Limits.{event_limit}
 use Rattle.sp_plan.specs.declared.event.Event.{Event}
 use Rattle.sp_plan.specs.declared.plan.Plan.{Plan}
 use Rattle.sp_ports.specs.Giving.{AreGood}
+use Rattle.sp_io.specs.Outside.{SourceState}
+use Rattle.sp_intake.specs.declared.events.State.{State}
 use Rattle.sp_intake.specs.declared.events.State.TheVariants.{Going}
 use Rattle.sp_intake.specs.Laws.{reads_more, gives_good, asked_gives}
 use Rattle.sp_intake.specs.Pieces.{TakesPiece, Asked, AskedSoFar, AsksFrom}
+use Rattle.sp_intake.specs.Reader.{Reader}
 use Rattle.sp_intake.specs.Reading.{Reading, read}
-use Rattle.sp_intake.specs.Standing.{Standing, IsHungry, Leads, Since, Reads, Gives, stop_in}
-use Rattle.sp_intake.proofs.Since.{settled_read, read_goes}
+use Rattle.sp_intake.specs.Standing.{Standing, going, IsHungry, Leads, Since, Reads, Gives, stop_in}
+use Rattle.sp_intake.proofs.Since.{settled_read, read_goes, reads_going}
 
 -- what is given of bytes that were there, behind what was given before
 pub reads_still : (a b c : Standing) (bytes : List ℕ) (xs ys : List Event) → length (xs ++ ys) ≤ event_limit → Reads a bytes xs b → Reads b [] ys c → Reads a bytes (xs ++ ys) c
 reads_still a b c bytes xs ys few one two =
     subst (λ (l : List ℕ). Reads a l (xs ++ ys) c) (append-nil bytes) (reads_more a b c bytes [] xs ys few one two)
 
+-- rows that gave nothing, and then one step more
+pub reads_step : (source : SourceState) (state next : State) (old new : Reader) (first : Standing) (events : List Event) → state ≡ Going → Reads first [] [] (record { source = source; state = state; reader = old })
+    → Reads (going source old) [] events (record { source = source; state = next; reader = new }) → Reads first [] events (record { source = source; state = next; reader = new })
+reads_step source state next old new first events is before told =
+    reads_still first (record { source = source; state = state; reader = old }) (record { source = source; state = next; reader = new }) [] [] events told.few before
+    (reads_going state is source old [] events (record { source = source; state = next; reader = new }) told)
+
+-- and the input goes on
+pub reads_further : (source : SourceState) (state next : State) (old new : Reader) (first : Standing) (events : List Event) → state ≡ Going → next ≡ Going → Reads first [] [] (record { source = source; state = state; reader = old })
+    → Reads (going source old) [] events (going source new) → Reads first [] events (record { source = source; state = next; reader = new })
+reads_further source state next old new first events is still before told =
+    reads_step source state next old new first events is before (subst (λ (s : State). Reads (going source old) [] events (record { source = source; state = s; reader = new })) (sym still) told)
+
 module _ (old here new : Standing) (before events : List Event) where
   -- more was given, and the source was not asked
-  pub asked_still : (more : List Event) → new.reader.kept.given ≤ event_limit → Reads here [] more new → Asked old before events here → Asked old before (events ++ more) new
+  pub asked_still : (more : List Event) → new.reader.given ≤ event_limit → Reads here [] more new → Asked old before events here → Asked old before (events ++ more) new
   asked_still more small reads (inl none) =
       let few : length (events ++ more) ≤ event_limit = omega (arith, length-append events more, none.1.count, reads.count, small) in
       inl (none.0, reads_still old here new [] events more few none.1 reads)
@@ -64,7 +80,7 @@ either_gives old before events new (inl asked) = asked_gives old before events n
 either_gives old before events new (inr asked) = asked_gives old events events new asked
 
 -- more was given, and the source was not asked
-pub either_still : (old here new : Standing) (before events more : List Event) → new.reader.kept.given ≤ event_limit → Reads here [] more new → Asked old before events here ⊎ Asked old events events here
+pub either_still : (old here new : Standing) (before events more : List Event) → new.reader.given ≤ event_limit → Reads here [] more new → Asked old before events here ⊎ Asked old events events here
     → Asked old before (events ++ more) new ⊎ Asked old events (events ++ more) new
 either_still old here new before events more small reads (inl asked) = inl (asked_still old here new before events more small reads asked)
 either_still old here new before events more small reads (inr asked) = inr (asked_still old here new events events more small reads asked)
@@ -105,7 +121,7 @@ asks_from q first since before events last asked = by asked
             piece = behind.piece;
             are = refl;
             short = behind.short;
-            goes_on = read_goes q behind.front before behind.between leads behind.hungry.settled behind.hungry.going behind.hungry.open_;
+            goes_on = read_goes q behind.front before behind.between leads behind.hungry.settled behind.hungry.open_;
           };
           are = ap (λ (r : Reading). r.events) (settled ∙ ap (read q behind.front) (leads.ended ∙ behind.hungry.open_));
         }

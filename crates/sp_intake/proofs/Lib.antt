@@ -3,8 +3,8 @@ pub mod FitReading
 pub mod Gave
 pub mod Growing
 pub mod Leading
-pub mod Putting
 pub mod Suiting
 pub mod Since
+pub mod Taking
 pub mod Asking
 pub mod Crossing

@@ -1,6 +1,6 @@
 -- What is read of a row suits the plan.
 use Rattle.std.proofs.Common.{◌≡◌, ℕ, List, [], ◌∷◌, length, refl, sym, ◌∙◌, ap, subst}
-use Rattle.std.specs.Prelude.{Option, Some, None, slice_get, IfSome}
+use Rattle.std.specs.Prelude.{Option, Some, None, slice_get}
 use Rattle.std.specs.Option.{option_map}
 use Rattle.sp_plan.specs.Compiled.{IsTimeOf}
 use Rattle.sp_plan.specs.declared.event.Event.{Event}
@@ -9,13 +9,12 @@ use Rattle.sp_plan.specs.declared.plan.Kind.{Kind}
 use Rattle.sp_plan.specs.declared.plan.Kind.TheVariants.{Int}
 use Rattle.sp_plan.specs.declared.plan.Plan.{Plan}
 use Rattle.sp_rows.specs.declared.rows.Rows.{Rows}
-use Rattle.sp_rows.specs.Progress.{read_of}
+use Rattle.sp_rows.specs.Progress.{plan_of, read_of}
 use Rattle.sp_rows.specs.Rows.{RowsRead, RowResult, nothing, event, row_result}
 use Rattle.sp_rows.proofs.FitEvents.{PlacesFit, GivesFit, row_fits}
-use Rattle.sp_intake.specs.declared.kept.Kept.{Kept}
 use Rattle.sp_intake.specs.Following.{ComeNext}
-use Rattle.sp_intake.specs.Kept.{plan_in, last_in, event_in, SuitsPlan}
 use Rattle.sp_intake.specs.Orderly.{none_next, one_next, same_next}
+use Rattle.sp_intake.specs.Reader.{last_of, SuitsPlan}
 
 time_is : (columns : List Column) (place : ℕ) (found : Option Column) → slice_get columns place ≡ found → option_map (λ column. column.kind) found ≡ Some Int → IsTimeOf columns (Some place)
 time_is columns place (Some column) is kind = (column, is, cc kind)
@@ -34,58 +33,50 @@ placed_of q None placed = tt
 placed_of q (Some places) placed = placed places refl
 
 -- what was read so far fits, with a plan that has the time
-pub suits_with : (kept : Kept) → IsTimeOf (plan_in kept).schema.columns (plan_in kept).schema.time → PlacesFit (plan_in kept) (read_of kept.rows).places → SuitsPlan kept
-suits_with kept timed placed = record {
-  timed = λ place is. timed_at (plan_in kept).schema.columns place (subst (IsTimeOf (plan_in kept).schema.columns) is timed);
-  placed = λ places is. subst (PlacesFit (plan_in kept)) is placed;
+pub suits_with : (rows : Rows) → IsTimeOf (plan_of rows).schema.columns (plan_of rows).schema.time → PlacesFit (plan_of rows) (read_of rows).places → SuitsPlan rows
+suits_with rows timed placed = record {
+  timed = λ place is. timed_at (plan_of rows).schema.columns place (subst (IsTimeOf (plan_of rows).schema.columns) is timed);
+  placed = λ places is. subst (PlacesFit (plan_of rows)) is placed;
 }
 
-pub suits_time : (kept : Kept) → SuitsPlan kept → IsTimeOf (plan_in kept).schema.columns (plan_in kept).schema.time
-suits_time kept suits = timed_of (plan_in kept).schema.columns (plan_in kept).schema.time suits.timed
+pub suits_time : (rows : Rows) → SuitsPlan rows → IsTimeOf (plan_of rows).schema.columns (plan_of rows).schema.time
+suits_time rows suits = timed_of (plan_of rows).schema.columns (plan_of rows).schema.time suits.timed
 
-pub suits_places : (kept : Kept) → SuitsPlan kept → PlacesFit (plan_in kept) (read_of kept.rows).places
-suits_places kept suits = placed_of (plan_in kept) (read_of kept.rows).places suits.placed
+pub suits_places : (rows : Rows) → SuitsPlan rows → PlacesFit (plan_of rows) (read_of rows).places
+suits_places rows suits = placed_of (plan_of rows) (read_of rows).places suits.placed
 
 -- the plan is the same, and the places fit it
-pub suits_as : (old new : Kept) → SuitsPlan old → plan_in new ≡ plan_in old → PlacesFit (plan_in old) (read_of new.rows).places → SuitsPlan new
+pub suits_as : (old new : Rows) → SuitsPlan old → plan_of new ≡ plan_of old → PlacesFit (plan_of old) (read_of new).places → SuitsPlan new
 suits_as old new suits plan placed =
-    suits_with new (subst (λ (q : Plan). IsTimeOf q.schema.columns q.schema.time) (sym plan) (suits_time old suits)) (subst (λ (q : Plan). PlacesFit q (read_of new.rows).places) (sym plan) placed)
+    suits_with new (subst (λ (q : Plan). IsTimeOf q.schema.columns q.schema.time) (sym plan) (suits_time old suits)) (subst (λ (q : Plan). PlacesFit q (read_of new).places) (sym plan) placed)
 
 -- what was read is the same
-pub suits_still : (old new : Kept) → SuitsPlan old → plan_in new ≡ plan_in old → read_of new.rows ≡ read_of old.rows → SuitsPlan new
+pub suits_still : (old new : Rows) → SuitsPlan old → plan_of new ≡ plan_of old → read_of new ≡ read_of old → SuitsPlan new
 suits_still old new suits plan is =
-    suits_as old new suits plan (subst (λ (r : RowsRead). PlacesFit (plan_in old) r.places) (sym is) (suits_places old suits))
+    suits_as old new suits plan (subst (λ (r : RowsRead). PlacesFit (plan_of old) r.places) (sym is) (suits_places old suits))
 
-module _ (old new : Kept) (suits : SuitsPlan old) (bytes : List ℕ) (given : RowResult) (is : row_result (plan_in old) (read_of old.rows) bytes ≡ given) where
-  gives_fit : GivesFit (plan_in old) (read_of old.rows) given
-  gives_fit = subst (GivesFit (plan_in old) (read_of old.rows)) is (row_fits (plan_in old) (suits_time old suits) (read_of old.rows) bytes (suits_places old suits))
+module _ (old new : Rows) (suits : SuitsPlan old) (bytes : List ℕ) (given : RowResult) (is : row_result (plan_of old) (read_of old) bytes ≡ given) where
+  gives_fit : GivesFit (plan_of old) (read_of old) given
+  gives_fit = subst (GivesFit (plan_of old) (read_of old)) is (row_fits (plan_of old) (suits_time old suits) (read_of old) bytes (suits_places old suits))
 
 -- a row that gives no event
-module _ (old new : Kept) (suits : SuitsPlan old) (bytes : List ℕ) (is : row_result (plan_in old) (read_of old.rows) bytes ≡ nothing (read_of new.rows)) where
-  pub nothing_suits : plan_in new ≡ plan_in old → SuitsPlan new
-  nothing_suits plan = suits_as old new suits plan (gives_fit old new suits bytes (nothing (read_of new.rows)) is).1
+module _ (old new : Rows) (suits : SuitsPlan old) (bytes : List ℕ) (is : row_result (plan_of old) (read_of old) bytes ≡ nothing (read_of new)) where
+  pub nothing_suits : plan_of new ≡ plan_of old → SuitsPlan new
+  nothing_suits plan = suits_as old new suits plan (gives_fit old new suits bytes (nothing (read_of new)) is).1
 
-  pub nothing_next : ComeNext (plan_in old) (last_in old) [] (last_in new)
-  nothing_next = same_next (plan_in old) (last_in old) (last_in new) (gives_fit old new suits bytes (nothing (read_of new.rows)) is).0
+  pub nothing_next : ComeNext (plan_of old) (last_of old) [] (last_of new)
+  nothing_next = same_next (plan_of old) (last_of old) (last_of new) (gives_fit old new suits bytes (nothing (read_of new)) is).0
 
 -- a row that gives an event
-module _ (old new : Kept) (suits : SuitsPlan old) (bytes : List ℕ) (e : Event) (is : row_result (plan_in old) (read_of old.rows) bytes ≡ event e (read_of new.rows)) where
-  pub event_suits : plan_in new ≡ plan_in old → SuitsPlan new
-  event_suits plan = suits_as old new suits plan (gives_fit old new suits bytes (event e (read_of new.rows)) is).3
+module _ (old new : Rows) (suits : SuitsPlan old) (bytes : List ℕ) (e : Event) (is : row_result (plan_of old) (read_of old) bytes ≡ event e (read_of new)) where
+  pub event_suits : plan_of new ≡ plan_of old → SuitsPlan new
+  event_suits plan = suits_as old new suits plan (gives_fit old new suits bytes (event e (read_of new)) is).3
 
-  pub event_next : ComeNext (plan_in old) (last_in old) (e ∷ []) (last_in new)
+  pub event_next : ComeNext (plan_of old) (last_of old) (e ∷ []) (last_of new)
   event_next =
-      let fit = gives_fit old new suits bytes (event e (read_of new.rows)) is in
-      one_next (plan_in old) (last_in old) (last_in new) e fit.0 fit.1 fit.2
+      let fit = gives_fit old new suits bytes (event e (read_of new)) is in
+      one_next (plan_of old) (last_of old) (last_of new) e fit.0 fit.1 fit.2
 
   -- the event is past the limit, and was not given
-  pub event_passed : ComeNext (plan_in old) (last_in old) [] (last_in new)
-  event_passed = let given = event_next in none_next (plan_in old) (last_in old) (last_in new) given.onward
-
-  -- the event is given or not
-  pub given_next : (after : Kept) (put given : Option Event) → put ≡ Some e → IfSome given (λ x. put ≡ Some x) → after.rows ≡ new.rows → ComeNext (plan_in old) (last_in old) (event_in given) (last_in after)
-  given_next after put None there same rows = subst (λ (r : Rows). ComeNext (plan_in old) (last_in old) [] (read_of r).last) (sym rows) event_passed
-  given_next after put (Some x) there same rows =
-      let is_it : x ≡ e = cc in
-      subst (λ (r : Rows). ComeNext (plan_in old) (last_in old) (x ∷ []) (read_of r).last) (sym rows)
-      (subst (λ (y : Event). ComeNext (plan_in old) (last_in old) (y ∷ []) (last_in new)) (sym is_it) event_next)
+  pub event_passed : ComeNext (plan_of old) (last_of old) [] (last_of new)
+  event_passed = let given = event_next in none_next (plan_of old) (last_of old) (last_of new) given.onward

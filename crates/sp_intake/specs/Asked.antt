@@ -2,14 +2,24 @@
 use Rattle.std.specs.Prelude.{◌≡◌, false}
 use Rattle.sp_io.specs.Outside.{SourceState}
 use Rattle.sp_plan.specs.declared.plan.Plan.{Plan}
+use Rattle.sp_rows.specs.Progress.{plan_of}
 use Rattle.sp_intake.specs.declared.events.EventReader.{EventReader}
 use Rattle.sp_intake.specs.declared.events.State.TheVariants.{Going}
 use Rattle.sp_intake.specs.Pieces.{AsksFrom}
+use Rattle.sp_intake.specs.Reader.{Reader}
 use Rattle.sp_intake.specs.Standing.{Standing, ReadsFrom, IsHungry}
+
+-- the plan whose columns are read
+abbrev pub plan_in : EventReader → Plan
+plan_in events = plan_of events.rows
+
+-- where it stands
+abbrev pub reader_of : EventReader → Reader
+reader_of events = record { cutter = events.cutter; rows = events.rows; count = events.count; given = events.given }
 
 -- how an input stands whose source is in this state
 abbrev pub standing : SourceState → EventReader → Standing
-standing source events = record { source = source; state = events.state; reader = events.reader }
+standing source events = record { source = source; state = events.state; reader = reader_of events }
 
 -- nothing was read yet: whatever source comes, what is given is read of it
 abbrev pub IsFresh : Plan → EventReader → Type 0
@@ -22,4 +32,4 @@ IsUnasked q events = (source : SourceState) → source.ended ≡ false → AsksF
 -- it goes on, and asks for bytes
 pub record IsAsking (events : EventReader) : Type 0 where
   pub going : events.state ≡ Going
-  pub hungry : IsHungry events.reader
+  pub hungry : IsHungry (reader_of events)

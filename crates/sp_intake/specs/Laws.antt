@@ -7,10 +7,11 @@ use Rattle.sp_base.specs.Limits.{event_limit}
 use Rattle.sp_plan.specs.declared.event.Event.{Event}
 use Rattle.sp_plan.specs.declared.plan.Plan.{Plan}
 use Rattle.sp_ports.specs.Giving.{AreGood}
+use Rattle.sp_rows.specs.Progress.{plan_of}
 use Rattle.sp_intake.specs.Following.{ComeNext}
-use Rattle.sp_intake.specs.Kept.{plan_in, last_in}
 use Rattle.sp_intake.specs.Orderly.{none_next, next_more}
 use Rattle.sp_intake.specs.Pieces.{Asked}
+use Rattle.sp_intake.specs.Reader.{last_of}
 use Rattle.sp_intake.specs.Standing.{Standing, Since, Reads, Gives}
 
 pub reads_none : (now : Standing) → Reads now [] [] now
@@ -18,7 +19,7 @@ reads_none now = record {
   plan = refl;
   count = omega arith;
   few = omega arith;
-  next = none_next (plan_in now.reader.kept) (last_in now.reader.kept) (last_in now.reader.kept) (omega (arith, ints));
+  next = none_next (plan_of now.reader.rows) (last_of now.reader.rows) (last_of now.reader.rows) (omega (arith, ints));
   since = λ q origin taken first since.
       subst (λ (bytes : List ℕ). Since q origin bytes (first ++ []) now) (sym (append-nil taken))
       (subst (λ (events : List Event). Since q origin taken events now) (sym (append-nil first)) since);
@@ -30,8 +31,8 @@ reads_more a b c front piece xs ys few one two = record {
   plan = two.plan ∙ one.plan;
   count = omega (arith, length-append xs ys, one.count, two.count);
   few = few;
-  next = next_more (plan_in a.reader.kept) (last_in a.reader.kept) (last_in b.reader.kept) (last_in c.reader.kept) xs ys one.next
-      (subst (λ (q : Plan). ComeNext q (last_in b.reader.kept) ys (last_in c.reader.kept)) one.plan two.next);
+  next = next_more (plan_of a.reader.rows) (last_of a.reader.rows) (last_of b.reader.rows) (last_of c.reader.rows) xs ys one.next
+      (subst (λ (q : Plan). ComeNext q (last_of b.reader.rows) ys (last_of c.reader.rows)) one.plan two.next);
   since = λ q origin taken first since.
       subst (λ (bytes : List ℕ). Since q origin bytes (first ++ (xs ++ ys)) c) (append_assoc taken front piece)
       (subst (λ (events : List Event). Since q origin ((taken ++ front) ++ piece) events c) (append_assoc first xs ys)
@@ -41,7 +42,7 @@ reads_more a b c front piece xs ys few one two = record {
 pub gives_none : (now : Standing) → Gives now [] now
 gives_none now = ([], reads_none now)
 
-pub gives_good : (old new : Standing) (events : List Event) → Gives old events new → AreGood (plan_in old.reader.kept) events
+pub gives_good : (old new : Standing) (events : List Event) → Gives old events new → AreGood (plan_of old.reader.rows) events
 gives_good old new events gives = record { good = (gives.1.next.fit, gives.1.next.ordered); few = gives.1.few }
 
 pub asked_none : (now : Standing) → Asked now [] [] now

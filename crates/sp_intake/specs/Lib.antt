@@ -1,5 +1,5 @@
 pub mod Reading
-pub mod Kept
+pub mod Reader
 pub mod Following
 pub mod Orderly
 pub mod Coming

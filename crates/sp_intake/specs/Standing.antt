@@ -8,17 +8,17 @@ use Rattle.sp_plan.specs.declared.event.Event.{Event}
 use Rattle.sp_plan.specs.declared.plan.Plan.{Plan}
 use Rattle.sp_ports.specs.Giving.{AreGood}
 use Rattle.sp_ports.specs.Stopping.{is_end}
+use Rattle.sp_rows.specs.Progress.{plan_of}
 use Rattle.sp_intake.specs.declared.events.State.{State}
 use Rattle.sp_intake.specs.declared.events.State.TheVariants.{Going, Stopped, Broken}
-use Rattle.sp_intake.specs.declared.step.Step.{Step}
-use Rattle.sp_intake.specs.declared.step.Step.TheVariants as step
+use Rattle.sp_intake.specs.declared.events.Step.{Step}
+use Rattle.sp_intake.specs.declared.events.Step.TheVariants as step
 use Rattle.sp_ports.specs.declared.stop.Stop.{Stop}
 use Rattle.sp_ports.specs.declared.stop.Stop.TheVariants.{Open}
-use Rattle.sp_intake.specs.declared.reader.Reader.{Reader}
 use Rattle.sp_intake.specs.Coming.{comes_to, ends_as, IsSettled}
 use Rattle.sp_intake.specs.Following.{ComeNext}
 use Rattle.sp_intake.specs.Intake.{TakesNoFurther}
-use Rattle.sp_intake.specs.Kept.{plan_in, last_in, event_in}
+use Rattle.sp_intake.specs.Reader.{Reader, last_of, event_in}
 use Rattle.sp_intake.specs.Reading.{read, stop_of}
 
 -- an input, its source seen by its state
@@ -26,6 +26,10 @@ pub record Standing : Type 0 where
   pub source : SourceState
   pub state : State
   pub reader : Reader
+
+-- an input that goes on
+abbrev pub going : SourceState → Reader → Standing
+going source reader = record { source = source; state = Going; reader = reader }
 
 -- why an input gives no more, where it stopped
 abbrev pub stop_in : State → Option Stop
@@ -62,23 +66,23 @@ pub record ReadSoFar (q : Plan) (before after : SourceState) (events : List Even
 
 -- an input that goes on leads where the bytes taken do, with all that may come
 pub record Leads (q : Plan) (taken : List ℕ) (events : List Event) (now : Standing) : Type 0 where
-  pub count : now.reader.kept.given ≡ length events
+  pub count : now.reader.given ≡ length events
   pub ended : now.source.ended ≡ now.reader.cutter.ended
   pub coming : now.reader.cutter.ended ≡ false → (more : List ℕ) (ended : Bool) → comes_to events now.reader more ended ≡ read q (taken ++ more) ended
   pub ends : now.reader.cutter.ended ≡ true → ends_as events now.reader ≡ read q taken true
 
 -- since its source stood so an input has taken these bytes, and given these events
 pub record Since (q : Plan) (origin : SourceState) (taken : List ℕ) (events : List Event) (now : Standing) : Type 0 where
-  pub plan : plan_in now.reader.kept ≡ q
+  pub plan : plan_of now.reader.rows ≡ q
   pub has : HasRead q origin now.source taken events (stop_in now.state)
   pub leads : now.state ≡ Going → Leads q taken events now
 
 -- From one standing to another an input took these bytes of its source and gave these events: whatever it was read from before, these come behind those.
 pub record Reads (old : Standing) (bytes : List ℕ) (events : List Event) (new : Standing) : Type 0 where
-  pub plan : plan_in new.reader.kept ≡ plan_in old.reader.kept
-  pub count : new.reader.kept.given ≡ old.reader.kept.given + length events
+  pub plan : plan_of new.reader.rows ≡ plan_of old.reader.rows
+  pub count : new.reader.given ≡ old.reader.given + length events
   pub few : length events ≤ event_limit
-  pub next : ComeNext (plan_in old.reader.kept) (last_in old.reader.kept) events (last_in new.reader.kept)
+  pub next : ComeNext (plan_of old.reader.rows) (last_of old.reader.rows) events (last_of new.reader.rows)
   pub since : (q : Plan) (origin : SourceState) (taken : List ℕ) (first : List Event) → Since q origin taken first old → Since q origin (taken ++ bytes) (first ++ events) new
 
 -- from one standing to another an input gave these events
@@ -89,24 +93,38 @@ Gives old events new = (bytes : List ℕ) × Reads old bytes events new
 abbrev pub ReadsFrom : Plan → SourceState → Standing → Type 0
 ReadsFrom q before first = (events : List Event) (last : Standing) → Gives first events last → ReadSoFar q before last.source events (stop_in last.state)
 
+-- the event that was put in, where a step gives one
+abbrev pub given_by : Step → Option Event → List Event
+given_by step.Event given = event_in given
+given_by (step.Stop stop) given = []
+given_by step.Ask given = []
+
+-- and where memory did not run out
+abbrev pub given_in : Result Step AllocError → Option Event → List Event
+given_in (Ok told) given = given_by told given
+given_in (Err e) given = []
+
 -- how an input stands behind a step
-abbrev pub state_after : Result Step AllocError → State
-state_after (Ok step.Event) = Going
-state_after (Ok (step.Stop stop)) = Stopped stop
-state_after (Ok step.Ask) = Going
+abbrev pub state_by : Step → State
+state_by step.Event = Going
+state_by (step.Stop stop) = Stopped stop
+state_by step.Ask = Going
+
+-- behind a row, or where none is left: a row that gives no event is no step
+abbrev pub state_after : Result (Option Step) AllocError → State
+state_after (Ok None) = Going
+state_after (Ok (Some told)) = state_by told
 state_after (Err e) = Broken
 
--- the event that a step gives, which was put in, if it gives one
-abbrev pub given_in : Result Step AllocError → Option Event → List Event
-given_in (Ok step.Event) given = event_in given
-given_in (Ok (step.Stop stop)) given = []
-given_in (Ok step.Ask) given = []
-given_in (Err e) given = []
+-- the event that a row gives, which was put in, if it gives one
+abbrev pub given_after : Result (Option Step) AllocError → Option Event → List Event
+given_after (Ok None) given = []
+given_after (Ok (Some told)) given = given_by told given
+given_after (Err e) given = []
 
 -- no row is left, and the input may go on
 pub record IsHungry (reader : Reader) : Type 0 where
   pub settled : IsSettled reader
-  pub going : reader.kept.stopped ≡ None
   pub open_ : reader.cutter.ended ≡ false
 
 -- what a call of a source that had not ended did: the first bytes of a buffer are those that it gave

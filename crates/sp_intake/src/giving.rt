@@ -4,9 +4,8 @@ ghost use Rattle.sp_intake.specs.Pieces.{TakesPiece, Asked};
 ghost use Rattle.sp_intake.specs.Asked.{standing, IsAsking};
 ghost use Rattle.sp_intake.specs.ReadAll.{ReadsAll};
 
-use crate::events::EventReader;
+use crate::events::{EventReader, Step};
 use crate::input::InputEvents;
-use crate::step::Step;
 use sp_base::limits::PIECE_LIMIT;
 use sp_io::Source;
 use sp_plan::Memory;
@@ -84,9 +83,9 @@ impl<'a, S: Source> Input<'a, S> {
 
 impl<'a, S: Source> Intake for Input<'a, S> {
     ghost use Rattle.sp_intake.specs.Laws as law;
-    ghost use Rattle.sp_intake.specs.Kept.{plan_in};
+    ghost use Rattle.sp_intake.specs.Asked.{plan_in};
 
-    ghost plan = { λ input. plan_in input.events.reader.kept };
+    ghost plan = { λ input. plan_in input.events };
 
     ghost token = { λ input. input.source.ghost_name };
 

@@ -6,9 +6,6 @@
 mod events;
 mod giving;
 mod input;
-mod kept;
-mod reader;
-mod step;
 
 pub use events::EventReader;
 pub use giving::Input;

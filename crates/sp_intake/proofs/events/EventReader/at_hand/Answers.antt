@@ -2,7 +2,7 @@ use Rattle.std.proofs.Common.{[], subst}
 use Rattle.std.specs.Prelude.{Option}
 use Rattle.sp_plan.specs.declared.event.Event.{Event}
 use Rattle.sp_intake.specs.Asked.{standing}
-use Rattle.sp_intake.specs.Kept.{event_in}
+use Rattle.sp_intake.specs.Reader.{event_in}
 use Rattle.sp_intake.specs.Standing.{Reads}
 use Rattle.sp_intake.proofs.events.EventReader.at_hand.Goals as goal
 

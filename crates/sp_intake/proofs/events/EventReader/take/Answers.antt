@@ -4,6 +4,7 @@ use Rattle.std.specs.declared.alloc.AllocError.{AllocError}
 use Rattle.sp_io.specs.Outside.{Gave}
 use Rattle.sp_intake.specs.declared.events.State.TheVariants.{Stopped, Broken}
 use Rattle.sp_ports.specs.declared.stop.Stop.TheVariants.{Open}
+use Rattle.sp_intake.specs.Asked.{reader_of}
 use Rattle.sp_intake.proofs.Since.{few_taken, reads_open, reads_piece, reads_lost, reads_end, reads_going, reads_on}
 use Rattle.sp_intake.proofs.events.EventReader.take.Goals as goal
 
@@ -15,7 +16,7 @@ where_ok (Err e) done p = absurd (cc done)
 pub returns-in-Ok-eq0-clause-takes : goal.returns-in-Ok-eq0-clause-takes
 returns-in-Ok-eq0-clause-takes c before next was =
     let at = c.requires.asks in
-    let reader = c.args.self.now.reader in
+    let reader = reader_of c.args.self.now in
     let is = c.in-Ok-eq0.is in
     let none : c.in-Ok-eq0.field-0 ≡ 0 = search rules in
     let bytes : Gave before.left (take c.in-Ok-eq0.field-0 c.args.buffer.now) next.left = rw is at was.bytes in
@@ -25,14 +26,14 @@ returns-in-Ok-eq0-clause-takes c before next was =
     record {
       piece = [];
       short = omega arith;
-      reads = reads_on c.args.self.now.state at.going before next reader c.end.new.self [] []
-          (reads_end before next reader at.hungry.settled at.hungry.going at.hungry.open_ c.end.new.self c.end.ensures.kept gave (ended none) quiet c.end.ensures.ended c.end.ensures.ends);
+      reads = reads_on c.args.self.now.state at.going before next reader (record reader { cutter = c.end.new.self }) [] []
+          (reads_end before next reader at.hungry.settled at.hungry.open_ c.end.new.self c.end.ensures gave (ended none) quiet);
     }
 
 pub returns-then-is_err-clause-takes : goal.returns-then-is_err-clause-takes
 returns-then-is_err-clause-takes c before next was =
     let at = c.requires.asks in
-    let reader = c.args.self.now.reader in
+    let reader = reader_of c.args.self.now in
     let is = c.in-Ok.is in
     let bytes : Gave before.left (take c.in-Ok.count c.args.buffer.now) next.left = rw is at was.bytes in
     let goes_on = rw is at was.goes_on in
@@ -44,14 +45,14 @@ returns-then-is_err-clause-takes c before next was =
     record {
       piece = piece;
       short = short;
-      reads = reads_going c.args.self.now.state at.going before reader piece [] (record { source = next; state = Broken; reader = c.feed.new.self })
-          (reads_lost before next reader at.hungry.settled at.hungry.going at.hungry.open_ piece short bytes (goes_on some) quiet c.feed.new.self c.feed.ensures.kept);
+      reads = reads_going c.args.self.now.state at.going before reader piece [] (record { source = next; state = Broken; reader = record reader { cutter = c.feed.new.self } })
+          (reads_lost before next reader at.hungry.settled at.hungry.open_ piece short bytes (goes_on some) quiet c.feed.new.self);
     }
 
 pub returns-else-is_err-clause-takes : goal.returns-else-is_err-clause-takes
 returns-else-is_err-clause-takes c before next was =
     let at = c.requires.asks in
-    let reader = c.args.self.now.reader in
+    let reader = reader_of c.args.self.now in
     let is = c.in-Ok.is in
     let bytes : Gave before.left (take c.in-Ok.count c.args.buffer.now) next.left = rw is at was.bytes in
     let goes_on = rw is at was.goes_on in
@@ -64,15 +65,14 @@ returns-else-is_err-clause-takes c before next was =
     record {
       piece = piece;
       short = short;
-      reads = reads_on c.args.self.now.state at.going before next reader c.feed.new.self piece []
-          (reads_piece before next reader at.hungry.settled at.hungry.going at.hungry.open_ piece short bytes (goes_on some) quiet c.feed.new.self c.feed.ensures.kept
-          (where_ok c.feed.result done c.feed.ensures.open) (where_ok c.feed.result done c.feed.ensures.leads));
+      reads = reads_on c.args.self.now.state at.going before next reader (record reader { cutter = c.feed.new.self }) piece []
+          (reads_piece before next reader at.hungry.settled at.hungry.open_ piece short bytes (goes_on some) quiet c.feed.new.self (where_ok c.feed.result done c.feed.ensures.fed));
     }
 
 pub returns-in-Err-clause-takes : goal.returns-in-Err-clause-takes
 returns-in-Err-clause-takes c before next was =
     let at = c.requires.asks in
-    let reader = c.args.self.now.reader in
+    let reader = reader_of c.args.self.now in
     let is = c.in-Err.is in
     let untaken = rw is at was.untaken in
     let failed = rw is at was.failed_before_end in
@@ -81,5 +81,5 @@ returns-in-Err-clause-takes c before next was =
       piece = [];
       short = omega arith;
       reads = reads_going c.args.self.now.state at.going before reader [] [] (record { source = next; state = Stopped Open; reader = reader })
-          (reads_open before next reader at.hungry.settled at.hungry.going at.hungry.open_ untaken failed fault was.never_falls);
+          (reads_open before next reader at.hungry.settled at.hungry.open_ untaken failed fault was.never_falls);
     }

@@ -1,9 +1,9 @@
 use Rattle.std.proofs.Common.{◌≡◌, [], ◌∷◌, ◌++◌, Ok, refl, sym, ◌∙◌, ap, subst}
 use Rattle.std.specs.Prelude.{Option}
 use Rattle.sp_plan.specs.declared.event.Event.{Event}
-use Rattle.sp_intake.specs.declared.step.Step.{Step}
+use Rattle.sp_intake.specs.declared.events.Step.{Step}
 use Rattle.sp_intake.specs.Asked.{standing}
-use Rattle.sp_intake.specs.Kept.{event_in}
+use Rattle.sp_intake.specs.Reader.{event_in}
 use Rattle.sp_intake.specs.Standing.{Gives, Reads}
 use Rattle.sp_intake.proofs.AllGiven.{short_all}
 use Rattle.sp_intake.proofs.Since.{gives_more, gives_still}
