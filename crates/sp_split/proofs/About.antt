@@ -12,6 +12,7 @@ use mathlib.Core.List.{IsPrefix}
 use Rattle.sp_hub.specs.History.{is_take_by, IsLegal, taken, posted}
 use Rattle.sp_core.specs.Running.{Running}
 use Rattle.sp_ports.specs.Taking.{OutletState}
+use Rattle.sp_ports.specs.declared.stop.Stop.{Stop}
 use Rattle.sp_spread.specs.Journaled.{MakesNoChild}
 use Rattle.sp_spread.specs.Laws.{ReturnsFollowReadings}
 use Rattle.sp_split.specs.Driving.{CameAbout, FellShort, seats_for}
@@ -77,7 +78,7 @@ fell_at_once gave ended q s given = record {
 }
 
 -- what was served, with what the hub did
-pub ends_with : {E : Type 0} (gave : List Event → Type 0) (ended : Bool) (stopped : Type 0) (n batch : ℕ) (c : Running) (old new : OutletState) (end : Result went.Went E) (collected : ℕ) (history : History)
+pub ends_with : {E : Type 0} (gave : List Event → Type 0) (ended : Bool) (stopped : Stop → Type 0) (n batch : ℕ) (c : Running) (old new : OutletState) (end : Result went.Went E) (collected : ℕ) (history : History)
     → Serves gave ended stopped n batch c old new end collected → 0 < n → WoundUp (n + 1) collected history → ReturnsFollowReadings
     → Ends gave ended stopped n batch c old new (ending history end)
 ends_with gave ended stopped n batch c old new (Ok w) collected history served some wound law = record {

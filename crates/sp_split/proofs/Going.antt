@@ -1,5 +1,5 @@
 -- What a run keeps, and what it ends with.
-use Rattle.std.proofs.Common.{◌≡◌, ℕ, zero, suc, ◌+◌, ◌-◌, ◌≤◌, Bool, true, false, List, [], ◌++◌, length, map, inl, inr, refl, sym, ◌∙◌, ap, subst, arith, append_assoc}
+use Rattle.std.proofs.Common.{◌≡◌, ℕ, zero, suc, ◌+◌, ◌-◌, ◌≤◌, Bool, true, false, List, [], ◌++◌, length, map, Option, inl, inr, refl, sym, ◌∙◌, ap, subst, arith, append_assoc}
 use Rattle.std.specs.Prelude.{slice_get}
 use Rattle.std.specs.List.{enumerate_from}
 use Rattle.std.proofs.lemmas.List.{append-nil}
@@ -17,6 +17,8 @@ use Rattle.sp_group.specs.declared.step.Entry.{Entry}
 use Rattle.sp_rules.specs.Schedules.{Reached}
 use Rattle.sp_window.specs.Laws.{FinishedStay}
 use Rattle.sp_ports.specs.Giving.{AreGood}
+use Rattle.sp_ports.specs.Stopping.{StoppedFor}
+use Rattle.sp_ports.specs.declared.stop.Stop.{Stop}
 use Rattle.sp_ports.specs.Taking.{OutletState, Took, TookFirst}
 use Rattle.sp_core.specs.Running.{Running, begun}
 use Rattle.sp_split.specs.declared.ended.Why.TheVariants as why
@@ -90,40 +92,47 @@ module _ (gave : List Event → Type 0) (first c d : Running) (old s t : OutletS
         (first_behind first.plan c.machine.emitted w.0 old s t going.took (subst (λ (q : Plan). TookFirst q w.0 s t) same w.2))
 
 -- why feeding ended, by what was told of an end and of a stop
-abbrev pub WasFed : Fed → Bool → Bool → Type 0 → Type 0
+abbrev pub WasFed : Fed → Bool → Bool → (Stop → Type 0) → Type 0
 WasFed f.More told all stopped = told ≡ false
 WasFed f.Dry told all stopped = told ≡ false
 WasFed f.End told all stopped = (told ≡ true) × (all ≡ true)
-WasFed f.Stop told all stopped = (told ≡ false) × stopped
+WasFed (f.Stop cause) told all stopped = (told ≡ false) × stopped cause
 
-pub was_fed : {A : Type 0} (ended : A → Bool) (stops : A → ℕ) (from now : A) (fed : Fed) (told : Bool) → IsFed ended stops from now fed told → WasFed fed told (ended now) (Rose (stops from) (stops now))
-was_fed ended stops from now f.More told is = is.0
-was_fed ended stops from now f.Dry told is = is.0
-was_fed ended stops from now f.End told is = is
-was_fed ended stops from now f.Stop told is = is
+pub was_fed : {A : Type 0} (ended : A → Bool) (stops : A → ℕ) (cause : A → Option Stop) (from now : A) (fed : Fed) (told : Bool) → IsFed ended stops cause from now fed told
+    → WasFed fed told (ended now) (StoppedFor stops cause from now)
+was_fed ended stops cause from now f.More told is = is.0
+was_fed ended stops cause from now f.Dry told is = is.0
+was_fed ended stops cause from now f.End told is = is
+was_fed ended stops cause from now (f.Stop reason) told is = is
 
 -- the end of input is told only where it was reached
-ends_fed : (fed : Fed) (ended all : Bool) (stopped : Type 0) → WasFed fed ended all stopped → ended ≡ true → all ≡ true
+ends_fed : (fed : Fed) (ended all : Bool) (stopped : Stop → Type 0) → WasFed fed ended all stopped → ended ≡ true → all ≡ true
 ends_fed f.More ended all stopped is told = absurd (cc)
 ends_fed f.Dry ended all stopped is told = absurd (cc)
 ends_fed f.End ended all stopped is told = is.1
-ends_fed f.Stop ended all stopped is told = let no = is.0 in absurd (cc)
+ends_fed (f.Stop cause) ended all stopped is told = let no = is.0 in absurd (cc)
 
 pub rose_from : (before old new : ℕ) → old ≡ before → Rose old new → Rose before new
 rose_from before old new same rose = subst (λ (n : ℕ). Rose n new) same rose
 
 -- an intake that went on since, and was fed so
-pub goes_fed : {A : Type 0} (ended : A → Bool) (stops : A → ℕ) (from mid now : A) (fed : Fed) (told : Bool) → GoesOn ended stops from mid → IsFed ended stops mid now fed told → IsFed ended stops from now fed told
-goes_fed ended stops from mid now f.More told on is = (is.0, (is.1.0 ∙ on.0, is.1.1 ∙ on.1))
-goes_fed ended stops from mid now f.Dry told on is = (is.0, (is.1.0 ∙ on.0, is.1.1 ∙ on.1))
-goes_fed ended stops from mid now f.End told on is = is
-goes_fed ended stops from mid now f.Stop told on is = (is.0, rose_from (stops from) (stops mid) (stops now) on.1 is.1)
+pub goes_fed : {A : Type 0} (ended : A → Bool) (stops : A → ℕ) (cause : A → Option Stop) (from mid now : A) (fed : Fed) (told : Bool) → GoesOn ended stops from mid → IsFed ended stops cause mid now fed told
+    → IsFed ended stops cause from now fed told
+goes_fed ended stops cause from mid now f.More told on is = (is.0, (is.1.0 ∙ on.0, is.1.1 ∙ on.1))
+goes_fed ended stops cause from mid now f.Dry told on is = (is.0, (is.1.0 ∙ on.0, is.1.1 ∙ on.1))
+goes_fed ended stops cause from mid now f.End told on is = is
+goes_fed ended stops cause from mid now (f.Stop reason) told on is = (is.0, (rose_from (stops from) (stops mid) (stops now) on.1 is.1.0, is.1.1))
 
 -- why feeding ended stays while nothing is fed
-pub fed_later : {A : Type 0} (ended : A → Bool) (stops : A → ℕ) (from now : A) (fed : Fed) (told later : Bool) → later ≡ told → IsFed ended stops from now fed told → IsFed ended stops from now fed later
-fed_later ended stops from now fed told later same is = subst (λ (b : Bool). IsFed ended stops from now fed b) (sym same) is
+pub fed_later : {A : Type 0} (ended : A → Bool) (stops : A → ℕ) (cause : A → Option Stop) (from now : A) (fed : Fed) (told later : Bool) → later ≡ told → IsFed ended stops cause from now fed told
+    → IsFed ended stops cause from now fed later
+fed_later ended stops cause from now fed told later same is = subst (λ (b : Bool). IsFed ended stops cause from now fed b) (sym same) is
 
-module _ (gave : List Event → Type 0) (all : Bool) (stopped : Type 0) (first c : Running) (old new : OutletState) (fed : Fed) (is : WasFed fed c.machine.ended all stopped)
+-- a run ended for one reason
+one_reason : (x y : Stop) → why.Stopped x ≡ why.Stopped y → x ≡ y
+one_reason x y same = cc
+
+module _ (gave : List Event → Type 0) (all : Bool) (stopped : Stop → Type 0) (first c : Running) (old new : OutletState) (fed : Fed) (is : WasFed fed c.machine.ended all stopped)
     (run : Ran gave first c) where
   ends : c.machine.ended ≡ true → all ≡ true
   ends = ends_fed fed c.machine.ended all stopped is
@@ -137,8 +146,8 @@ module _ (gave : List Event → Type 0) (all : Bool) (stopped : Type 0) (first c
     fed_are = run.fed_are;
     ends = ends;
     whole_input = λ no. absurd (cc);
-    stop = λ no. absurd (cc);
-    finished = λ no. elim no [ inl a ↦ absurd (cc) | inr b ↦ absurd (cc) ];
+    stop = λ cause no. absurd (cc);
+    finished = λ no. elim no [ inl a ↦ absurd (cc) | inr b ↦ absurd (cc b.1) ];
     refused = λ _. (rose, failed);
     short = λ no. absurd (cc);
     no_fault = λ no. absurd (no refl);
@@ -153,8 +162,8 @@ module _ (gave : List Event → Type 0) (all : Bool) (stopped : Type 0) (first c
     fed_are = run.fed_are;
     ends = ends;
     whole_input = λ no. absurd (cc);
-    stop = λ no. absurd (cc);
-    finished = λ no. elim no [ inl a ↦ absurd (cc) | inr b ↦ absurd (cc) ];
+    stop = λ cause no. absurd (cc);
+    finished = λ no. elim no [ inl a ↦ absurd (cc) | inr b ↦ absurd (cc b.1) ];
     refused = λ no. absurd (cc);
     short = λ _. took;
     no_fault = λ _. same;
@@ -173,7 +182,7 @@ module _ (gave : List Event → Type 0) (all : Bool) (stopped : Type 0) (first c
       fed_are = run.fed_are;
       ends = ends;
       whole_input = λ _. ended;
-      stop = λ no. absurd (cc);
+      stop = λ cause no. absurd (cc);
       finished = λ _. (finished_first, took);
       refused = λ no. absurd (cc);
       short = λ no. absurd (cc);
@@ -181,15 +190,15 @@ module _ (gave : List Event → Type 0) (all : Bool) (stopped : Type 0) (first c
     }
 
     -- the intake stopped before
-    pub drove_stopped : stopped → c.machine.ended ≡ false → Drove gave all stopped first old new (record { core = c; why = why.Stopped })
-    drove_stopped stops unended = record {
+    pub drove_stopped : (cause : Stop) → stopped cause → c.machine.ended ≡ false → Drove gave all stopped first old new (record { core = c; why = why.Stopped cause })
+    drove_stopped cause stops unended = record {
       plan = run.plan;
       bound = run.bound;
       given = run.given;
       fed_are = run.fed_are;
       ends = ends;
       whole_input = λ no. absurd (cc);
-      stop = λ _. (stops, unended);
+      stop = λ other same. (subst stopped (one_reason cause other same) stops, unended);
       finished = λ _. (finished_first, took);
       refused = λ no. absurd (cc);
       short = λ no. absurd (cc);

@@ -8,6 +8,7 @@ use Rattle.sp_plan.specs.declared.found.Match.{Match}
 use Rattle.sp_plan.specs.declared.plan.Plan.{Plan}
 use Rattle.sp_ports.specs.Taking.{OutletState, Took, TookFirst}
 use Rattle.sp_ports.specs.declared.outlet.OutFault.{OutFault}
+use Rattle.sp_ports.specs.declared.stop.Stop.{Stop}
 use Rattle.sp_ports.specs.declared.outlet.OutFault.TheVariants as o
 use Rattle.sp_core.specs.Running.{Running}
 use Rattle.sp_split.specs.declared.ended.Why.{Why}
@@ -78,7 +79,7 @@ put_on A fed (Ok x) all goes_on a = a
 put_on A fed (Err o.Failed) all goes_on a = absurd (cc goes_on)
 put_on A fed (Err o.Memory) all goes_on a = absurd (cc goes_on)
 
-module _ (gave : List Event → Type 0) (whole : Bool) (stopped : Type 0) (first last : Running) (old new : OutletState) where
+module _ (gave : List Event → Type 0) (whole : Bool) (stopped : Stop → Type 0) (first last : Running) (old new : OutletState) where
   pub going_on : {T : Type 0} (fed : Fed) (put : Result T OutFault) (all : Bool) → None ≡ why_over fed put all → AfterTurn gave first last old new put → Going gave first last old new
   going_on fed (Ok x) all goes_on b = record { run = b.run; took = b.took; no_fault = b.no_fault (λ no. cc no) }
   going_on fed (Err o.Failed) all goes_on b = absurd (cc goes_on)
@@ -95,9 +96,9 @@ module _ (gave : List Event → Type 0) (whole : Bool) (stopped : Type 0) (first
   drove_fed f.End w over is run finished took quiet =
       let same : w ≡ why.Whole = cc over in
       subst Ends (sym same) (drove_whole gave whole stopped first last old new f.End is run finished took quiet is.0)
-  drove_fed f.Stop w over is run finished took quiet =
-      let same : w ≡ why.Stopped = cc over in
-      subst Ends (sym same) (drove_stopped gave whole stopped first last old new f.Stop is run finished took quiet is.1 is.0)
+  drove_fed (f.Stop cause) w over is run finished took quiet =
+      let same : w ≡ why.Stopped cause = cc over in
+      subst Ends (sym same) (drove_stopped gave whole stopped first last old new (f.Stop cause) is run finished took quiet cause is.1 is.0)
 
   drove_if : (fed : Fed) (all : Bool) (w : Why) → Some w ≡ cond all (why_fed fed) None → WasFed fed last.machine.ended whole stopped → Ran gave first last → (all ≡ true → AllFinished last)
       → Took first.plan last.machine.emitted old new → new.faults ≡ old.faults → Ends w

@@ -6,7 +6,7 @@ use Rattle.std.proofs.Common.{◌≡◌, ◌⊎◌, ⊎_elim, inl, inr, ℕ, Boo
 use Rattle.std.proofs.lemmas.List.{append-nil}
 use Rattle.std.proofs.lemmas.List.Elements.{filter_map-append}
 use Rattle.std.proofs.lemmas.Option.{none-some, same_Some}
-use Rattle.sp_io.specs.Outside.{Grew, Rose}
+use Rattle.sp_io.specs.Outside.{Grew}
 use Rattle.sp_io.proofs.Grew.{grew_none, grew_more}
 use Rattle.sp_plan.specs.declared.event.Event.{Event}
 use Rattle.sp_plan.specs.declared.found.Match.{Match}
@@ -19,6 +19,8 @@ use Rattle.sp_plan.specs.Sequential.{seq, whole}
 use Rattle.sp_plan.specs.Windows.{Window, closed, spans, windows_by}
 use Rattle.sp_rules.specs.Schedules.{Reached}
 use Rattle.sp_ports.specs.Taking.{OutletState, Took, TookFirst}
+use Rattle.sp_ports.specs.Stopping.{StoppedFor}
+use Rattle.sp_ports.specs.declared.stop.Stop.{Stop}
 use Rattle.sp_ports.specs.declared.outlet.OutFault.{OutFault}
 use Rattle.sp_ports.specs.declared.outlet.OutFault.TheVariants as o
 use Rattle.sp_core.specs.Running.{Running, begun}
@@ -192,9 +194,9 @@ behind_round asks from now later first c mid d old s t p put was on all done fai
     (behind_on asks from now later first.plan c.machine.events mid.machine.events (AllFinished c × (c.machine.ended ≡ false)) old s t was on all (grew_put put mid d p s t done failed short))
 
 -- before the first round
-pub going_first : {A : Type 0} (gave : A → List Event → A → Type 0) (asks : A → List Event → List Event → A → Type 0) (ended : A → Bool) (stops : A → ℕ) (a : A) (c : Running) (s : OutletState) → c ≡ begun c.plan c.bound
-    → gave a [] a → asks a [] [] a → IsGoing gave asks ended stops a a c c s s f.More
-going_first gave asks ended stops a c s fresh given none = record {
+pub going_first : {A : Type 0} (gave : A → List Event → A → Type 0) (asks : A → List Event → List Event → A → Type 0) (ended : A → Bool) (stops : A → ℕ) (cause : A → Option Stop) (a : A) (c : Running) (s : OutletState)
+    → c ≡ begun c.plan c.bound → gave a [] a → asks a [] [] a → IsGoing gave asks ended stops cause a a c c s s f.More
+going_first gave asks ended stops cause a c s fresh given none = record {
   going = going_none (λ events. gave a events a) c s fresh given;
   fed_so = (unended_first c fresh, (refl, refl));
   behind = subst (λ (d : Running). AskedBehind (asks a) a c.plan d.machine.events s s) (sym fresh) (behind_none (asks a) a c.plan s none);
@@ -205,12 +207,12 @@ if_some P None f = tt
 if_some P (Some w) f = f w refl
 
 -- a run that is given up
-pub going_stops : {A : Type 0} (gave : A → List Event → A → Type 0) (asks : A → List Event → List Event → A → Type 0) (ended : A → Bool) (stops : A → ℕ) (from now : A) (first c : Running) (old new : OutletState) (last : Fed)
-    → IsGoing gave asks ended stops from now first c old new last
-    → Drove (λ events. gave from events now) (ended now) (Rose (stops from) (stops now)) first old new (record { core = c; why = why.Memory })
-going_stops gave asks ended stops from now first c old new last is =
+pub going_stops : {A : Type 0} (gave : A → List Event → A → Type 0) (asks : A → List Event → List Event → A → Type 0) (ended : A → Bool) (stops : A → ℕ) (cause : A → Option Stop) (from now : A) (first c : Running)
+    (old new : OutletState) (last : Fed) → IsGoing gave asks ended stops cause from now first c old new last
+    → Drove (λ events. gave from events now) (ended now) (StoppedFor stops cause from now) first old new (record { core = c; why = why.Memory })
+going_stops gave asks ended stops cause from now first c old new last is =
     let emitted = c.machine.emitted in
-    drove_short (λ events. gave from events now) (ended now) (Rose (stops from) (stops now)) first c old new last (was_fed ended stops from now last c.machine.ended is.fed_so) is.going.run
+    drove_short (λ events. gave from events now) (ended now) (StoppedFor stops cause from now) first c old new last (was_fed ended stops cause from now last c.machine.ended is.fed_so) is.going.run
     (took_first first.plan emitted [] emitted old new (sym (append-nil emitted)) is.going.took) is.going.no_fault
 
 pub if_some_at : {W : Type 0} (P : W → Type 0) (o : Option W) (w : W) → o ≡ Some w → IfSome o P → P w

@@ -14,6 +14,7 @@ use Rattle.sp_hub.specs.History.{is_call, is_take_by, IsLegal}
 use Rattle.sp_group.specs.Steps.{Spread, out_count}
 use Rattle.sp_core.specs.Running.{Running}
 use Rattle.sp_ports.specs.Taking.{OutletState, Took, TookFirst, FailedAt}
+use Rattle.sp_ports.specs.declared.stop.Stop.{Stop}
 use Rattle.sp_split.specs.declared.ended.Went.{Went}
 use Rattle.sp_split.specs.declared.ended.Why.TheVariants as why
 use Rattle.sp_spread.specs.Journaled.{fed, returns_read, MakesNoChild}
@@ -28,8 +29,8 @@ pub record FailedWithin (q : Plan) (matches : List Match) (old new : OutletState
   pub failed : FailedAt q first found old new
 
 -- A run of a core over what an intake gave. `gave` says which events it gave in the run, `ended` whether the end of its input was
--- reached, and `stopped` that its count of stops rose.
-pub record Drove (gave : List Event → Type 0) (ended : Bool) (stopped : Type 0) (c : Running) (old new : OutletState) (end : Went) : Type 0 where
+-- reached, and `stopped` that it stopped before, for this reason.
+pub record Drove (gave : List Event → Type 0) (ended : Bool) (stopped : Stop → Type 0) (c : Running) (old new : OutletState) (end : Went) : Type 0 where
   pub plan : end.core.plan ≡ c.plan
   pub bound : end.core.bound ≡ c.bound
   -- what was fed is what the intake gave, in its order
@@ -38,9 +39,10 @@ pub record Drove (gave : List Event → Type 0) (ended : Bool) (stopped : Type 0
   -- input has ended only where the intake reached its end
   pub ends : end.core.machine.ended ≡ true → ended ≡ true
   pub whole_input : end.why ≡ why.Whole → end.core.machine.ended ≡ true
-  pub stop : end.why ≡ why.Stopped → stopped × (end.core.machine.ended ≡ false)
+  -- it ended for the reason for which the intake stopped
+  pub stop : (cause : Stop) → end.why ≡ why.Stopped cause → stopped cause × (end.core.machine.ended ≡ false)
   -- every closed window is finished, and all that was emitted was taken
-  pub finished : (end.why ≡ why.Whole) ⊎ (end.why ≡ why.Stopped)
+  pub finished : (end.why ≡ why.Whole) ⊎ ((cause : Stop) × (end.why ≡ why.Stopped cause))
       → (end.core.machine.finished ≡ closed c.plan end.core.machine.events end.core.machine.ended) × Took c.plan end.core.machine.emitted old new
   -- the outlet failed at a match, and no further one was put
   pub refused : end.why ≡ why.Refused → Rose old.faults new.faults × FailedWithin c.plan end.core.machine.emitted old new

@@ -13,6 +13,7 @@ use Rattle.sp_piece.specs.declared.job.Job.{Job}
 use Rattle.sp_group.specs.Steps.{Spread, out_count}
 use Rattle.sp_core.specs.Running.{Running, begun}
 use Rattle.sp_ports.specs.Taking.{OutletState}
+use Rattle.sp_ports.specs.declared.stop.Stop.{Stop}
 use Rattle.sp_spread.specs.Journaled.{readings_entered}
 use Rattle.sp_spread.specs.Limiting.{AsksAtMost, NeverMore}
 use Rattle.sp_splitter.specs.Splitting.{IsBelowKept}
@@ -86,7 +87,7 @@ pub record WoundUp (seats collected : ℕ) (h : History) : Type 0 where
   pub over : (seat : ℕ) → 0 < seat → seat < seats → Contains h.over seat
 
 -- A splitter served n instances by a batch, and ended so, and its poster collected so many tickets.
-pub record Serves {E : Type 0} (gave : List Event → Type 0) (ended : Bool) (stopped : Type 0) (n batch : ℕ) (c : Running) (old new : OutletState) (end : Result went.Went E) (collected : ℕ) : Type 0 where
+pub record Serves {E : Type 0} (gave : List Event → Type 0) (ended : Bool) (stopped : Stop → Type 0) (n batch : ℕ) (c : Running) (old new : OutletState) (end : Result went.Went E) (collected : ℕ) : Type 0 where
   pub drove : IfOk end (λ went. Drove gave ended stopped c old new went)
   pub came : IfOk end (λ went. CameBy n went.core collected)
   pub asked : IfOk end (λ went. AsksAtMost batch went.core.journal)
@@ -101,7 +102,7 @@ pub record MayServe (c : Running) (instances batch : ℕ) (kept : List Job) (by 
   pub outlet_plan : outlet ≡ c.plan
 
 -- A run with n instances, of which no lease asked for more events than so many, ended so, with what its hub did.
-pub record Ends {E : Type 0} (gave : List Event → Type 0) (ended : Bool) (stopped : Type 0) (n most : ℕ) (c : Running) (old new : OutletState) (end : Result ended_as.Ended E) : Type 0 where
+pub record Ends {E : Type 0} (gave : List Event → Type 0) (ended : Bool) (stopped : Stop → Type 0) (n most : ℕ) (c : Running) (old new : OutletState) (end : Result ended_as.Ended E) : Type 0 where
   pub drove : IfOk end (λ e. Drove gave ended stopped c old new (record { core = e.core; why = e.why }))
   pub about : IfOk end (λ e. CameAbout n e.core e.history)
   pub asked : IfOk end (λ e. AsksAtMost most e.core.journal)

@@ -1,5 +1,5 @@
 -- What the stages of a run do to a core.
-use Rattle.std.specs.Prelude.{◌≡◌, ◌⊎◌, ℕ, Bool, true, false, List, [], ◌∷◌, ◌++◌}
+use Rattle.std.specs.Prelude.{◌≡◌, ◌⊎◌, ℕ, Bool, true, false, List, [], ◌∷◌, ◌++◌, Option}
 use Rattle.sp_plan.specs.declared.event.Event.{Event}
 use Rattle.sp_plan.specs.declared.found.Match.{Match}
 use Rattle.sp_plan.specs.Windows.{closed}
@@ -7,9 +7,10 @@ use Rattle.sp_piece.specs.Pieced.{Pieced}
 use Rattle.sp_group.specs.Machine.{Ticket}
 use Rattle.sp_core.specs.Returning.{CanComeHome}
 use Rattle.sp_core.specs.Running.{Running}
-use Rattle.sp_io.specs.Outside.{Rose}
 use Rattle.sp_ports.specs.declared.intake.Next.{Next}
 use Rattle.sp_ports.specs.declared.intake.Next.TheVariants as next
+use Rattle.sp_ports.specs.declared.stop.Stop.{Stop}
+use Rattle.sp_ports.specs.Stopping.{StoppedFor}
 use Rattle.sp_split.specs.declared.feeding.Fed.{Fed}
 use Rattle.sp_split.specs.declared.feeding.Fed.TheVariants as f
 use Rattle.sp_split.specs.declared.turning.Turn.{Turn}
@@ -40,18 +41,18 @@ abbrev pub GoesOn : {A : Type 0} → (A → Bool) → (A → ℕ) → A → A �
 GoesOn ended stops from now = (ended now ≡ ended from) × (stops now ≡ stops from)
 
 -- Why feeding ended, and whether the core was told of an end: it may go on where the intake has neither ended nor stopped, whether more is at
--- hand or not; the end of the input was reached; or the intake stopped before.
-abbrev pub IsFed : {A : Type 0} → (A → Bool) → (A → ℕ) → A → A → Fed → Bool → Type 0
-IsFed ended stops from now f.More told = (told ≡ false) × GoesOn ended stops from now
-IsFed ended stops from now f.Dry told = (told ≡ false) × GoesOn ended stops from now
-IsFed ended stops from now f.End told = (told ≡ true) × (ended now ≡ true)
-IsFed ended stops from now f.Stop told = (told ≡ false) × Rose (stops from) (stops now)
+-- hand or not; the end of the input was reached; or the intake stopped before, for this reason.
+abbrev pub IsFed : {A : Type 0} → (A → Bool) → (A → ℕ) → (A → Option Stop) → A → A → Fed → Bool → Type 0
+IsFed ended stops cause from now f.More told = (told ≡ false) × GoesOn ended stops from now
+IsFed ended stops cause from now f.Dry told = (told ≡ false) × GoesOn ended stops from now
+IsFed ended stops cause from now f.End told = (told ≡ true) × (ended now ≡ true)
+IsFed ended stops cause from now (f.Stop reason) told = (told ≡ false) × StoppedFor stops cause from now reason
 
 -- what an intake answered was taken in so
 abbrev pub IsTakenIn : Next → Fed → Bool → Type 0
 IsTakenIn (next.Event e) fed told = (fed ≡ f.More) × (told ≡ false)
 IsTakenIn next.End fed told = (fed ≡ f.End) × (told ≡ true)
-IsTakenIn next.Stop fed told = (fed ≡ f.Stop) × (told ≡ false)
+IsTakenIn (next.Stop reason) fed told = (fed ≡ f.Stop reason) × (told ≡ false)
 IsTakenIn next.Memory fed told = ⊥
 
 -- Behind some events an intake gave more: it asked the outside only where it might, and then before it gave the first of them.

@@ -8,12 +8,12 @@ use Rattle.sp_split.specs.declared.ended.Why.TheVariants as why
 use Rattle.sp_split.specs.declared.feeding.Fed.{Fed}
 use Rattle.sp_split.specs.declared.feeding.Fed.TheVariants as f
 
--- why a run is over where every closed window is finished: by how feeding ended
+-- why a run is over where every closed window is finished: by how feeding ended, and for the very reason of a stop
 abbrev pub why_fed : Fed → Option Why
 why_fed f.More = None
 why_fed f.Dry = None
 why_fed f.End = Some why.Whole
-why_fed f.Stop = Some why.Stopped
+why_fed (f.Stop stop) = Some (why.Stopped stop)
 
 -- why a run is over behind a turn: the outlet failed, or memory ran out, or every closed window is finished and no event will come
 abbrev pub why_over : {T : Type 0} → Fed → Result T OutFault → Bool → Option Why

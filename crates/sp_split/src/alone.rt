@@ -1,7 +1,7 @@
 // A core on one thread: events are fed, and the root is read, window after window.
 ghost use Rattle.std.specs.Prelude.{◌≡◌, ◌≤◌, IfOk, OnOk, OnErr};
 ghost use Rattle.sp_base.specs.Limits.{batch_limit};
-ghost use Rattle.sp_io.specs.Outside.{Rose};
+ghost use Rattle.sp_ports.specs.Stopping.{StoppedFor};
 ghost use Rattle.sp_core.specs.Running.{begun};
 ghost use Rattle.sp_spread.specs.Journaled.{MakesNoChild};
 ghost use Rattle.sp_spread.specs.Limiting.{AsksAtMost};
@@ -82,7 +82,7 @@ fn run_alone<I: Intake, O: Outlet>(
     requires outlet_plan { O.plan outlet.old ≡ lone.old.core.plan }
     ensures ended { IfOk result (λ why. Drove (λ events. I.gave intake.old events intake.new)
         (I.ended intake.new)
-        (Rose (I.stops intake.old) (I.stops intake.new)) lone.old.core (O.state outlet.old)
+        (StoppedFor I.stops I.cause intake.old intake.new) lone.old.core (O.state outlet.old)
         (O.state outlet.new) (record { core = lone.new.core; why = why })) }
     ensures alone { CameAlone lone.new.core }
     ensures short { OnErr result
@@ -109,10 +109,11 @@ fn run_alone<I: Intake, O: Outlet>(
 
 /// Runs a core that has done no step from an intake to an outlet, on this thread, until the intake gives no more.
 /// It always returns, and no speculative version is made. `Whole` comes only where the intake reached the end of
-/// its input, `Stopped` only where its count of stops rose, `Refused` only where the outlet's count of faults did;
-/// the windows that are closed are finished for the first two, and all their matches were taken. After want of
-/// memory the outlet took the first matches of what the events given come to. However it ends, the intake asked the
-/// outside for more only where the outlet had taken all matches of the windows that were closed by then.
+/// its input, `Stopped` only where its count of stops rose, with the reason that it keeps, `Refused` only where the
+/// outlet's count of faults did; the windows that are closed are finished for the first two, and all their matches
+/// were taken. After want of memory the outlet took the first matches of what the events given come to. However it
+/// ends, the intake asked the outside for more only where the outlet had taken all matches of the windows that were
+/// closed by then.
 ///
 /// Besides, and no clause says so: at most `batch` events, 1 to 1,024, are fed before the windows that they closed
 /// are finished, and the predictor learns from what was read.
@@ -131,7 +132,7 @@ pub(crate) fn drive_alone<I: Intake, O: Outlet>(
     requires outlet_plan { O.plan outlet.old ≡ core.plan }
     ensures ended { IfOk result (Drove (λ events. I.gave intake.old events intake.new)
         (I.ended intake.new)
-        (Rose (I.stops intake.old) (I.stops intake.new)) core (O.state outlet.old)
+        (StoppedFor I.stops I.cause intake.old intake.new) core (O.state outlet.old)
         (O.state outlet.new)) }
     ensures alone { IfOk result (λ end. MakesNoChild end.core.journal) }
     ensures asked { IfOk result (λ end. AsksAtMost batch_limit end.core.journal) }

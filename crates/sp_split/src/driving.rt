@@ -1,7 +1,7 @@
 // A core and its instances, from an intake to an outlet.
 ghost use Rattle.std.specs.Prelude.{◌≡◌, ◌≤◌, ◌<◌, [], IfOk, OnErr};
 ghost use Rattle.sp_base.specs.Limits.{batch_limit};
-ghost use Rattle.sp_io.specs.Outside.{Rose};
+ghost use Rattle.sp_ports.specs.Stopping.{StoppedFor};
 ghost use Rattle.sp_core.specs.Running.{begun};
 ghost use Rattle.sp_spread.specs.Limiting.{AsksAtMost};
 ghost use Rattle.sp_split.specs.Driving.{CameAbout, Drove, FellShort, most_asked};
@@ -27,12 +27,12 @@ use std::thread::Threads;
 /// Runs a core that has done no step from an intake to an outlet: events are fed, windows are worked on and
 /// finished, and their matches put, until the intake gives no more. Its hub has seats for so many instances, 0 to
 /// 16, and one for the splitter; without an instance there is no hub, and no speculative version is made. `Whole`
-/// comes only where the intake reached the end of its input, `Stopped` only where its count of stops rose,
-/// `Refused` only where the outlet's count of faults did; the windows that are closed are finished for the first
-/// two, and all their matches were taken. After want of memory the outlet took the first matches of what the
-/// events given come to. However it ends, the intake asked the outside for more only where the outlet had taken all
-/// matches of the windows that were closed by then. The history of the hub names the seats of the instances, which are those from 1 on, as told at
-/// the end that no job will come.
+/// comes only where the intake reached the end of its input, `Stopped` only where its count of stops rose, with the
+/// reason that it keeps, `Refused` only where the outlet's count of faults did; the windows that are closed are
+/// finished for the first two, and all their matches were taken. After want of memory the outlet took the first
+/// matches of what the events given come to. However it ends, the intake asked the outside for more only where the
+/// outlet had taken all matches of the windows that were closed by then. The history of the hub names the seats of
+/// the instances, which are those from 1 on, as told at the end that no job will come.
 ///
 /// Besides, and no clause says so: an instance has a thread of its own where one can be made, and does each job inside
 /// the gate; at most `batch` events, 1 to 1,024, are fed between two turns; and it is this predictor that is asked and
@@ -56,7 +56,7 @@ pub fn drive<I: Intake, O: Outlet, G: Gate, R: Threads + Wait + Sync>(
     requires outlet_plan { O.plan outlet.old ≡ core.plan }
     ensures ended { IfOk result (λ end. Drove (λ events. I.gave intake.old events intake.new)
         (I.ended intake.new)
-        (Rose (I.stops intake.old) (I.stops intake.new)) core (O.state outlet.old)
+        (StoppedFor I.stops I.cause intake.old intake.new) core (O.state outlet.old)
         (O.state outlet.new)
         (record { core = end.core; why = end.why })) }
     ensures about { IfOk result (λ end. CameAbout instances end.core end.history) }
@@ -94,7 +94,7 @@ fn drive_lone<I: Intake, O: Outlet>(
     requires intake_plan { I.plan intake.old ≡ core.plan }
     requires outlet_plan { O.plan outlet.old ≡ core.plan }
     ensures ends { Ends (λ events. I.gave intake.old events intake.new) (I.ended intake.new)
-        (Rose (I.stops intake.old) (I.stops intake.new)) 0 batch_limit core (O.state outlet.old)
+        (StoppedFor I.stops I.cause intake.old intake.new) 0 batch_limit core (O.state outlet.old)
         (O.state outlet.new) result }
     ensures prompt { IsPrompt (I.asked intake.old) intake.new core.plan (O.state outlet.old)
         (O.state outlet.new) }
@@ -136,8 +136,9 @@ fn drive_shared<I: Intake, O: Outlet, G: Gate, R: Threads + Wait + Sync>(
     requires intake_plan { I.plan intake.old ≡ splitter.core.plan }
     requires outlet_plan { O.plan outlet.old ≡ splitter.core.plan }
     ensures ends { Ends (λ events. I.gave intake.old events intake.new) (I.ended intake.new)
-        (Rose (I.stops intake.old) (I.stops intake.new)) splitter.instances splitter.batch
-        splitter.core (O.state outlet.old) (O.state outlet.new) result }
+        (λ why. StoppedFor I.stops I.cause intake.old intake.new why)
+        splitter.instances splitter.batch splitter.core
+        (O.state outlet.old) (O.state outlet.new) result }
     ensures prompt { IsPrompt (I.asked intake.old) intake.new splitter.core.plan
         (O.state outlet.old) (O.state outlet.new) }
     ensures same { (I.plan intake.new ≡ I.plan intake.old)

@@ -1,13 +1,14 @@
 use sp_core::Core;
 use sp_hub::History;
+use sp_ports::Stop;
 
 /// Why a run has ended.
 #[derive(Clone, Copy, Drop, PartialEq, Eq)]
 pub enum Why {
     /// The intake reached the end of its input, and all windows are finished.
     Whole,
-    /// The intake stopped before, and all windows that its events have closed are finished.
-    Stopped,
+    /// The intake stopped before, for this reason, and all windows that its events have closed are finished.
+    Stopped(Stop),
     /// The outlet failed at a match.
     Refused,
     /// Out of memory.

@@ -8,11 +8,11 @@ ghost use Rattle.sp_split.specs.declared.feeding.Fed.TheVariants as f;
 use crate::Memory;
 use crate::driver::Driver;
 use sp_core::Core;
-use sp_ports::{Intake, Next};
+use sp_ports::{Intake, Next, Stop};
 use std::alloc::{AllocError, Global};
 
 /// Why feeding ended.
-#[derive(Clone, Copy, Drop, PartialEq, Eq)]
+#[derive(Clone, Copy, Drop)]
 pub(crate) enum Fed {
     /// There may be more events.
     More,
@@ -20,8 +20,8 @@ pub(crate) enum Fed {
     Dry,
     /// The end of input was reached, and told to the core.
     End,
-    /// The intake stopped before.
-    Stop,
+    /// The intake stopped before, for this reason.
+    Stop(Stop),
 }
 
 /// Whether every window that is closed is finished.
@@ -58,7 +58,7 @@ fn take_in<D: Driver>(alloc: Global, driver: &mut D, answer: Next) -> Result<Fed
             driver.end();
             Ok(Fed::End)
         }
-        Next::Stop => Ok(Fed::Stop),
+        Next::Stop(stop) => Ok(Fed::Stop(stop)),
         Next::Memory => Err(AllocError),
     }
 }
@@ -88,7 +88,8 @@ fn feed_next<D: Driver, I: Intake>(
         × AskedOn I.asked (may_ask ≡ true) (D.core driver.old).machine.events
         ((D.core driver.new).machine.events ++ lost) intake.old intake.new) }
     ensures is { IfOk result (λ fed.
-        IsFed I.ended I.stops intake.old intake.new fed (D.core driver.new).machine.ended) }
+        IsFed I.ended I.stops I.cause intake.old intake.new fed
+        (D.core driver.new).machine.ended) }
     ensures few { length (D.core driver.new).machine.events
         ≤ length (D.core driver.old).machine.events + 1 }
     ensures ready { D.ready driver.new }
@@ -130,7 +131,8 @@ fn feed_batch<D: Driver, I: Intake>(
         × AskedOn I.asked (AllFinished (D.core driver.old)) (D.core driver.old).machine.events
         ((D.core driver.new).machine.events ++ lost) intake.old intake.new) }
     ensures is { IfOk result (λ fed.
-        IsFed I.ended I.stops intake.old intake.new fed (D.core driver.new).machine.ended) }
+        IsFed I.ended I.stops I.cause intake.old intake.new fed
+        (D.core driver.new).machine.ended) }
     ensures few { length (D.core driver.new).machine.events
         ≤ length (D.core driver.old).machine.events + D.batch driver.old }
     ensures ready { D.ready driver.new }
@@ -161,7 +163,7 @@ pub(crate) fn feed<D: Driver, I: Intake>(
     requires ready { D.ready driver.old }
     requires so { (from : I) × (I.plan from ≡ (D.core driver.old).plan)
         × I.gave from (D.core driver.old).machine.events intake.old
-        × IsFed I.ended I.stops from intake.old last (D.core driver.old).machine.ended }
+        × IsFed I.ended I.stops I.cause from intake.old last (D.core driver.old).machine.ended }
     ensures on { FedOn (D.core driver.old) (D.core driver.new) }
     ensures given { OnOk result ((from : I)
         → I.gave from (D.core driver.old).machine.events intake.old
@@ -178,8 +180,8 @@ pub(crate) fn feed<D: Driver, I: Intake>(
         ((D.core driver.new).machine.events ++ lost) intake.old intake.new) }
     ensures unended { OnErr result ((D.core driver.old).machine.ended ≡ false) }
     ensures is { IfOk result (λ fed. (from : I)
-        → IsFed I.ended I.stops from intake.old last (D.core driver.old).machine.ended
-        → IsFed I.ended I.stops from intake.new fed (D.core driver.new).machine.ended) }
+        → IsFed I.ended I.stops I.cause from intake.old last (D.core driver.old).machine.ended
+        → IsFed I.ended I.stops I.cause from intake.new fed (D.core driver.new).machine.ended) }
     ensures few { length (D.core driver.new).machine.events
         ≤ length (D.core driver.old).machine.events + D.batch driver.old }
     ensures ready { D.ready driver.new }

@@ -21,6 +21,8 @@ impl<'a, I: Intake> Intake for LentIntake<'a, I> {
 
     ghost stops = { λ l. I.stops l.inner.now };
 
+    ghost cause = { λ l. I.cause l.inner.now };
+
     ghost gave = { λ old events new. I.gave old.inner.now events new.inner.now };
 
     ghost gave_none = { λ l. I.gave_none l.inner.now };

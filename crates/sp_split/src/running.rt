@@ -2,6 +2,7 @@
 ghost use Rattle.std.specs.Prelude.{◌≡◌, ◌≢◌, ◌≤◌, ◌+◌, IfOk, IfSome, Err, None, OnOk, OnErr, length};
 ghost use Rattle.sp_io.specs.Outside.{Rose};
 ghost use Rattle.sp_core.specs.Running.{Running};
+ghost use Rattle.sp_ports.specs.Stopping.{StoppedFor};
 ghost use Rattle.sp_ports.specs.Taking.{OutletState, Took, TookFirst};
 ghost use Rattle.sp_ports.specs.declared.outlet.OutFault.TheVariants as o;
 ghost use Rattle.sp_split.specs.Driving.{Drove, FailedWithin, FellShort};
@@ -76,31 +77,31 @@ pub(crate) fn round<D: Driver, I: Intake, O: Outlet>(
     requires ready { D.ready driver.old }
     requires going { (from : I) × (first : Running) × (old : OutletState)
         × (I.plan from ≡ first.plan)
-        × IsGoing I.gave I.asked I.ended I.stops from intake.old first (D.core driver.old) old
-        (O.state outlet.old) last }
+        × IsGoing I.gave I.asked I.ended I.stops I.cause from intake.old first
+        (D.core driver.old) old (O.state outlet.old) last }
     requires plan { O.plan outlet.old ≡ (D.core driver.old).plan }
     ensures goes { IfOk result (λ round. round.over ≡ None
         → (from : I) (first : Running) (old : OutletState)
-        → IsGoing I.gave I.asked I.ended I.stops from intake.old first (D.core driver.old) old
-        (O.state outlet.old) last
-        → IsGoing I.gave I.asked I.ended I.stops from intake.new first (D.core driver.new) old
-        (O.state outlet.new) round.fed) }
+        → IsGoing I.gave I.asked I.ended I.stops I.cause from intake.old first
+        (D.core driver.old) old (O.state outlet.old) last
+        → IsGoing I.gave I.asked I.ended I.stops I.cause from intake.new first
+        (D.core driver.new) old (O.state outlet.new) round.fed) }
     ensures ended { IfOk result (λ round. IfSome round.over (λ why.
         (from : I) (first : Running) (old : OutletState)
-        → IsGoing I.gave I.asked I.ended I.stops from intake.old first (D.core driver.old) old
-        (O.state outlet.old) last
+        → IsGoing I.gave I.asked I.ended I.stops I.cause from intake.old first
+        (D.core driver.old) old (O.state outlet.old) last
         → Drove (λ events. I.gave from events intake.new) (I.ended intake.new)
-        (Rose (I.stops from) (I.stops intake.new)) first old (O.state outlet.new)
+        (StoppedFor I.stops I.cause from intake.new) first old (O.state outlet.new)
         (record { core = D.core driver.new; why = why }))) }
     ensures short { OnErr result ((from : I) (first : Running) (old : OutletState)
         → I.plan from ≡ first.plan
-        → IsGoing I.gave I.asked I.ended I.stops from intake.old first (D.core driver.old) old
-        (O.state outlet.old) last
+        → IsGoing I.gave I.asked I.ended I.stops I.cause from intake.old first
+        (D.core driver.old) old (O.state outlet.old) last
         → FellShort (λ events. I.gave from events intake.new) (I.ended intake.new) first.plan old
         (O.state outlet.new)) }
     ensures prompt { (from : I) (first : Running) (old : OutletState)
-        → IsGoing I.gave I.asked I.ended I.stops from intake.old first (D.core driver.old) old
-        (O.state outlet.old) last
+        → IsGoing I.gave I.asked I.ended I.stops I.cause from intake.old first
+        (D.core driver.old) old (O.state outlet.old) last
         → IsPrompt (I.asked from) intake.new first.plan old (O.state outlet.new) }
     ensures few { length (D.core driver.new).machine.events
         ≤ length (D.core driver.old).machine.events + D.batch driver.old }

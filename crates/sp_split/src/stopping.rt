@@ -13,7 +13,7 @@ fn why_fed(fed: Fed) -> Option<Why>
     match fed {
         Fed::More | Fed::Dry => None,
         Fed::End => Some(Why::Whole),
-        Fed::Stop => Some(Why::Stopped),
+        Fed::Stop(stop) => Some(Why::Stopped(stop)),
     }
 }
 

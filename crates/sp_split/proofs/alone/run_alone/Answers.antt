@@ -8,7 +8,7 @@ loop-init g c =
     let a = c.args.intake.now in
     let core = c.args.lone.now.core in
     record {
-      going = going_first g.I.Intake.gave g.I.Intake.asked g.I.Intake.ended g.I.Intake.stops a core (g.O.Outlet.state c.args.outlet.now) c.requires.fresh (g.I.Intake.gave_none a) (g.I.Intake.asked_none a);
+      going = going_first g.I.Intake.gave g.I.Intake.asked g.I.Intake.ended g.I.Intake.stops g.I.Intake.cause a core (g.O.Outlet.state c.args.outlet.now) c.requires.fresh (g.I.Intake.gave_none a) (g.I.Intake.asked_none a);
       ready = alone_first core c.requires.fresh;
       plan = refl;
       token = refl;
@@ -43,5 +43,5 @@ loop-preserved g c = record {
 
 pub returns-clause-ended : goal.returns-clause-ended
 returns-clause-ended g c =
-    going_stops g.I.Intake.gave g.I.Intake.asked g.I.Intake.ended g.I.Intake.stops c.args.intake.now c.loop.intake c.args.lone.now.core c.loop.lone.core (g.O.Outlet.state c.args.outlet.now) (g.O.Outlet.state c.loop.outlet) c.loop.fed
+    going_stops g.I.Intake.gave g.I.Intake.asked g.I.Intake.ended g.I.Intake.stops g.I.Intake.cause c.args.intake.now c.loop.intake c.args.lone.now.core c.loop.lone.core (g.O.Outlet.state c.args.outlet.now) (g.O.Outlet.state c.loop.outlet) c.loop.fed
     c.loop.invariant.going

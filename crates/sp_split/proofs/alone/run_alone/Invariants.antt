@@ -5,7 +5,7 @@ use Rattle.sp_split.proofs.alone.run_alone.Given as goal
 
 abbrev pub invariant-loop : goal.invariant-loop
 invariant-loop g l = record {
-  going : IsGoing g.I.Intake.gave g.I.Intake.asked g.I.Intake.ended g.I.Intake.stops l.initial.intake l.intake l.initial.lone.core l.lone.core (g.O.Outlet.state l.initial.outlet) (g.O.Outlet.state l.outlet) l.fed;
+  going : IsGoing g.I.Intake.gave g.I.Intake.asked g.I.Intake.ended g.I.Intake.stops g.I.Intake.cause l.initial.intake l.intake l.initial.lone.core l.lone.core (g.O.Outlet.state l.initial.outlet) (g.O.Outlet.state l.outlet) l.fed;
   ready : IsAlone l.lone.core;
   plan : g.I.Intake.plan l.intake ≡ g.I.Intake.plan l.initial.intake;
   token : g.I.Intake.token l.intake ≡ g.I.Intake.token l.initial.intake;

@@ -41,7 +41,7 @@ returns-in_default g c =
       asked = asked_step g.I.Intake.asked (AllFinished first) c.loop.may_ask first.machine.events mid.machine.events last.machine.events c.args.intake.now c.loop.intake c.feed_next.new.intake
           c.loop.invariant.asked c.loop.invariant.first c.in_ok-ended.ensures.asked;
       lost = tt;
-      is = goes_fed g.I.Intake.ended g.I.Intake.stops c.args.intake.now c.loop.intake c.feed_next.new.intake c.in_ok-ended.ended last.machine.ended c.loop.invariant.goes_on c.in_ok-ended.ensures.is;
+      is = goes_fed g.I.Intake.ended g.I.Intake.stops g.I.Intake.cause c.args.intake.now c.loop.intake c.feed_next.new.intake c.in_ok-ended.ended last.machine.ended c.loop.invariant.goes_on c.in_ok-ended.ensures.is;
       few = let one = c.feed_next.ensures.few in let before = c.loop.invariant.few in let below = c.loop-test.true in let most = c.batch-end.ensures in omega (arith, one, before, below, most);
       ready = c.feed_next.ensures.ready;
       terms = (c.feed_next.ensures.terms.0 ∙ c.loop.invariant.instances, c.feed_next.ensures.terms.1 ∙ c.loop.invariant.batch);
@@ -53,8 +53,8 @@ loop-preserved g c =
     let first = g.D.Driver.core c.args.driver.now in
     let mid = g.D.Driver.core c.loop.driver in
     let last = g.D.Driver.core c.feed_next.new.driver in
-    let is = goes_fed g.I.Intake.ended g.I.Intake.stops c.args.intake.now c.loop.intake c.feed_next.new.intake f.More last.machine.ended c.loop.invariant.goes_on
-    (subst (λ (fed : Fed). IsFed g.I.Intake.ended g.I.Intake.stops c.loop.intake c.feed_next.new.intake fed last.machine.ended) c.in-More.is c.in_ok-ended.ensures.is) in
+    let is = goes_fed g.I.Intake.ended g.I.Intake.stops g.I.Intake.cause c.args.intake.now c.loop.intake c.feed_next.new.intake f.More last.machine.ended c.loop.invariant.goes_on
+    (subst (λ (fed : Fed). IsFed g.I.Intake.ended g.I.Intake.stops g.I.Intake.cause c.loop.intake c.feed_next.new.intake fed last.machine.ended) c.in-More.is c.in_ok-ended.ensures.is) in
     record {
       on = fed_then first mid last c.loop.invariant.on c.feed_next.ensures.on;
       given = λ from was. c.in_ok-ended.ensures.given from (c.loop.invariant.given from was);

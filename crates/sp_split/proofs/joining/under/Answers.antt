@@ -2,13 +2,13 @@ use denote.Param.Send.{sendable}
 use Rattle.std.proofs.Common.{◌≡◌, ◌∙◌, ◌+◌, ◌-◌, ℕ, true, List, None, drop, length, map, vec_len, sym, ap, subst, arith}
 use Rattle.std.specs.List.{All, range_with_len}
 use Rattle.std.proofs.lemmas.List.FromFn.{length-map-range_with_len}
-use Rattle.sp_io.specs.Outside.{Rose}
 use Rattle.sp_plan.specs.declared.event.Event.{Event}
 use Rattle.sp_hub.specs.State.{Extent, Sitting}
 use Rattle.sp_hub.specs.Calls.{fresh_seat}
 use Rattle.sp_hub.proofs.Seats.{all_free}
 use Rattle.sp_hub.proofs.Told.{behind_first}
 use Rattle.sp_piece.proofs.Crossing.{job_sent, piece_sent}
+use Rattle.sp_ports.specs.Stopping.{StoppedFor}
 use Rattle.sp_split.specs.Crews.{Crewed}
 use Rattle.sp_split.specs.Serving.{Ends, WoundUp}
 use Rattle.sp_split.proofs.About.{ends_with, fell_at_once}
@@ -99,7 +99,7 @@ returns-clause-ends g c =
     let last = c.beside-crew.result.2.intake in
     let G = λ (events : List Event). g.I.Intake.gave first events last in
     let all = g.I.Intake.ended last in
-    let stopped = Rose (g.I.Intake.stops first) (g.I.Intake.stops last) in
+    let stopped = StoppedFor g.I.Intake.stops g.I.Intake.cause first last in
     let n = c.args.splitter.instances in
     let batch = c.args.splitter.batch in
     let start = c.args.splitter.core in

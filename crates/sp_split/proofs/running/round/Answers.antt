@@ -1,11 +1,11 @@
 use Rattle.std.proofs.Common.{◌≡◌, true, List, ◌++◌, sym, ◌∙◌, subst}
 use Rattle.std.proofs.lemmas.Result.{err_from_is_err_and}
-use Rattle.sp_io.specs.Outside.{Rose}
 use Rattle.sp_plan.specs.declared.event.Event.{Event}
 use Rattle.sp_plan.specs.declared.plan.Plan.{Plan}
 use Rattle.sp_plan.specs.Compiled.{IsCompiled}
 use Rattle.sp_rules.specs.Schedules.{Reached}
 use Rattle.sp_ports.specs.Giving.{AreGood}
+use Rattle.sp_ports.specs.Stopping.{StoppedFor}
 use Rattle.sp_core.specs.Running.{Running}
 use Rattle.sp_split.specs.Stages.{AllFinished}
 use Rattle.sp_split.proofs.Going.{fed_later, fell_short, was_fed}
@@ -49,9 +49,9 @@ returns-clause-goes g c = λ goes_on from first old going.
     let own = c.work_and_put-put.ensures in
     let G = λ (xs : List Event). g.I.Intake.gave from xs c.feed.new.intake in
     let whole = g.I.Intake.ended c.feed.new.intake in
-    let stopped = Rose (g.I.Intake.stops from) (g.I.Intake.stops c.feed.new.intake) in
+    let stopped = StoppedFor g.I.Intake.stops g.I.Intake.cause from c.feed.new.intake in
     let same = ended_any put mid last _ _ _ own.done own.failed own.short in
-    let is = fed_later g.I.Intake.ended g.I.Intake.stops from c.feed.new.intake fed mid.machine.ended last.machine.ended same (c.in_ok-fed.ensures.is from going.fed_so) in
+    let is = fed_later g.I.Intake.ended g.I.Intake.stops g.I.Intake.cause from c.feed.new.intake fed mid.machine.ended last.machine.ended same (c.in_ok-fed.ensures.is from going.fed_so) in
     let turned = fed_turn _ G first before mid last old s new going.going c.feed.ensures.on (c.in_ok-fed.ensures.given from going.going.run.given) _ (c.requires.plan ∙ going.going.run.plan)
     put own.done own.failed own.short own.rose own.no_fault in
     record {
@@ -73,12 +73,12 @@ returns-clause-ended g c = if_some _ c.why_over-over.result (λ why so from firs
     let own = c.work_and_put-put.ensures in
     let G = λ (xs : List Event). g.I.Intake.gave from xs c.feed.new.intake in
     let whole = g.I.Intake.ended c.feed.new.intake in
-    let stopped = Rose (g.I.Intake.stops from) (g.I.Intake.stops c.feed.new.intake) in
+    let stopped = StoppedFor g.I.Intake.stops g.I.Intake.cause from c.feed.new.intake in
     let same = ended_any put mid last _ _ _ own.done own.failed own.short in
-    let is = fed_later g.I.Intake.ended g.I.Intake.stops from c.feed.new.intake fed mid.machine.ended last.machine.ended same (c.in_ok-fed.ensures.is from going.fed_so) in
+    let is = fed_later g.I.Intake.ended g.I.Intake.stops g.I.Intake.cause from c.feed.new.intake fed mid.machine.ended last.machine.ended same (c.in_ok-fed.ensures.is from going.fed_so) in
     let turned = fed_turn _ G first before mid last old s new going.going c.feed.ensures.on (c.in_ok-fed.ensures.given from going.going.run.given) _ (c.requires.plan ∙ going.going.run.plan)
     put own.done own.failed own.short own.rose own.no_fault in
-    drove_over G whole stopped first last old new fed put c.all_finished-all.result why (so ∙ c.why_over-over.ensures) (was_fed g.I.Intake.ended g.I.Intake.stops from c.feed.new.intake fed last.machine.ended is)
+    drove_over G whole stopped first last old new fed put c.all_finished-all.result why (so ∙ c.why_over-over.ensures) (was_fed g.I.Intake.ended g.I.Intake.stops g.I.Intake.cause from c.feed.new.intake fed last.machine.ended is)
     (on_any _ put (subst (λ (r : Running). c.all_finished-all.result ≡ true → AllFinished r) c.core-2.ensures c.all_finished-all.ensures.0)) turned)
 
 pub returns-clause-prompt : goal.returns-clause-prompt

@@ -9,7 +9,7 @@ loop-init g c =
     let desk = c.args.serving.now.desk in
     let core = desk.splitter.core in
     record {
-      going = going_first g.I.Intake.gave g.I.Intake.asked g.I.Intake.ended g.I.Intake.stops a core (g.O.Outlet.state c.args.outlet.now) c.requires.fresh (g.I.Intake.gave_none a) (g.I.Intake.asked_none a);
+      going = going_first g.I.Intake.gave g.I.Intake.asked g.I.Intake.ended g.I.Intake.stops g.I.Intake.cause a core (g.O.Outlet.state c.args.outlet.now) c.requires.fresh (g.I.Intake.gave_none a) (g.I.Intake.asked_none a);
       ready = serving_first core c.requires.fresh desk.splitter.instances desk.splitter.batch desk.splitter.kept.items desk.by desk.seat c.requires.can c.requires.free;
       instances = refl;
       batch = refl;

@@ -5,7 +5,7 @@ use Rattle.sp_split.proofs.serving.serve_on.Given as goal
 
 abbrev pub invariant-loop : goal.invariant-loop
 invariant-loop g l = record {
-  going : IsGoing g.I.Intake.gave g.I.Intake.asked g.I.Intake.ended g.I.Intake.stops l.initial.intake l.intake l.initial.serving.desk.splitter.core l.serving.desk.splitter.core (g.O.Outlet.state l.initial.outlet) (g.O.Outlet.state l.outlet) l.fed;
+  going : IsGoing g.I.Intake.gave g.I.Intake.asked g.I.Intake.ended g.I.Intake.stops g.I.Intake.cause l.initial.intake l.intake l.initial.serving.desk.splitter.core l.serving.desk.splitter.core (g.O.Outlet.state l.initial.outlet) (g.O.Outlet.state l.outlet) l.fed;
   ready : IsServing l.serving.desk.splitter.instances l.serving.desk.splitter.batch l.serving.desk.splitter.kept.items l.serving.desk.splitter.core l.serving.desk.by l.serving.desk.seat;
   instances : l.serving.desk.splitter.instances ≡ l.initial.serving.desk.splitter.instances;
   batch : l.serving.desk.splitter.batch ≡ l.initial.serving.desk.splitter.batch;
