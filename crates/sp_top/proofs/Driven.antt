@@ -3,7 +3,7 @@ use Rattle.std.proofs.Common.{◌≡◌, ◌≢◌, ◌<◌, ◌≤◌, ◌+◌,
 use Rattle.std.specs.List.{enumerate_from}
 use Rattle.std.proofs.lemmas.Grind.{flat_map-append}
 use Rattle.std.proofs.lemmas.List.{append-nil}
-use Rattle.std.specs.Prelude.{IfSome, not}
+use Rattle.std.specs.Prelude.{IfSome}
 use Rattle.sp_io.specs.Outside.{Told, SourceState, SinkState, Gave, Grew, GrewWithin, Rose}
 use Rattle.sp_plan.specs.declared.event.Event.{Event}
 use Rattle.sp_plan.specs.declared.found.Match.{Match}
@@ -15,13 +15,12 @@ use Rattle.sp_plan.specs.Sequential.{seq, whole, match_of, visible, Grows}
 use Rattle.sp_plan.specs.WindowNumbers.{Good}
 use Rattle.sp_plan.specs.Windows.{closed, windows, IsWindowed}
 use Rattle.sp_intake.specs.Intake.{TakesNoFurther}
-use Rattle.sp_intake.specs.Reading.{read, stop_of, is_end}
-use Rattle.sp_intake.specs.Standing.{Standing, stop_in, is_whole, is_halted, ReadSoFar, Gives, ReadsFrom}
-use Rattle.sp_intake.specs.declared.events.State.{State}
-use Rattle.sp_intake.specs.declared.events.State.TheVariants.{Going, Stopped, Broken}
+use Rattle.sp_intake.specs.Reading.{read, stop_of}
+use Rattle.sp_intake.specs.Standing.{Standing, stop_in, is_whole, ReadSoFar, Gives, ReadsFrom}
 use Rattle.sp_intake.proofs.FitReading.{read_fits}
-use Rattle.sp_intake.specs.declared.input.Stop.{Stop}
-use Rattle.sp_intake.specs.declared.input.Stop.TheVariants.{End, Failed, Open}
+use Rattle.sp_ports.specs.Stopping.{is_end, Halts}
+use Rattle.sp_ports.specs.declared.stop.Stop.{Stop}
+use Rattle.sp_ports.specs.declared.stop.Stop.TheVariants.{End, Failed, Open}
 use Rattle.sp_answer.specs.Outcome.{Ending, ending}
 use Rattle.sp_answer.specs.Ran.{Outside, outside, Ran}
 use Rattle.sp_answer.specs.declared.status.Status.{Status}
@@ -238,24 +237,9 @@ module _ (q : Plan) (grows : Grows) (compiled : IsCompiled q) (origin : SourceSt
       so_far.has.gave so_far.has.no_further so_far.has.front.1 stopped_at so_far.has.fault so_far.has.told good_whole s (status_of s) is refl
       (subst (λ (l : List ℕ). Grew before.held l after.held) whole_is grew) no_fault
 
--- an input that stopped before its end stopped for another reason
-not_true : (b : Bool) → not b ≡ true → b ≡ false
-not_true true is = absurd (cc is)
-not_true false is = refl
-
-halted_at : (state : State) → is_halted state ≡ true → (s : Stop) × (stop_in state ≡ Some s) × (is_end s ≡ false)
-halted_at Going is = absurd (cc is)
-halted_at (Stopped s) is = (s, refl, not_true (is_end s) is)
-halted_at Broken is = absurd (cc is)
-
-pub halts : (state : State) (old new : ℕ) → (0 < new → is_halted state ≡ true) → Rose old new → (s : Stop) × (stop_in state ≡ Some s) × (is_end s ≡ false)
-halts state old new halted (inl less) = halted_at state (halted (omega (arith, less)))
-halts state old new halted (inr full) = halted_at state (halted (omega (arith, full)))
-
 -- What a run of a core ended with is what is promised of the run, by why it ended.
-module _ (c : Running) (grows : Grows) (compiled : IsCompiled c.plan) (origin : SourceState) (first last : Standing) (reads : ReadsFrom c.plan origin first)
-    (stopped : Type 0) where
-  module _ (halted : stopped → (s : Stop) × (stop_in last.state ≡ Some s) × (is_end s ≡ false)) (before after : SinkState) (t u : ℕ) (end : Went) (drove : Drove (λ events. Gives first events last) (is_whole (stop_in last.state)) stopped c (outlet before t) (outlet after u) end)
+module _ (c : Running) (grows : Grows) (compiled : IsCompiled c.plan) (origin : SourceState) (first last : Standing) (reads : ReadsFrom c.plan origin first) where
+  module _ (stopped : Stop → Type 0) (halted : (s : Stop) → stopped s → Halts s (stop_in last.state)) (before after : SinkState) (t u : ℕ) (end : Went) (drove : Drove (λ events. Gives first events last) (is_whole (stop_in last.state)) stopped c (outlet before t) (outlet after u) end)
       (kept : IsSequential end.core.plan end.core.machine) where
     abbrev m : Machine
     m = end.core.machine
@@ -269,21 +253,19 @@ module _ (c : Running) (grows : Grows) (compiled : IsCompiled c.plan) (origin : 
     emitted_are : text c.plan m.emitted ≡ text c.plan (seq c.plan m.events m.finished).matches
     emitted_are = ap (text c.plan) sequential.emitted
 
-    ended_by : (w : Why) → end.why ≡ w → Ran (IsPlanRun c.plan) (outside origin before) (outside last.source after) (ending (status_of_end w (stop_in last.state)))
+    ended_by : (w : Why) → end.why ≡ w → Ran (IsPlanRun c.plan) (outside origin before) (outside last.source after) (ending (status_of_end w))
     ended_by why.Whole is =
         let ended = drove.whole_input is in
         let all = drove.finished (inl is) in
         let at_end = whole_end (stop_in last.state) (drove.ends ended) in
-        subst (λ (o : Option Stop). Ran (IsPlanRun c.plan) (outside origin before) (outside last.source after) (ending (status_of_end why.Whole o))) (sym at_end)
-        (ran_done c.plan grows compiled origin last m.events so_far before after End m.finished m.ended at_end (sym ended) all.0
-        (subst (λ (l : List ℕ). Grew before.held l after.held) emitted_are all.1.lines) (drove.no_fault (λ other. absurd (cc (is, other)))))
-    ended_by why.Stopped is =
-        let stop = drove.stop is in
-        let all = drove.finished (inr is) in
-        let at = halted stop.0 in
-        subst (λ (o : Option Stop). Ran (IsPlanRun c.plan) (outside origin before) (outside last.source after) (ending (status_of_end why.Stopped o))) (sym at.1)
-        (ran_done c.plan grows compiled origin last m.events so_far before after at.0 m.finished m.ended at.1 (at.2 ∙ sym stop.1) all.0
-        (subst (λ (l : List ℕ). Grew before.held l after.held) emitted_are all.1.lines) (drove.no_fault (λ other. absurd (cc (is, other)))))
+        ran_done c.plan grows compiled origin last m.events so_far before after End m.finished m.ended at_end (sym ended) all.0
+        (subst (λ (l : List ℕ). Grew before.held l after.held) emitted_are all.1.lines) (drove.no_fault (λ other. absurd (cc (is, other))))
+    ended_by (why.Stopped s) is =
+        let stop = drove.stop s is in
+        let all = drove.finished (inr (s, is)) in
+        let at = halted s stop.0 in
+        ran_done c.plan grows compiled origin last m.events so_far before after s m.finished m.ended at.0 (at.1 ∙ sym stop.1) all.0
+        (subst (λ (l : List ℕ). Grew before.held l after.held) emitted_are all.1.lines) (drove.no_fault (λ other. absurd (cc (is, other))))
     ended_by why.Refused is =
         let failed = drove.refused is in
         ran_refused c.plan grows compiled origin last m.events so_far before after m.finished m.ended sequential.finished drove.ends
@@ -293,7 +275,7 @@ module _ (c : Running) (grows : Grows) (compiled : IsCompiled c.plan) (origin : 
         ran_short c.plan grows compiled origin last m.events so_far before after m.finished m.ended sequential.finished drove.ends
         (subst (λ (l : List ℕ). GrewWithin before.held l after.held) emitted_are (first_within c.plan m.emitted (outlet before t) (outlet after u) (drove.short is)))
 
-    pub ended_ran : Ran (IsPlanRun c.plan) (outside origin before) (outside last.source after) (ending (status_of_end end.why (stop_in last.state)))
+    pub ended_ran : Ran (IsPlanRun c.plan) (outside origin before) (outside last.source after) (ending (status_of_end end.why))
     ended_ran = ended_by end.why refl
 
   -- memory ran out, and the core is gone

@@ -8,9 +8,10 @@ use Rattle.sp_plan.specs.declared.plan.Plan.{Plan}
 use Rattle.sp_plan.specs.Lines.{text}
 use Rattle.sp_plan.specs.Sequential.{whole}
 use Rattle.sp_intake.specs.Pieces.{Asked, AskedSoFar, AsksFrom}
-use Rattle.sp_intake.specs.Reading.{is_end, read, stop_or}
+use Rattle.sp_intake.specs.Reading.{read, stop_or}
+use Rattle.sp_ports.specs.Stopping.{is_end}
 use Rattle.sp_intake.specs.Standing.{Standing, stop_in}
-use Rattle.sp_intake.specs.declared.input.Failure.{Failure}
+use Rattle.sp_ports.specs.declared.stop.Failure.{Failure}
 use Rattle.sp_answer.specs.Outcome.{Outcome}
 use Rattle.sp_answer.specs.Ran.{Outside, outside}
 use Rattle.sp_cli.specs.Commands.{Command, QuerySource, Speed, command_of, plain, run, trace, drill}

@@ -11,11 +11,12 @@ use Rattle.sp_plan.specs.declared.plan.Opening.{Opening}
 use Rattle.sp_plan.specs.declared.plan.Opening.TheVariants.{EveryEvents, EveryTime, When}
 use Rattle.sp_plan.specs.Windows.{Numbered, Window, closed, windows, windows_by, window_from, within, window_within, number_or, duration, spans}
 use Rattle.sp_group.specs.Steps.{replay}
-use Rattle.sp_intake.specs.Reading.{read, stop_of, is_end}
+use Rattle.sp_intake.specs.Reading.{read, stop_of}
 use Rattle.sp_intake.specs.Standing.{Standing, stop_in, is_whole, Gives, ReadsFrom}
-use Rattle.sp_intake.specs.declared.input.Stop.{Stop}
-use Rattle.sp_intake.specs.declared.input.Stop.TheVariants.{End, Failed, Open}
-use Rattle.sp_intake.specs.declared.input.Failure.TheVariants.{Row, Limit}
+use Rattle.sp_ports.specs.Stopping.{is_end, Halts}
+use Rattle.sp_ports.specs.declared.stop.Stop.{Stop}
+use Rattle.sp_ports.specs.declared.stop.Stop.TheVariants.{End, Failed, Open}
+use Rattle.sp_ports.specs.declared.stop.Failure.TheVariants.{Row, Limit}
 use Rattle.sp_load.specs.Places.{Place}
 use Rattle.sp_load.specs.Queries.{IsPlanAt}
 use Rattle.sp_load.specs.declared.refusal.Refusal.{Refusal}
@@ -87,12 +88,12 @@ only_end (Failed (Row code row column)) is = cc
 only_end (Failed (Limit limit)) is = cc
 only_end Open is = cc
 
-module _ (c : Running) (origin : SourceState) (first last : Standing) (reads : ReadsFrom c.plan origin first) (stopped : Type 0)
-    (halted : stopped → (s : Stop) × (stop_in last.state ≡ Some s) × (is_end s ≡ false)) (before after : OutletState) (speed : Speed) (end : Ended)
+module _ (c : Running) (origin : SourceState) (first last : Standing) (reads : ReadsFrom c.plan origin first) (stopped : Stop → Type 0)
+    (halted : (s : Stop) → stopped s → Halts s (stop_in last.state)) (before after : OutletState) (speed : Speed) (end : Ended)
     (drove : Drove (λ events. Gives first events last) (is_whole (stop_in last.state)) stopped c before after (record { core = end.core; why = end.why }))
     (bound : c.bound ≡ speed.live) (replays : replay end.core.plan end.core.bound end.core.journal ≡ end.core.machine) (about : CameAbout speed.instances end.core end.history)
     (asked : AsksAtMost (most_asked speed.instances speed.batch) end.core.journal) where
-  reported_by : (w : Why) → end.why ≡ w → status_of_end w (stop_in last.state) ≡ Done → ReportsPlan c.plan speed origin.left last.source.left end
+  reported_by : (w : Why) → end.why ≡ w → status_of_end w ≡ Done → ReportsPlan c.plan speed origin.left last.source.left end
   reported_by why.Whole is done =
       let m = end.core.machine in
       let over = drove.whole_input is in
@@ -118,16 +119,14 @@ module _ (c : Running) (origin : SourceState) (first last : Standing) (reads : R
           asked = asked;
         },
       )
-  reported_by why.Stopped is done =
-      let stop = halted (drove.stop is).0 in
-      let status : status_of stop.0 ≡ Done = subst (λ (o : Option Stop). status_of_end why.Stopped o ≡ Done) stop.1 done in
-      let ends = only_end stop.0 status in
-      absurd (cc (ends, stop.2))
+  reported_by (why.Stopped s) is done =
+      let ends = only_end s done in
+      absurd (cc (ends, (halted s (drove.stop s is).0).1))
   reported_by why.Refused is done = absurd (cc done)
   reported_by why.Memory is done = absurd (cc done)
 
   -- what a run that was done ended with is what is reported of it
-  pub reports_plan : status_of_end end.why (stop_in last.state) ≡ Done → ReportsPlan c.plan speed origin.left last.source.left end
+  pub reports_plan : status_of_end end.why ≡ Done → ReportsPlan c.plan speed origin.left last.source.left end
   reports_plan = reported_by end.why refl
 
 -- a run of a plan is one of the same plan, over the same bytes

@@ -30,23 +30,25 @@ use sp_cli::Speed;
 use sp_commands::{shared, status_of, status_of_refusal};
 use sp_core::Core;
 use sp_instance::Gate;
-use sp_intake::{EventReader, Input, Stop};
+use sp_intake::{EventReader, Input};
 use sp_io::{Files, Sink, Source};
 use sp_load::plan_at;
 use sp_plan::{Memory, Plan};
+use sp_ports::Stop;
 use sp_split::{Why, drive};
 use std::alloc::Global;
 use std::sync::{Arc, Wait};
 use std::thread::Threads;
 
-// The status of a run that ended so, where its input gives no more for this reason.
-fn status_of_end(why: Why, stop: Option<Stop>) -> Status
-    ensures { result ≡ ends.status_of_end why stop }
+// The status of a run that ended so.
+fn status_of_end(why: Why) -> Status
+    ensures { result ≡ ends.status_of_end why }
 {
-    match (why, stop) {
-        (Why::Whole | Why::Stopped, Some(stop)) => status_of(stop),
-        (Why::Refused, _) => Status::Write,
-        _ => Status::Memory,
+    match why {
+        Why::Whole => status_of(Stop::End),
+        Why::Stopped(stop) => status_of(stop),
+        Why::Refused => Status::Write,
+        Why::Memory => Status::Memory,
     }
 }
 
@@ -120,7 +122,7 @@ fn drive_core<S: Source, K: Sink, G: Gate, R: Threads + Wait + Sync>(
     ) {
         Ok(ended) => {
             law::steps_lead_to(&ended.core);
-            let status = status_of_end(ended.why, input.stop());
+            let status = status_of_end(ended.why);
             let ended = Some(ended);
             CommandEnd { status, ended }
         }

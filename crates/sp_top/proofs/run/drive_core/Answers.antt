@@ -1,17 +1,19 @@
 use denote.Param.Send.{sendable}
-use Rattle.std.proofs.Common.{◌∙◌, ap, sym, subst}
+use Rattle.std.proofs.Common.{◌∙◌, sym, subst}
 use Rattle.sp_io.specs.Outside.{Rose}
+use Rattle.sp_ports.specs.Stopping.{Halts}
+use Rattle.sp_ports.specs.declared.stop.Stop.{Stop}
 use Rattle.sp_intake.specs.Asked.{standing}
+use Rattle.sp_intake.specs.Standing.{stop_in}
 use Rattle.sp_intake.proofs.Crossing.{input_sent}
 use Rattle.sp_answer.specs.Outcome.{ending}
 use Rattle.sp_answer.specs.Ran.{outside, Ran}
 use Rattle.sp_answer.specs.declared.status.Status.{Status}
 use Rattle.sp_split.specs.declared.ended.Went.{Went}
 use Rattle.sp_cli.specs.Commands.{speed_seen}
-use Rattle.sp_top.specs.RunEnds.{status_of_end}
 use Rattle.sp_commands.specs.Run.{IsPlanRun}
 use Rattle.sp_top.specs.declared.workshop.CommandEnd.{CommandEnd}
-use Rattle.sp_top.proofs.Driven.{outlet, halts, ended_ran, fell_short}
+use Rattle.sp_top.proofs.Driven.{outlet, ended_ran, fell_short}
 use Rattle.sp_top.proofs.Reporting.{reports_plan}
 use Rattle.sp_top.proofs.Prompt.{in_time}
 use Rattle.sp_top.proofs.run.drive_core.Goals as goal
@@ -30,11 +32,11 @@ returns-in-Ok-clause-ran g c origin reads =
     let after = g.K.Sink.state c.drive.new.outlet.out.now in
     let went : Went = record { core = c.in-Ok.ended.core; why = c.in-Ok.ended.why } in
     let ran =
-    ended_ran c.args.core c.growth.ensures c.requires.compiled origin first last reads (Rose old.events.stops new.events.stops)
-    (halts new.events.state old.events.stops new.events.stops c.stop.ensures.halted) before after c.args.lines.now.taken c.drive.new.outlet.taken
+    ended_ran c.args.core c.growth.ensures c.requires.compiled origin first last reads (λ (s : Stop). Rose old.events.stops new.events.stops × Halts s (stop_in new.events.state))
+    (λ s stopped. stopped.1) before after c.args.lines.now.taken c.drive.new.outlet.taken
     went c.in-Ok.ensures.ended c.steps_lead_to.ensures.reached.sequential in
     subst (λ (s : Status). Ran (IsPlanRun q) (outside origin before) (outside last.source after) (ending s))
-    (sym (c.status_of_end-status.ensures ∙ ap (status_of_end c.in-Ok.ended.why) c.stop.ensures.stop)) ran
+    (sym c.status_of_end-status.ensures) ran
 
 pub returns-in-Ok-clause-report : goal.returns-in-Ok-clause-report
 returns-in-Ok-clause-report g c origin reads done =
@@ -44,10 +46,10 @@ returns-in-Ok-clause-report g c origin reads done =
     let last = standing (g.S.Source.state new.source.now) new.events in
     let before = g.K.Sink.state c.args.lines.now.out.now in
     let after = g.K.Sink.state c.drive.new.outlet.out.now in
-    reports_plan c.args.core origin first last reads (Rose old.events.stops new.events.stops)
-    (halts new.events.state old.events.stops new.events.stops c.stop.ensures.halted) (outlet before c.args.lines.now.taken) (outlet after c.drive.new.outlet.taken)
+    reports_plan c.args.core origin first last reads (λ (s : Stop). Rose old.events.stops new.events.stops × Halts s (stop_in new.events.state))
+    (λ s stopped. stopped.1) (outlet before c.args.lines.now.taken) (outlet after c.drive.new.outlet.taken)
     (speed_seen c.args.speed.now) c.in-Ok.ended c.in-Ok.ensures.ended c.requires.bound c.steps_lead_to.ensures.replays c.in-Ok.ensures.about c.in-Ok.ensures.asked
-    (sym (c.status_of_end-status.ensures ∙ ap (status_of_end c.in-Ok.ended.why) c.stop.ensures.stop) ∙ done)
+    (sym c.status_of_end-status.ensures ∙ done)
 
 pub returns-in-Err-clause-ran : goal.returns-in-Err-clause-ran
 returns-in-Err-clause-ran g c origin reads =
@@ -58,7 +60,7 @@ returns-in-Err-clause-ran g c origin reads =
     let before = g.K.Sink.state c.args.lines.now.out.now in
     let after = g.K.Sink.state c.drive.new.outlet.out.now in
     let ran =
-    fell_short c.args.core c.growth.ensures c.requires.compiled origin first last reads (Rose old.events.stops new.events.stops) before after c.args.lines.now.taken c.drive.new.outlet.taken c.in-Err.ensures.short in
+    fell_short c.args.core c.growth.ensures c.requires.compiled origin first last reads before after c.args.lines.now.taken c.drive.new.outlet.taken c.in-Err.ensures.short in
     subst (λ (a : CommandEnd). Ran (IsPlanRun c.args.core.plan) (outside origin before) (outside last.source after) (ending a.status)) (sym c.of.ensures) ran
 
 pub returns-in-Ok-clause-prompt : goal.returns-in-Ok-clause-prompt
