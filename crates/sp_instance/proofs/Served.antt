@@ -1,5 +1,5 @@
 -- What an instance did, job by job.
-use Rattle.std.proofs.Common.{◌≡◌, ℕ, ◌+◌, List, [], ◌∷◌, ◌++◌, length, map, refl, sym, ap, ◌∙◌, append_assoc, arith}
+use Rattle.std.proofs.Common.{◌≡◌, ℕ, ◌+◌, List, [], ◌∷◌, ◌++◌, length, map, None, refl, sym, ap, subst, ◌∙◌, append_assoc, arith}
 use Rattle.std.proofs.lemmas.List.{append-nil, length-append, length-map, map-append}
 use Rattle.sp_hub.specs.State.{Sitting}
 use Rattle.sp_hub.specs.Calls.{puts, takes}
@@ -8,7 +8,7 @@ use Rattle.sp_hub.specs.declared.taken.Taken.TheVariants as taken
 use Rattle.std.proofs.lemmas.List.Elements.{All-nil, All-cons, All-append}
 use Rattle.sp_piece.specs.declared.job.Job.{Job}
 use Rattle.sp_piece.specs.Pieced.{Pieced}
-use Rattle.sp_instance.specs.Doing.{given_by, IsDone, Worked}
+use Rattle.sp_instance.specs.Doing.{given_by, ticket_given, IsDone, Worked, WorkedSome}
 use Rattle.sp_instance.specs.Seats.{Counts, CountsLent, PutAll}
 
 -- before the first job nothing was done
@@ -25,6 +25,40 @@ one_more did more job piece goes same done w = record {
   were = goes w.jobs w.pieces w.were;
   theirs = map-append (λ (p : Pieced). p.job) w.pieces (piece ∷ []) ∙ ap (λ (l : List Job). l ++ piece.job ∷ []) w.theirs ∙ ap (λ (j : Job). w.jobs ++ j ∷ []) same;
   done = All-append IsDone w.pieces (piece ∷ []) w.done (All-cons IsDone piece [] done (All-nil IsDone));
+}
+
+-- the same of so many jobs
+pub none_some : (did : List Job → List Pieced → Type 0) → did [] [] → WorkedSome did 0
+unfolding none_yet
+none_some did none = record { worked = none_yet did none; counted = refl }
+
+pub one_some : (did more : List Job → List Pieced → Type 0) (job : Job) (piece : Pieced)
+    → ((jobs : List Job) (pieces : List Pieced) → did jobs pieces → more (jobs ++ job ∷ []) (pieces ++ piece ∷ []))
+    → piece.job ≡ job → IsDone piece → (count : ℕ) → WorkedSome did count → WorkedSome more (count + 1)
+unfolding one_more
+one_some did more job piece goes same done count w = record {
+  worked = one_more did more job piece goes same done w.worked;
+  counted = length-append w.worked.jobs (job ∷ []) ∙ ap (λ (k : ℕ). k + 1) w.counted;
+}
+
+-- no job was there
+pub none_given : (answer : Taken Job) → ((job : Job) → answer ≡ taken.Job job → ⊥) → (given_by answer ≡ []) × (ticket_given answer ≡ None)
+none_given (taken.Job job) none = absurd (none job refl)
+none_given taken.Empty none = (refl, refl)
+none_given taken.Closed none = (refl, refl)
+
+-- which leaves what was done
+pub as_it_was : (did more : List Job → List Pieced → Type 0) (count : ℕ) (given : List Job) → given ≡ [] → ((jobs : List Job) (pieces : List Pieced) → did jobs pieces → more (jobs ++ given) pieces)
+    → WorkedSome did count → WorkedSome more count
+as_it_was did more count given none goes w = record {
+  worked = record {
+    jobs = w.worked.jobs;
+    pieces = w.worked.pieces;
+    were = subst (λ (l : List Job). more l w.worked.pieces) (ap (λ (l : List Job). w.worked.jobs ++ l) none ∙ append-nil w.worked.jobs) (goes w.worked.jobs w.worked.pieces w.worked.were);
+    theirs = w.worked.theirs;
+    done = w.worked.done;
+  };
+  counted = w.counted;
 }
 
 -- a seat that was given a job more, or none

@@ -40,3 +40,8 @@ pub record Worked (did : List Job → List Pieced → Type 0) : Type 0 where
   pub were : did jobs pieces
   pub theirs : map (λ p. p.job) pieces ≡ jobs
   pub done : All IsDone pieces
+
+-- so it was with so many jobs
+pub record WorkedSome (did : List Job → List Pieced → Type 0) (count : ℕ) : Type 0 where
+  pub worked : Worked did
+  pub counted : length worked.jobs ≡ count

@@ -11,5 +11,5 @@ mod workplace;
 pub use doing::do_job;
 pub use gate::{Gate, OpenGate};
 pub use seated::Seated;
-pub use working::{work, work_all, work_at};
+pub use working::{work, work_all, work_at, work_some, work_some_at};
 pub use workplace::Workplace;

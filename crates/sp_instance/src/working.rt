@@ -1,6 +1,6 @@
-ghost use Rattle.std.specs.Prelude.{◌≡◌, true, None, map, vec_len, vec_capacity};
+ghost use Rattle.std.specs.Prelude.{◌≡◌, ◌≤◌, ◌+◌, true, None, map, vec_len, vec_capacity};
 ghost use Rattle.std.specs.List.{All};
-ghost use Rattle.sp_instance.specs.Doing.{Worked};
+ghost use Rattle.sp_instance.specs.Doing.{Worked, WorkedSome};
 ghost use Rattle.sp_instance.specs.Seats.{PutAll};
 
 use crate::doing::do_job_at;
@@ -49,6 +49,45 @@ pub fn work<L: Naming, G: Gate, R: Wait>(
 {
     let mut place = Seated { rt, hub, seat };
     work_at(rt, alloc, &mut place, gate);
+}
+
+/// Does the jobs that a place has now, one after another, at most so many, and waits for none: each piece that was
+/// put is that of a job that was taken, read whole or given up for want of memory, in the order of taking. Answers
+/// how many.
+pub fn work_some_at<W: Workplace, G: Gate>(alloc: Global, place: &mut W, gate: &G, most: u32) -> u32
+    requires { W.holding place.old ≡ None }
+    ensures free { W.holding place.new ≡ None }
+    ensures done { WorkedSome (λ jobs pieces. W.did place.old jobs pieces place.new) result }
+    ensures few { result ≤ most }
+{
+    for done in 0..most {
+        let Taken::Job(job) = place.take() else {
+            return done;
+        };
+        let piece = do_job_at(alloc, place.number(), job, gate);
+        place.put(piece);
+    }
+    most
+}
+
+/// Does the jobs that are listed at a hub, at a seat, one after another, at most so many, and waits for none. Answers
+/// how many.
+pub fn work_some<L: Naming, G: Gate, R: Wait>(
+    rt: &R,
+    alloc: Global,
+    hub: &Hub<Job, Piece, L>,
+    seat: &mut Seat<Piece, L>,
+    gate: &G,
+    most: u32,
+) -> u32
+    requires { seat.old.holding ≡ None }
+    ensures free { seat.new.holding ≡ None }
+    ensures all { PutAll seat.old seat.new }
+    ensures count { seat.new.calls ≡ seat.old.calls + result }
+    ensures few { result ≤ most }
+{
+    let mut place = Seated { rt, hub, seat };
+    work_some_at(alloc, &mut place, gate, most)
 }
 
 /// An instance for each seat, each on a thread of its own where one can be made, else one after another, until

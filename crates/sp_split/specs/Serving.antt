@@ -1,5 +1,5 @@
 -- What a splitter does between an intake and an outlet.
-use Rattle.std.specs.Prelude.{◌≡◌, ℕ, ◌+◌, ◌<◌, ◌≤◌, Bool, false, List, length, None, Ok, Err, IfOk, OnErr}
+use Rattle.std.specs.Prelude.{◌≡◌, ◌⊎◌, ℕ, ◌+◌, ◌<◌, ◌≤◌, Bool, true, false, List, length, None, Ok, Err, IfOk, OnErr}
 use Rattle.std.specs.declared.result.Result.{Result}
 use Rattle.sp_plan.specs.declared.event.Event.{Event}
 use Rattle.sp_plan.specs.declared.plan.Plan.{Plan}
@@ -42,6 +42,11 @@ pub record CanTurn (instances batch : ℕ) (kept : List Job) (next_ticket : ℕ)
   pub room : by.room ≡ instances + 1
   pub unclosed : by.closed ≡ false
   pub last : IsBelowKept by.last kept next_ticket
+
+-- A splitter that did so many jobs is to wait for a piece: it did none, a piece is out, and no event may be fed before it is home, or there is no
+-- room for one more.
+abbrev pub IsToWait : ℕ → ℕ → ℕ → Bool → Type 0
+IsToWait helped waiting room must_wait = (helped ≡ 0) × (0 < waiting) × ((must_wait ≡ true) ⊎ (waiting ≡ room))
 
 -- How a run with n instances came about: its journal is spread, no more tickets are out than there may be, and as many
 -- tickets were collected at least as readings stand in the journal.

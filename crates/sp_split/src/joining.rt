@@ -63,6 +63,7 @@ fn beside<L: Naming + Send + Sync, I: Intake, O: Outlet, G: Gate, R: Threads + W
         (StoppedFor I.stops I.cause ways.intake result.2.intake)
         desk.splitter.instances desk.splitter.batch desk.splitter.core
         (O.state ways.outlet) (O.state result.2.outlet) result.1.end (length result.1.by.got) }
+    ensures closed { result.1.by.closed ≡ true }
     ensures prompt { IsPrompt (I.asked ways.intake) result.2.intake desk.splitter.core.plan
         (O.state ways.outlet) (O.state result.2.outlet) }
     ensures same { (I.plan result.2.intake ≡ I.plan ways.intake)
@@ -100,6 +101,7 @@ fn beside<L: Naming + Send + Sync, I: Intake, O: Outlet, G: Gate, R: Threads + W
                 desk.splitter.instances desk.splitter.batch desk.splitter.core
                 (O.state ways.outlet) (O.state result.1.outlet) result.0.end
                 (length result.0.by.got) }
+            ensures closed { result.0.by.closed ≡ true }
             ensures prompt { IsPrompt (I.asked ways.intake) result.1.intake
                 desk.splitter.core.plan (O.state ways.outlet) (O.state result.1.outlet) }
             ensures same { (I.plan result.1.intake ≡ I.plan ways.intake)
@@ -115,13 +117,14 @@ fn beside<L: Naming + Send + Sync, I: Intake, O: Outlet, G: Gate, R: Threads + W
     (crew, served, ways)
 }
 
-// What the hub did, once all its seats are back, those of the instances and the splitter's own.
+// What the hub did, once it is closed and all its seats are back, those of the instances and the splitter's own.
 fn wind_up<L: Naming>(
     hub: Hub<Job, Piece, L>,
     by: Poster<Piece, L>,
     others: Vec<Seat<Piece, L>>,
     mine: Seat<Piece, L>,
 ) -> History
+    requires closed { by.closed ≡ true }
     requires whole { vec_len others + 1 ≡ hub.seats }
     requires room { vec_len others < vec_capacity others }
     requires numbers { map (λ s. s.number) others.items ≡ range_with_len 1 (vec_len others) }

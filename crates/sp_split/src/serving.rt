@@ -1,11 +1,12 @@
 // A splitter serves its instances, between an intake and an outlet.
-ghost use Rattle.std.specs.Prelude.{◌≡◌, ◌++◌, ◌∷◌, [], None, true, false, length, IfOk, OnOk, OnErr};
+ghost use Rattle.std.specs.Prelude.{◌≡◌, ◌≤◌, ◌+◌, ◌↔◌, ◌++◌, ◌∷◌, [], None, true, false, length, IfOk, IsTrue, OnOk, OnErr};
 ghost use Rattle.sp_ports.specs.Giving.{AreGood};
 ghost use Rattle.sp_ports.specs.Stopping.{StoppedFor};
 ghost use Rattle.sp_core.specs.Running.{begun};
 ghost use Rattle.sp_split.specs.Driving.{Drove, FellShort};
 ghost use Rattle.sp_split.specs.Prompt.{IsPrompt};
-ghost use Rattle.sp_split.specs.Serving.{CameServing, CanTurn, Filled, Serves};
+ghost use Rattle.sp_instance.specs.Seats.{PutAll};
+ghost use Rattle.sp_split.specs.Serving.{CameServing, CanTurn, Filled, IsToWait, Serves};
 
 use crate::driver::Driver;
 use crate::feeding::{Fed, all_finished};
@@ -13,8 +14,8 @@ use crate::office::Office;
 use crate::running::round;
 use crate::{Memory, Went, Why};
 use sp_core::{Core, CoreFault, Emitted};
-use sp_hub::{Hub, Naming, Poster, Seat, Taken};
-use sp_instance::{Gate, do_job};
+use sp_hub::{Hub, Naming, Poster, Seat};
+use sp_instance::{Gate, work_some};
 use sp_piece::{Job, Piece};
 use sp_plan::Event;
 use sp_ports::{Intake, Outlet};
@@ -40,25 +41,17 @@ pub(crate) struct Served<L: Naming> {
     pub(crate) end: Result<Went, Memory>,
 }
 
-// Does the job that was listed first; answers whether there was one.
-fn do_listed<L: Naming, G: Gate, R: Wait>(
-    office: &Office<'_, L, G, R>,
-    seat: &mut Seat<Piece, L>,
-) -> bool
-    requires { seat.old.holding ≡ None }
-    ensures { seat.new.holding ≡ None }
+// Whether a splitter that did so many jobs waits for a piece: only where it did none, one is out, and nothing else can
+// be done before it comes home, since no event may be fed until a window is finished, or as many pieces are out as may be.
+fn waits(helped: u32, waiting: u32, room: u32, must_wait: bool) -> bool
+    ensures { IsTrue result ↔ IsToWait helped waiting room must_wait }
 {
-    let Taken::Job(job) = office.hub.take(office.rt, seat) else {
-        return false;
-    };
-    let piece = do_job(office.alloc, seat, job, office.gate);
-    office.hub.put(office.rt, seat, piece);
-    true
+    helped == 0 && waiting != 0 && (must_wait || waiting == room)
 }
 
-// Does jobs that are listed, which no instance has taken yet, at most as many as may be out. Where none is listed, waits
-// for a piece if nothing else can be done before one comes home: no event may be fed until a window is finished, or as
-// many pieces are out as may be. No clause says which of this it did, only that the seat holds nothing behind it.
+// Does jobs that are listed, which no instance has taken yet, at most as many as may be out: each is read, and its piece
+// put. Then waits for a piece where there is nothing else to do. That it stops where none is listed, and waits, no clause
+// says: neither leaves anything at the seat.
 fn help<L: Naming, G: Gate, R: Wait>(
     office: &Office<'_, L, G, R>,
     by: &Poster<Piece, L>,
@@ -66,17 +59,13 @@ fn help<L: Naming, G: Gate, R: Wait>(
     must_wait: bool,
 )
     requires { seat.old.holding ≡ None }
-    ensures { seat.new.holding ≡ None }
+    ensures free { seat.new.holding ≡ None }
+    ensures put { PutAll seat.old seat.new }
+    ensures few { seat.new.calls ≤ seat.old.calls + by.now.room }
 {
-    let mut helped = false;
-    for _ in 0..by.room() {
-        if !do_listed(office, seat) {
-            break;
-        }
-        helped = true;
-    }
-    let waiting = by.waiting();
-    if !helped && waiting != 0 && (must_wait || waiting == by.room()) {
+    let room = by.room();
+    let helped = work_some(office.rt, office.alloc, office.hub, seat, office.gate, room);
+    if waits(helped, by.waiting(), room, must_wait) {
         office.hub.wait_home(office.rt, by);
     }
 }
@@ -205,6 +194,16 @@ fn serve_on<I: Intake, O: Outlet, L: Naming, G: Gate, R: Wait>(
     unreachable!()
 }
 
+// Closes the hub: no job is listed there any more.
+fn shut<L: Naming, G: Gate, R: Wait>(office: &Office<'_, L, G, R>, desk: &mut Desk<L>)
+    requires open { desk.old.by.closed ≡ false }
+    ensures closed { desk.new.by.closed ≡ true }
+    ensures got { desk.new.by.got ≡ desk.old.by.got }
+    ensures core { desk.new.splitter.core ≡ desk.old.splitter.core }
+{
+    office.hub.close(office.rt, &mut desk.by);
+}
+
 /// Runs a splitter whose core has done no step, from an intake to an outlet, until the intake gives no more and every
 /// closed window is finished, or a match is refused, or memory runs out. Turn after turn events are fed, a turn is
 /// taken, the matches of the windows that it finished are put, and then the splitter does jobs that are still listed.
@@ -225,6 +224,7 @@ pub(crate) fn serve<I: Intake, O: Outlet, L: Naming, G: Gate, R: Wait>(
         (StoppedFor I.stops I.cause intake.old intake.new) desk.splitter.instances
         desk.splitter.batch desk.splitter.core (O.state outlet.old) (O.state outlet.new)
         result.end (length result.by.got) }
+    ensures closed { result.by.closed ≡ true }
     ensures prompt { IsPrompt (I.asked intake.old) intake.new desk.splitter.core.plan
         (O.state outlet.old) (O.state outlet.new) }
     ensures same { (I.plan intake.new ≡ I.plan intake.old)
@@ -239,7 +239,7 @@ pub(crate) fn serve<I: Intake, O: Outlet, L: Naming, G: Gate, R: Wait>(
     };
     let why = serve_on(office, &mut serving, intake, outlet);
     let Serving { mut desk, .. } = serving;
-    office.hub.close(office.rt, &mut desk.by);
+    shut(office, &mut desk);
     let Desk { splitter, by, seat } = desk;
     let end = match why {
         Ok(why) => Ok(Went {

@@ -2,14 +2,11 @@ use denote.Param.Send.{sendable}
 use Rattle.sp_piece.proofs.Crossing.{job_sent, piece_sent}
 use Rattle.sp_split.proofs.serving.help.Goals as goal
 
-pub room-end-requires-send-P : goal.room-end-requires-send-P
-room-end-requires-send-P g c κs within = search (piece_sent, sendable) depth 20
-
-pub waiting-waiting-requires-send-P : goal.waiting-waiting-requires-send-P
-waiting-waiting-requires-send-P g c κs within = search (piece_sent, sendable) depth 20
-
 pub room-requires-send-P : goal.room-requires-send-P
 room-requires-send-P g c κs within = search (piece_sent, sendable) depth 20
+
+pub waiting-requires-send-P : goal.waiting-requires-send-P
+waiting-requires-send-P g c κs within = search (piece_sent, sendable) depth 20
 
 pub wait_home-requires-send-J : goal.wait_home-requires-send-J
 wait_home-requires-send-J g c κs within = search (job_sent, sendable) depth 20

@@ -38,7 +38,7 @@ pub loop-preserved : goal.loop-preserved
 loop-preserved g c = record {
   going = c.in_ok-round.ensures.goes c.in_default.is c.args.intake.now c.args.serving.now.desk.splitter.core (g.O.Outlet.state c.args.outlet.now) c.loop.invariant.going;
   ready = let it = c.round.new.driver.desk in
-      serving_seat it.splitter.instances it.splitter.batch it.splitter.kept.items it.splitter.core it.by it.seat c.help.new.seat c.help.ensures (c.in_ok-round.ensures.ready c.in_default.is);
+      serving_seat it.splitter.instances it.splitter.batch it.splitter.kept.items it.splitter.core it.by it.seat c.help.new.seat c.help.ensures.free (c.in_ok-round.ensures.ready c.in_default.is);
   instances = c.round.ensures.terms.0 ∙ c.loop.invariant.instances;
   batch = c.round.ensures.terms.1 ∙ c.loop.invariant.batch;
   plan = c.round.ensures.same.0 ∙ c.loop.invariant.plan;
