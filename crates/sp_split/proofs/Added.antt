@@ -1,5 +1,5 @@
 -- What a core worked, one turn after another.
-use Rattle.std.proofs.Common.{◌≡◌, List, [], ◌∷◌, ◌++◌, refl, sym, ◌∙◌, ap, append_assoc}
+use Rattle.std.proofs.Common.{◌≡◌, List, [], ◌∷◌, ◌++◌, refl, ◌∙◌, ap, append_assoc}
 use Rattle.std.proofs.lemmas.Grind.{flat_map-append}
 use Rattle.std.proofs.lemmas.List.{append-nil}
 use Rattle.sp_plan.specs.declared.found.Match.{Match}
@@ -9,7 +9,7 @@ use Rattle.sp_splitter.specs.Stages.{matches_of}
 use Rattle.sp_split.specs.declared.turning.Turn.{Turn}
 use Rattle.sp_split.specs.Stages.{CutOff, Turned, WorkedOff, WorkedOn, WorkedShort, given_out}
 use Rattle.sp_split.specs.declared.turning.Turn.TheVariants as t
-use Rattle.sp_split.proofs.Steps.{worked_more, worked_none}
+use Rattle.sp_split.proofs.Steps.{worked_more}
 
 -- a window more
 pub window_more : (xs : List Emitted) (x : Emitted) → matches_of (xs ++ x ∷ []) ≡ matches_of xs ++ x.matches.items
@@ -20,10 +20,6 @@ pub record Worked (old new : Running) (ms : List Match) : Type 0 where
   pub on : WorkedOn old new
   pub emitted : new.machine.emitted ≡ old.machine.emitted ++ ms
   pub none_out : new.machine.tickets ≡ []
-
--- nothing was done yet
-pub none_worked : (c : Running) → c.machine.tickets ≡ [] → Worked c c []
-none_worked c none = record { on = worked_none c c refl; emitted = sym (append-nil c.machine.emitted); none_out = none }
 
 module _ (a b c : Running) (ms : List Match) (first : Worked a b ms) where
   -- a turn more

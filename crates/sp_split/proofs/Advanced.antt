@@ -1,49 +1,14 @@
 -- What a turn does to a core, whatever takes it.
-use Rattle.std.proofs.Common.{◌≡◌, ℕ, ◌+◌, ◌≤◌, false, List, ◌++◌, length, None, Ok, Err, sym, ◌∙◌, ap, subst, arith}
+use Rattle.std.proofs.Common.{◌≡◌, ℕ, ◌+◌, ◌≤◌, false, List, length, None, Ok, Err, sym, ◌∙◌, ap, subst, arith}
 use Rattle.std.specs.Prelude.{IfOk, OnOk}
 use Rattle.std.specs.declared.result.Result.{Result}
 use Rattle.sp_base.specs.Limits.{batch_limit}
-use Rattle.sp_plan.specs.declared.found.Match.{Match}
 use Rattle.sp_hub.specs.State.{Posting, Sitting}
 use Rattle.sp_piece.specs.declared.job.Job.{Job}
 use Rattle.sp_core.specs.Running.{Running}
 use Rattle.sp_splitter.specs.Stages.{Goes, IsSpreading, ReadOfCollected, Went}
 use Rattle.sp_splitter.specs.Splitting.{IsBelowKept}
 use Rattle.sp_split.specs.Serving.{CameServing, CanTurn, Filled, IsServing}
-use Rattle.sp_split.specs.Stages.{Advanced, CameAlone, FedOn, IsAdvanced, IsAlone, WorkedOff, WorkedOn, WorkedShort}
-
--- a core worked alone
-advanced_by : (old new : Running) (ms : List Match) → WorkedOn old new → new.machine.emitted ≡ old.machine.emitted ++ ms → Advanced old new ms
-advanced_by old new ms w emitted = record { plan = w.on.plan; bound = w.on.bound; events = w.events; ended = w.ended; fed_are = w.on.fed_are; emitted = emitted }
-
-pub advanced_off : (old new : Running) (ms : List Match) → WorkedOff old new ms → Advanced old new ms
-advanced_off old new ms w = advanced_by old new ms w.on w.emitted
-
-pub advanced_short : (old new : Running) → WorkedShort old new → IsAdvanced old new
-advanced_short old new w = (w.matches, advanced_by old new w.matches w.on w.emitted)
-
--- it was fed
-pub alone_fed : (old new : Running) → FedOn old new → IsAlone old → IsAlone new
-alone_fed old new fed is = record { none_out = fed.tickets ∙ is.none_out; alone = fed.on.alone is.alone; asked = fed.on.asked is.asked }
-
--- it worked until nothing was left to do
-pub alone_worked : (old new : Running) (ms : List Match) → WorkedOff old new ms → IsAlone old → IsAlone new
-alone_worked old new ms off is = record { none_out = off.none_out; alone = off.on.on.alone is.alone; asked = off.on.on.asked is.asked }
-
--- or until there was no memory
-pub came_short : (old new : Running) → WorkedShort old new → IsAlone old → CameAlone new
-came_short old new short is = record { alone = short.on.on.alone is.alone; asked = short.on.on.asked is.asked }
-
--- a splitter took a turn
-pub advanced_turn : (n batch : ℕ) (old new : Running) (ms : List Match) → Went n batch old new → new.machine.emitted ≡ old.machine.emitted ++ ms → Advanced old new ms
-advanced_turn n batch old new ms went emitted = record {
-  plan = went.plan;
-  bound = went.bound;
-  events = went.events;
-  ended = went.ended;
-  fed_are = λ are. went.fed_are ∙ are ∙ sym went.events;
-  emitted = emitted;
-}
 
 -- a splitter was fed
 pub serving_fed : (n batch : ℕ) (kept : List Job) (old new : Running) (by : Posting) (seat : Sitting) → Filled old new → IsServing n batch kept old by seat → IsServing n batch kept new by seat

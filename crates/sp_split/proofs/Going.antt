@@ -3,7 +3,6 @@ use Rattle.std.proofs.Common.{◌≡◌, ℕ, zero, suc, ◌+◌, ◌-◌, ◌�
 use Rattle.std.specs.Prelude.{slice_get}
 use Rattle.std.specs.List.{enumerate_from}
 use Rattle.std.proofs.lemmas.List.{append-nil}
-use Rattle.std.proofs.lemmas.List.Elements.{All-nil}
 use Rattle.sp_io.specs.Outside.{Rose}
 use Rattle.sp_plan.specs.declared.event.Event.{Event}
 use Rattle.sp_plan.specs.declared.found.Match.{Match}
@@ -13,7 +12,6 @@ use Rattle.sp_plan.specs.Runs.{matched_runs, state}
 use Rattle.sp_plan.specs.Sequential.{Progress, match_of, seq, visible, whole}
 use Rattle.sp_plan.specs.WindowNumbers.{Good}
 use Rattle.sp_plan.specs.Windows.{IsWindowed, closed, windows}
-use Rattle.sp_group.specs.declared.step.Entry.{Entry}
 use Rattle.sp_rules.specs.Schedules.{Reached}
 use Rattle.sp_window.specs.Laws.{FinishedStay}
 use Rattle.sp_ports.specs.Giving.{AreGood}
@@ -25,7 +23,7 @@ use Rattle.sp_split.specs.declared.ended.Why.TheVariants as why
 use Rattle.sp_split.specs.declared.feeding.Fed.{Fed}
 use Rattle.sp_split.specs.declared.feeding.Fed.TheVariants as f
 use Rattle.sp_split.specs.Driving.{Drove, FailedWithin, FellShort}
-use Rattle.sp_spread.specs.Journaled.{fed, makes_child, MakesNoChild}
+use Rattle.sp_spread.specs.Journaled.{fed}
 use Rattle.sp_split.specs.Going.{Going, Ran}
 use Rattle.sp_split.specs.Stages.{AllFinished, Advanced, AdvancedWith, FedOn, GoesOn, IsFed}
 use Rattle.sp_split.proofs.Taken.{took_none, took_more, took_first, failed_behind, first_behind}
@@ -42,10 +40,6 @@ going_none gave c s fresh given = subst (λ (d : Running). Going gave c d s s) (
   took = took_none c.plan s;
   no_fault = refl;
 })
-
--- no version was made yet
-pub alone_none : (c : Running) → c ≡ begun c.plan c.bound → MakesNoChild c.journal
-alone_none c fresh = subst (λ (d : Running). MakesNoChild d.journal) (sym fresh) (All-nil (λ (e : Entry). makes_child e.step ≡ false))
 
 -- the core was fed
 pub going_fed : (gave gave' : List Event → Type 0) (first c d : Running) (old s : OutletState) → Going gave first c old s → FedOn c d → gave' d.machine.events → Going gave' first d old s

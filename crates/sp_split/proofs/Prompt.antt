@@ -144,9 +144,6 @@ asked_step asks may flag first mid last a b c on alone step = λ from before was
     (step from first x.1))
     (on from before was)
 
-pub asked_still : {A : Type 0} (asks : A → List Event → List Event → A → Type 0) (may : Type 0) (events : List Event) (a : A) → AskedOn asks may events events a a
-asked_still asks may events a = λ from before was. inl was
-
 -- after want of memory what an intake answered is lost
 pub lost_one : {A : Type 0} (gave : A → List Event → A → Type 0) (asks : A → List Event → List Event → A → Type 0) (may : Type 0) (events later given : List Event) (old new : A) → later ≡ events
     → ((from : A) (xs : List Event) → gave from xs old → gave from (xs ++ given) new) → AskedOn asks may events (events ++ given) old new

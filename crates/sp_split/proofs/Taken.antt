@@ -115,7 +115,3 @@ first_behind q xs ys a b c took f = record {
   front = f.front;
   count = f.count;
 }
-
--- the first of no matches were taken
-pub first_none : (q : Plan) (s : OutletState) → TookFirst q [] s s
-first_none q s = took_first q [] [] [] s s refl (took_none q s)

@@ -112,8 +112,8 @@ fn run_alone<I: Intake, O: Outlet>(
 /// its input, `Stopped` only where its count of stops rose, with the reason that it keeps, `Refused` only where the
 /// outlet's count of faults did; the windows that are closed are finished for the first two, and all their matches
 /// were taken. After want of memory the outlet took the first matches of what the events given come to. However it
-/// ends, the intake asked the outside for more only where the outlet had taken all matches of the windows that were
-/// closed by then.
+/// ends, where the intake asked the outside for more last, the outlet had taken all matches of the windows that the
+/// events given before close.
 ///
 /// Besides, and no clause says so: at most `batch` events, 1 to 1,024, are fed before the windows that they closed
 /// are finished, and the predictor learns from what was read.

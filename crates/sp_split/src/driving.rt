@@ -30,9 +30,9 @@ use std::thread::Threads;
 /// comes only where the intake reached the end of its input, `Stopped` only where its count of stops rose, with the
 /// reason that it keeps, `Refused` only where the outlet's count of faults did; the windows that are closed are
 /// finished for the first two, and all their matches were taken. After want of memory the outlet took the first
-/// matches of what the events given come to. However it ends, the intake asked the outside for more only where the
-/// outlet had taken all matches of the windows that were closed by then. The history of the hub names the seats of
-/// the instances, which are those from 1 on, as told at the end that no job will come.
+/// matches of what the events given come to. However it ends, where the intake asked the outside for more last, the
+/// outlet had taken all matches of the windows that the events given before close. The history of the hub names the
+/// seats of the instances, which are those from 1 on, as told at the end that no job will come.
 ///
 /// Besides, and no clause says so: an instance has a thread of its own where one can be made, and does each job inside
 /// the gate; at most `batch` events, 1 to 1,024, are fed between two turns; and it is this predictor that is asked and
