@@ -5,8 +5,7 @@ ghost use Rattle.sp_base.specs.Limits.{live_limit, batch_limit};
 ghost use Rattle.sp_io.specs.Outside.{SourceState};
 ghost use Rattle.sp_plan.specs.Compiled.{IsCompiled};
 ghost use Rattle.sp_core.specs.Running.{begun};
-ghost use Rattle.sp_intake.specs.Kept.{plan_in};
-ghost use Rattle.sp_intake.specs.Asked.{standing, IsFresh, IsUnasked};
+ghost use Rattle.sp_intake.specs.Asked.{plan_in, standing, IsFresh, IsUnasked};
 ghost use Rattle.sp_intake.specs.Pieces.{AsksFrom};
 ghost use Rattle.sp_intake.specs.Standing.{ReadsFrom};
 ghost use Rattle.sp_answer.specs.Outcome.{ending};
@@ -69,7 +68,7 @@ fn start_of(alloc: Global, plan: Plan, live: u32) -> Result<Start, Memory>
     ensures core { IfOk result (λ start. start.core ≡ begun plan live) }
     ensures fresh { IfOk result (λ start. IsFresh plan start.events) }
     ensures unasked { IfOk result (λ start. IsUnasked plan start.events) }
-    ensures plan_in { IfOk result (λ start. plan_in start.events.reader.kept ≡ plan) }
+    ensures plan_in { IfOk result (λ start. plan_in start.events ≡ plan) }
     ensures none { IfOk result (λ start. start.events.stops ≡ 0) }
 {
     let plan = shared(alloc, plan)?;
@@ -92,7 +91,7 @@ fn drive_core<S: Source, K: Sink, G: Gate, R: Threads + Wait + Sync>(
     requires batch { (1 ≤ speed.now.batch) × (speed.now.batch ≤ batch_limit) }
     requires instances { speed.now.instances ≤ 16 }
     requires compiled { IsCompiled core.plan }
-    requires plan_in { plan_in input.old.events.reader.kept ≡ core.plan }
+    requires plan_in { plan_in input.old.events ≡ core.plan }
     requires unstopped { input.old.events.stops ≡ 0 }
     requires plan_out { arc_value lines.old.plan ≡ core.plan }
     ensures ran { (origin : SourceState)
