@@ -1,5 +1,5 @@
 -- How a run came about, and one that ended before it began.
-use Rattle.std.proofs.Common.{◌≡◌, ℕ, zero, suc, ◌+◌, ◌<◌, Bool, false, List, [], take, refl, sym, subst, ap, ◌∙◌, arith}
+use Rattle.std.proofs.Common.{◌≡◌, ℕ, zero, suc, ◌+◌, ◌<◌, Bool, false, List, [], take, Option, refl, sym, subst, ap, ◌∙◌, arith}
 use Rattle.std.specs.Prelude.{Ok, Err}
 use Rattle.std.specs.declared.result.Result.{Result}
 use Rattle.sp_plan.specs.declared.event.Event.{Event}
@@ -78,13 +78,13 @@ fell_at_once gave ended q s given = record {
 }
 
 -- what was served, with what the hub did
-pub ends_with : {E : Type 0} (gave : List Event → Type 0) (ended : Bool) (stopped : Stop → Type 0) (n batch : ℕ) (c : Running) (old new : OutletState) (end : Result went.Went E) (collected : ℕ) (history : History)
-    → Serves gave ended stopped n batch c old new end collected → 0 < n → WoundUp (n + 1) collected history → ReturnsFollowReadings
-    → Ends gave ended stopped n batch c old new (ending history end)
-ends_with gave ended stopped n batch c old new (Ok w) collected history served some wound law = record {
+pub ends_with : {E : Type 0} (gave : List Event → Type 0) (ended : Bool) (before behind : ℕ) (kept : Option Stop) (n batch : ℕ) (c : Running) (old new : OutletState) (end : Result went.Went E) (collected : ℕ) (history : History)
+    → Serves gave ended before behind kept n batch c old new end collected → 0 < n → WoundUp (n + 1) collected history → ReturnsFollowReadings
+    → Ends gave ended before behind kept n batch c old new (ending history end)
+ends_with gave ended before behind kept n batch c old new (Ok w) collected history served some wound law = record {
   drove = served.drove;
   about = came_about n w.core collected history some served.came wound law;
   asked = served.asked;
   short = tt;
 }
-ends_with gave ended stopped n batch c old new (Err e) collected history served some wound law = record { drove = tt; about = tt; asked = tt; short = served.short }
+ends_with gave ended before behind kept n batch c old new (Err e) collected history served some wound law = record { drove = tt; about = tt; asked = tt; short = served.short }

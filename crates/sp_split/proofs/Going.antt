@@ -15,14 +15,13 @@ use Rattle.sp_plan.specs.Windows.{IsWindowed, closed, windows}
 use Rattle.sp_rules.specs.Schedules.{Reached}
 use Rattle.sp_window.specs.Laws.{FinishedStay}
 use Rattle.sp_ports.specs.Giving.{AreGood}
-use Rattle.sp_ports.specs.Stopping.{StoppedFor}
 use Rattle.sp_ports.specs.declared.stop.Stop.{Stop}
 use Rattle.sp_ports.specs.Taking.{OutletState, Took, TookFirst}
 use Rattle.sp_core.specs.Running.{Running, begun}
 use Rattle.sp_split.specs.declared.ended.Why.TheVariants as why
 use Rattle.sp_split.specs.declared.feeding.Fed.{Fed}
 use Rattle.sp_split.specs.declared.feeding.Fed.TheVariants as f
-use Rattle.sp_split.specs.Driving.{Drove, FailedWithin, FellShort}
+use Rattle.sp_split.specs.Driving.{Drove, FailedWithin, FellShort, StoppedSo}
 use Rattle.sp_spread.specs.Journaled.{fed}
 use Rattle.sp_split.specs.Going.{Going, Ran}
 use Rattle.sp_split.specs.Stages.{AllFinished, Advanced, AdvancedWith, FedOn, GoesOn, IsFed}
@@ -86,25 +85,25 @@ module _ (gave : List Event → Type 0) (first c d : Running) (old s t : OutletS
         (first_behind first.plan c.machine.emitted w.0 old s t going.took (subst (λ (q : Plan). TookFirst q w.0 s t) same w.2))
 
 -- why feeding ended, by what was told of an end and of a stop
-abbrev pub WasFed : Fed → Bool → Bool → (Stop → Type 0) → Type 0
-WasFed f.More told all stopped = told ≡ false
-WasFed f.Dry told all stopped = told ≡ false
-WasFed f.End told all stopped = (told ≡ true) × (all ≡ true)
-WasFed (f.Stop cause) told all stopped = (told ≡ false) × stopped cause
+abbrev pub WasFed : Fed → Bool → Bool → ℕ → ℕ → Option Stop → Type 0
+WasFed f.More told all before behind kept = told ≡ false
+WasFed f.Dry told all before behind kept = told ≡ false
+WasFed f.End told all before behind kept = (told ≡ true) × (all ≡ true)
+WasFed (f.Stop cause) told all before behind kept = (told ≡ false) × StoppedSo before behind kept cause
 
 pub was_fed : {A : Type 0} (ended : A → Bool) (stops : A → ℕ) (cause : A → Option Stop) (from now : A) (fed : Fed) (told : Bool) → IsFed ended stops cause from now fed told
-    → WasFed fed told (ended now) (StoppedFor stops cause from now)
+    → WasFed fed told (ended now) (stops from) (stops now) (cause now)
 was_fed ended stops cause from now f.More told is = is.0
 was_fed ended stops cause from now f.Dry told is = is.0
 was_fed ended stops cause from now f.End told is = is
 was_fed ended stops cause from now (f.Stop reason) told is = is
 
 -- the end of input is told only where it was reached
-ends_fed : (fed : Fed) (ended all : Bool) (stopped : Stop → Type 0) → WasFed fed ended all stopped → ended ≡ true → all ≡ true
-ends_fed f.More ended all stopped is told = absurd (cc)
-ends_fed f.Dry ended all stopped is told = absurd (cc)
-ends_fed f.End ended all stopped is told = is.1
-ends_fed (f.Stop cause) ended all stopped is told = let no = is.0 in absurd (cc)
+ends_fed : (fed : Fed) (ended all : Bool) (before behind : ℕ) (kept : Option Stop) → WasFed fed ended all before behind kept → ended ≡ true → all ≡ true
+ends_fed f.More ended all before behind kept is told = absurd (cc)
+ends_fed f.Dry ended all before behind kept is told = absurd (cc)
+ends_fed f.End ended all before behind kept is told = is.1
+ends_fed (f.Stop cause) ended all before behind kept is told = let no = is.0 in absurd (cc)
 
 pub rose_from : (before old new : ℕ) → old ≡ before → Rose old new → Rose before new
 rose_from before old new same rose = subst (λ (n : ℕ). Rose n new) same rose
@@ -126,13 +125,13 @@ fed_later ended stops cause from now fed told later same is = subst (λ (b : Boo
 one_reason : (x y : Stop) → why.Stopped x ≡ why.Stopped y → x ≡ y
 one_reason x y same = cc
 
-module _ (gave : List Event → Type 0) (all : Bool) (stopped : Stop → Type 0) (first c : Running) (old new : OutletState) (fed : Fed) (is : WasFed fed c.machine.ended all stopped)
+module _ (gave : List Event → Type 0) (all : Bool) (before behind : ℕ) (kept : Option Stop) (first c : Running) (old new : OutletState) (fed : Fed) (is : WasFed fed c.machine.ended all before behind kept)
     (run : Ran gave first c) where
   ends : c.machine.ended ≡ true → all ≡ true
-  ends = ends_fed fed c.machine.ended all stopped is
+  ends = ends_fed fed c.machine.ended all before behind kept is
 
   -- the outlet failed
-  pub drove_refused : Rose old.faults new.faults → FailedWithin first.plan c.machine.emitted old new → Drove gave all stopped first old new (record { core = c; why = why.Refused })
+  pub drove_refused : Rose old.faults new.faults → FailedWithin first.plan c.machine.emitted old new → Drove gave all before behind kept first old new (record { core = c; why = why.Refused })
   drove_refused rose failed = record {
     plan = run.plan;
     bound = run.bound;
@@ -148,7 +147,7 @@ module _ (gave : List Event → Type 0) (all : Bool) (stopped : Stop → Type 0)
   }
 
   -- there was no memory
-  pub drove_short : TookFirst first.plan c.machine.emitted old new → new.faults ≡ old.faults → Drove gave all stopped first old new (record { core = c; why = why.Memory })
+  pub drove_short : TookFirst first.plan c.machine.emitted old new → new.faults ≡ old.faults → Drove gave all before behind kept first old new (record { core = c; why = why.Memory })
   drove_short took same = record {
     plan = run.plan;
     bound = run.bound;
@@ -168,7 +167,7 @@ module _ (gave : List Event → Type 0) (all : Bool) (stopped : Stop → Type 0)
     finished_first = finished ∙ ap (λ (q : Plan). closed q c.machine.events c.machine.ended) run.plan
 
     -- the end of input was reached
-    pub drove_whole : c.machine.ended ≡ true → Drove gave all stopped first old new (record { core = c; why = why.Whole })
+    pub drove_whole : c.machine.ended ≡ true → Drove gave all before behind kept first old new (record { core = c; why = why.Whole })
     drove_whole ended = record {
       plan = run.plan;
       bound = run.bound;
@@ -184,7 +183,7 @@ module _ (gave : List Event → Type 0) (all : Bool) (stopped : Stop → Type 0)
     }
 
     -- the intake stopped before
-    pub drove_stopped : (cause : Stop) → stopped cause → c.machine.ended ≡ false → Drove gave all stopped first old new (record { core = c; why = why.Stopped cause })
+    pub drove_stopped : (cause : Stop) → StoppedSo before behind kept cause → c.machine.ended ≡ false → Drove gave all before behind kept first old new (record { core = c; why = why.Stopped cause })
     drove_stopped cause stops unended = record {
       plan = run.plan;
       bound = run.bound;
@@ -192,7 +191,7 @@ module _ (gave : List Event → Type 0) (all : Bool) (stopped : Stop → Type 0)
       fed_are = run.fed_are;
       ends = ends;
       whole_input = λ no. absurd (cc);
-      stop = λ other same. (subst stopped (one_reason cause other same) stops, unended);
+      stop = λ other same. (subst (StoppedSo before behind kept) (one_reason cause other same) stops, unended);
       finished = λ _. (finished_first, took);
       refused = λ no. absurd (cc);
       short = λ no. absurd (cc);

@@ -1,5 +1,5 @@
 -- What a run has behind a turn, and what it ends with there.
-use Rattle.std.proofs.Common.{◌≡◌, ◌≢◌, Bool, true, false, cond, List, Some, None, Ok, Err, refl, sym, ◌∙◌, subst}
+use Rattle.std.proofs.Common.{◌≡◌, ◌≢◌, ℕ, Option, Bool, true, false, cond, List, Some, None, Ok, Err, refl, sym, ◌∙◌, subst}
 use Rattle.std.specs.Prelude.{OnOk}
 use Rattle.std.specs.declared.result.Result.{Result}
 use Rattle.sp_io.specs.Outside.{Rose}
@@ -79,38 +79,38 @@ put_on A fed (Ok x) all goes_on a = a
 put_on A fed (Err o.Failed) all goes_on a = absurd (cc goes_on)
 put_on A fed (Err o.Memory) all goes_on a = absurd (cc goes_on)
 
-module _ (gave : List Event → Type 0) (whole : Bool) (stopped : Stop → Type 0) (first last : Running) (old new : OutletState) where
+module _ (gave : List Event → Type 0) (whole : Bool) (before behind : ℕ) (kept : Option Stop) (first last : Running) (old new : OutletState) where
   pub going_on : {T : Type 0} (fed : Fed) (put : Result T OutFault) (all : Bool) → None ≡ why_over fed put all → AfterTurn gave first last old new put → Going gave first last old new
   going_on fed (Ok x) all goes_on b = record { run = b.run; took = b.took; no_fault = b.no_fault (λ no. cc no) }
   going_on fed (Err o.Failed) all goes_on b = absurd (cc goes_on)
   going_on fed (Err o.Memory) all goes_on b = absurd (cc goes_on)
 
   abbrev pub Ends : Why → Type 0
-  Ends w = Drove gave whole stopped first old new (record { core = last; why = w })
+  Ends w = Drove gave whole before behind kept first old new (record { core = last; why = w })
 
   -- every closed window is finished, and feeding ended so
-  drove_fed : (fed : Fed) (w : Why) → Some w ≡ why_fed fed → WasFed fed last.machine.ended whole stopped → Ran gave first last → AllFinished last → Took first.plan last.machine.emitted old new
+  drove_fed : (fed : Fed) (w : Why) → Some w ≡ why_fed fed → WasFed fed last.machine.ended whole before behind kept → Ran gave first last → AllFinished last → Took first.plan last.machine.emitted old new
       → new.faults ≡ old.faults → Ends w
   drove_fed f.More w over is run finished took quiet = absurd (cc over)
   drove_fed f.Dry w over is run finished took quiet = absurd (cc over)
   drove_fed f.End w over is run finished took quiet =
       let same : w ≡ why.Whole = cc over in
-      subst Ends (sym same) (drove_whole gave whole stopped first last old new f.End is run finished took quiet is.0)
+      subst Ends (sym same) (drove_whole gave whole before behind kept first last old new f.End is run finished took quiet is.0)
   drove_fed (f.Stop cause) w over is run finished took quiet =
       let same : w ≡ why.Stopped cause = cc over in
-      subst Ends (sym same) (drove_stopped gave whole stopped first last old new (f.Stop cause) is run finished took quiet cause is.1 is.0)
+      subst Ends (sym same) (drove_stopped gave whole before behind kept first last old new (f.Stop cause) is run finished took quiet cause is.1 is.0)
 
-  drove_if : (fed : Fed) (all : Bool) (w : Why) → Some w ≡ cond all (why_fed fed) None → WasFed fed last.machine.ended whole stopped → Ran gave first last → (all ≡ true → AllFinished last)
+  drove_if : (fed : Fed) (all : Bool) (w : Why) → Some w ≡ cond all (why_fed fed) None → WasFed fed last.machine.ended whole before behind kept → Ran gave first last → (all ≡ true → AllFinished last)
       → Took first.plan last.machine.emitted old new → new.faults ≡ old.faults → Ends w
   drove_if fed true w over is run finished took quiet = drove_fed fed w over is run (finished refl) took quiet
   drove_if fed false w over is run finished took quiet = absurd (cc over)
 
-  pub drove_over : {T : Type 0} (fed : Fed) (put : Result T OutFault) (all : Bool) (w : Why) → Some w ≡ why_over fed put all → WasFed fed last.machine.ended whole stopped
+  pub drove_over : {T : Type 0} (fed : Fed) (put : Result T OutFault) (all : Bool) (w : Why) → Some w ≡ why_over fed put all → WasFed fed last.machine.ended whole before behind kept
       → OnOk put (all ≡ true → AllFinished last) → AfterTurn gave first last old new put → Ends w
   drove_over fed (Ok x) all w over is finished b = drove_if fed all w over is b.run finished b.took (b.no_fault (λ no. cc no))
   drove_over fed (Err o.Failed) all w over is finished b =
       let same : w ≡ why.Refused = cc over in
-      subst Ends (sym same) (drove_refused gave whole stopped first last old new fed is b.run (b.rose refl) (b.failed refl))
+      subst Ends (sym same) (drove_refused gave whole before behind kept first last old new fed is b.run (b.rose refl) (b.failed refl))
   drove_over fed (Err o.Memory) all w over is finished b =
       let same : w ≡ why.Memory = cc over in
-      subst Ends (sym same) (drove_short gave whole stopped first last old new fed is b.run (b.short refl) (b.no_fault (λ no. cc no)))
+      subst Ends (sym same) (drove_short gave whole before behind kept first last old new fed is b.run (b.short refl) (b.no_fault (λ no. cc no)))

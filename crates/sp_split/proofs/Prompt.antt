@@ -19,7 +19,6 @@ use Rattle.sp_plan.specs.Sequential.{seq, whole}
 use Rattle.sp_plan.specs.Windows.{Window, closed, spans, windows_by}
 use Rattle.sp_rules.specs.Schedules.{Reached}
 use Rattle.sp_ports.specs.Taking.{OutletState, Took, TookFirst}
-use Rattle.sp_ports.specs.Stopping.{StoppedFor}
 use Rattle.sp_ports.specs.declared.stop.Stop.{Stop}
 use Rattle.sp_ports.specs.declared.outlet.OutFault.{OutFault}
 use Rattle.sp_ports.specs.declared.outlet.OutFault.TheVariants as o
@@ -206,10 +205,10 @@ if_some P (Some w) f = f w refl
 -- a run that is given up
 pub going_stops : {A : Type 0} (gave : A → List Event → A → Type 0) (asks : A → List Event → List Event → A → Type 0) (ended : A → Bool) (stops : A → ℕ) (cause : A → Option Stop) (from now : A) (first c : Running)
     (old new : OutletState) (last : Fed) → IsGoing gave asks ended stops cause from now first c old new last
-    → Drove (λ events. gave from events now) (ended now) (StoppedFor stops cause from now) first old new (record { core = c; why = why.Memory })
+    → Drove (λ events. gave from events now) (ended now) (stops from) (stops now) (cause now) first old new (record { core = c; why = why.Memory })
 going_stops gave asks ended stops cause from now first c old new last is =
     let emitted = c.machine.emitted in
-    drove_short (λ events. gave from events now) (ended now) (StoppedFor stops cause from now) first c old new last (was_fed ended stops cause from now last c.machine.ended is.fed_so) is.going.run
+    drove_short (λ events. gave from events now) (ended now) (stops from) (stops now) (cause now) first c old new last (was_fed ended stops cause from now last c.machine.ended is.fed_so) is.going.run
     (took_first first.plan emitted [] emitted old new (sym (append-nil emitted)) is.going.took) is.going.no_fault
 
 pub if_some_at : {W : Type 0} (P : W → Type 0) (o : Option W) (w : W) → o ≡ Some w → IfSome o P → P w

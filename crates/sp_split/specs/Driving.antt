@@ -1,5 +1,5 @@
 -- What a run of a core comes to, from an intake to an outlet.
-use Rattle.std.specs.Prelude.{◌≡◌, ◌≢◌, ◌⊎◌, ℕ, zero, suc, ◌+◌, ◌<◌, ◌≤◌, Bool, true, false, List, [], ◌∷◌, ◌++◌, length}
+use Rattle.std.specs.Prelude.{◌≡◌, ◌≢◌, ◌⊎◌, ℕ, zero, suc, ◌+◌, ◌<◌, ◌≤◌, Bool, true, false, List, [], ◌∷◌, ◌++◌, length, Option}
 use Rattle.std.specs.List.{count_by, sum, Contains}
 use Rattle.sp_base.specs.Limits.{batch_limit}
 use Rattle.sp_io.specs.Outside.{Rose}
@@ -15,6 +15,7 @@ use Rattle.sp_group.specs.Steps.{Spread, out_count}
 use Rattle.sp_core.specs.Running.{Running}
 use Rattle.sp_ports.specs.Taking.{OutletState, Took, TookFirst, FailedAt}
 use Rattle.sp_ports.specs.declared.stop.Stop.{Stop}
+use Rattle.sp_ports.specs.Stopping.{Halts}
 use Rattle.sp_split.specs.declared.ended.Went.{Went}
 use Rattle.sp_split.specs.declared.ended.Why.TheVariants as why
 use Rattle.sp_spread.specs.Journaled.{fed, returns_read, MakesNoChild}
@@ -28,9 +29,13 @@ pub record FailedWithin (q : Plan) (matches : List Match) (old new : OutletState
   pub are : matches ≡ first ++ found ∷ others
   pub failed : FailedAt q first found old new
 
+-- by its count of stops before and behind, and by what it keeps as the reason that it gives no more, an intake stopped for this reason
+abbrev pub StoppedSo : ℕ → ℕ → Option Stop → Stop → Type 0
+StoppedSo before behind kept reason = Rose before behind × Halts reason kept
+
 -- A run of a core over what an intake gave. `gave` says which events it gave in the run, `ended` whether the end of its input was
--- reached, and `stopped` that it stopped before, for this reason.
-pub record Drove (gave : List Event → Type 0) (ended : Bool) (stopped : Stop → Type 0) (c : Running) (old new : OutletState) (end : Went) : Type 0 where
+-- reached, `before` and `behind` how often it had stopped before its end and has by now, and `kept` what it keeps as the reason, if anything.
+pub record Drove (gave : List Event → Type 0) (ended : Bool) (before behind : ℕ) (kept : Option Stop) (c : Running) (old new : OutletState) (end : Went) : Type 0 where
   pub plan : end.core.plan ≡ c.plan
   pub bound : end.core.bound ≡ c.bound
   -- what was fed is what the intake gave, in its order
@@ -40,7 +45,7 @@ pub record Drove (gave : List Event → Type 0) (ended : Bool) (stopped : Stop �
   pub ends : end.core.machine.ended ≡ true → ended ≡ true
   pub whole_input : end.why ≡ why.Whole → end.core.machine.ended ≡ true
   -- it ended for the reason for which the intake stopped
-  pub stop : (cause : Stop) → end.why ≡ why.Stopped cause → stopped cause × (end.core.machine.ended ≡ false)
+  pub stop : (cause : Stop) → end.why ≡ why.Stopped cause → StoppedSo before behind kept cause × (end.core.machine.ended ≡ false)
   -- every closed window is finished, and all that was emitted was taken
   pub finished : (end.why ≡ why.Whole) ⊎ ((cause : Stop) × (end.why ≡ why.Stopped cause))
       → (end.core.machine.finished ≡ closed c.plan end.core.machine.events end.core.machine.ended) × Took c.plan end.core.machine.emitted old new

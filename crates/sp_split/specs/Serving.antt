@@ -1,5 +1,5 @@
 -- What a splitter does between an intake and an outlet.
-use Rattle.std.specs.Prelude.{◌≡◌, ◌⊎◌, ℕ, ◌+◌, ◌<◌, ◌≤◌, Bool, true, false, List, length, None, Ok, Err, IfOk, OnErr}
+use Rattle.std.specs.Prelude.{◌≡◌, ◌⊎◌, ℕ, ◌+◌, ◌<◌, ◌≤◌, Bool, true, false, List, length, Option, None, Ok, Err, IfOk, OnErr}
 use Rattle.std.specs.declared.result.Result.{Result}
 use Rattle.sp_plan.specs.declared.event.Event.{Event}
 use Rattle.sp_plan.specs.declared.plan.Plan.{Plan}
@@ -92,8 +92,8 @@ pub record WoundUp (seats collected : ℕ) (h : History) : Type 0 where
   pub over : (seat : ℕ) → 0 < seat → seat < seats → Contains h.over seat
 
 -- A splitter served n instances by a batch, and ended so, and its poster collected so many tickets.
-pub record Serves {E : Type 0} (gave : List Event → Type 0) (ended : Bool) (stopped : Stop → Type 0) (n batch : ℕ) (c : Running) (old new : OutletState) (end : Result went.Went E) (collected : ℕ) : Type 0 where
-  pub drove : IfOk end (λ went. Drove gave ended stopped c old new went)
+pub record Serves {E : Type 0} (gave : List Event → Type 0) (ended : Bool) (before behind : ℕ) (kept : Option Stop) (n batch : ℕ) (c : Running) (old new : OutletState) (end : Result went.Went E) (collected : ℕ) : Type 0 where
+  pub drove : IfOk end (λ went. Drove gave ended before behind kept c old new went)
   pub came : IfOk end (λ went. CameBy n went.core collected)
   pub asked : IfOk end (λ went. AsksAtMost batch went.core.journal)
   pub short : OnErr end (FellShort gave ended c.plan old new)
@@ -107,8 +107,8 @@ pub record MayServe (c : Running) (instances batch : ℕ) (kept : List Job) (by 
   pub outlet_plan : outlet ≡ c.plan
 
 -- A run with n instances, of which no lease asked for more events than so many, ended so, with what its hub did.
-pub record Ends {E : Type 0} (gave : List Event → Type 0) (ended : Bool) (stopped : Stop → Type 0) (n most : ℕ) (c : Running) (old new : OutletState) (end : Result ended_as.Ended E) : Type 0 where
-  pub drove : IfOk end (λ e. Drove gave ended stopped c old new (record { core = e.core; why = e.why }))
+pub record Ends {E : Type 0} (gave : List Event → Type 0) (ended : Bool) (before behind : ℕ) (kept : Option Stop) (n most : ℕ) (c : Running) (old new : OutletState) (end : Result ended_as.Ended E) : Type 0 where
+  pub drove : IfOk end (λ e. Drove gave ended before behind kept c old new (record { core = e.core; why = e.why }))
   pub about : IfOk end (λ e. CameAbout n e.core e.history)
   pub asked : IfOk end (λ e. AsksAtMost most e.core.journal)
   pub short : OnErr end (FellShort gave ended c.plan old new)

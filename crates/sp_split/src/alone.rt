@@ -1,7 +1,6 @@
 // A core on one thread: events are fed, and the root is read, window after window.
 ghost use Rattle.std.specs.Prelude.{◌≡◌, ◌≤◌, IfOk, OnOk, OnErr};
 ghost use Rattle.sp_base.specs.Limits.{batch_limit};
-ghost use Rattle.sp_ports.specs.Stopping.{StoppedFor};
 ghost use Rattle.sp_core.specs.Running.{begun};
 ghost use Rattle.sp_spread.specs.Journaled.{MakesNoChild};
 ghost use Rattle.sp_spread.specs.Limiting.{AsksAtMost};
@@ -82,8 +81,9 @@ fn run_alone<I: Intake, O: Outlet>(
     requires outlet_plan { O.plan outlet.old ≡ lone.old.core.plan }
     ensures ended { IfOk result (λ why. Drove (λ events. I.gave intake.old events intake.new)
         (I.ended intake.new)
-        (StoppedFor I.stops I.cause intake.old intake.new) lone.old.core (O.state outlet.old)
-        (O.state outlet.new) (record { core = lone.new.core; why = why })) }
+        (I.stops intake.old) (I.stops intake.new) (I.cause intake.new)
+        lone.old.core (O.state outlet.old) (O.state outlet.new)
+        (record { core = lone.new.core; why = why })) }
     ensures alone { CameAlone lone.new.core }
     ensures short { OnErr result
         (FellShort (λ events. I.gave intake.old events intake.new) (I.ended intake.new)
@@ -132,8 +132,8 @@ pub(crate) fn drive_alone<I: Intake, O: Outlet>(
     requires outlet_plan { O.plan outlet.old ≡ core.plan }
     ensures ended { IfOk result (Drove (λ events. I.gave intake.old events intake.new)
         (I.ended intake.new)
-        (StoppedFor I.stops I.cause intake.old intake.new) core (O.state outlet.old)
-        (O.state outlet.new)) }
+        (I.stops intake.old) (I.stops intake.new) (I.cause intake.new)
+        core (O.state outlet.old) (O.state outlet.new)) }
     ensures alone { IfOk result (λ end. MakesNoChild end.core.journal) }
     ensures asked { IfOk result (λ end. AsksAtMost batch_limit end.core.journal) }
     ensures short { OnErr result

@@ -1,7 +1,6 @@
 // A core and its instances, from an intake to an outlet.
 ghost use Rattle.std.specs.Prelude.{◌≡◌, ◌≤◌, ◌<◌, [], IfOk, OnErr};
 ghost use Rattle.sp_base.specs.Limits.{batch_limit};
-ghost use Rattle.sp_ports.specs.Stopping.{StoppedFor};
 ghost use Rattle.sp_core.specs.Running.{begun};
 ghost use Rattle.sp_spread.specs.Limiting.{AsksAtMost};
 ghost use Rattle.sp_split.specs.Driving.{CameAbout, Drove, FellShort, most_asked};
@@ -56,8 +55,8 @@ pub fn drive<I: Intake, O: Outlet, G: Gate, R: Threads + Wait + Sync>(
     requires outlet_plan { O.plan outlet.old ≡ core.plan }
     ensures ended { IfOk result (λ end. Drove (λ events. I.gave intake.old events intake.new)
         (I.ended intake.new)
-        (StoppedFor I.stops I.cause intake.old intake.new) core (O.state outlet.old)
-        (O.state outlet.new)
+        (I.stops intake.old) (I.stops intake.new) (I.cause intake.new)
+        core (O.state outlet.old) (O.state outlet.new)
         (record { core = end.core; why = end.why })) }
     ensures about { IfOk result (λ end. CameAbout instances end.core end.history) }
     ensures asked { IfOk result (λ end. AsksAtMost (most_asked instances batch) end.core.journal) }
@@ -94,8 +93,8 @@ fn drive_lone<I: Intake, O: Outlet>(
     requires intake_plan { I.plan intake.old ≡ core.plan }
     requires outlet_plan { O.plan outlet.old ≡ core.plan }
     ensures ends { Ends (λ events. I.gave intake.old events intake.new) (I.ended intake.new)
-        (StoppedFor I.stops I.cause intake.old intake.new) 0 batch_limit core (O.state outlet.old)
-        (O.state outlet.new) result }
+        (I.stops intake.old) (I.stops intake.new) (I.cause intake.new)
+        0 batch_limit core (O.state outlet.old) (O.state outlet.new) result }
     ensures prompt { IsPrompt (I.asked intake.old) intake.new core.plan (O.state outlet.old)
         (O.state outlet.new) }
     ensures same { (I.plan intake.new ≡ I.plan intake.old)
@@ -136,7 +135,7 @@ fn drive_shared<I: Intake, O: Outlet, G: Gate, R: Threads + Wait + Sync>(
     requires intake_plan { I.plan intake.old ≡ splitter.core.plan }
     requires outlet_plan { O.plan outlet.old ≡ splitter.core.plan }
     ensures ends { Ends (λ events. I.gave intake.old events intake.new) (I.ended intake.new)
-        (λ why. StoppedFor I.stops I.cause intake.old intake.new why)
+        (I.stops intake.old) (I.stops intake.new) (I.cause intake.new)
         splitter.instances splitter.batch splitter.core
         (O.state outlet.old) (O.state outlet.new) result }
     ensures prompt { IsPrompt (I.asked intake.old) intake.new splitter.core.plan

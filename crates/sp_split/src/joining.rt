@@ -3,7 +3,6 @@ ghost use Rattle.std.specs.Prelude.{◌≡◌, ◌≤◌, ◌<◌, ◌+◌, [], 
 ghost use Rattle.std.specs.List.{All, range_with_len};
 ghost use Rattle.std.specs.Thread.{IsSync};
 ghost use Rattle.sp_base.specs.Limits.{batch_limit};
-ghost use Rattle.sp_ports.specs.Stopping.{StoppedFor};
 ghost use Rattle.sp_core.specs.Running.{begun};
 ghost use Rattle.sp_split.specs.Prompt.{IsPrompt};
 ghost use Rattle.sp_split.specs.Serving.{Ends, MayServe, Serves, WoundUp, ending};
@@ -60,7 +59,7 @@ fn beside<L: Naming + Send + Sync, I: Intake, O: Outlet, G: Gate, R: Threads + W
     ensures over { All (λ s. s.over ≡ true) result.0.seats }
     ensures served { Serves (λ events. I.gave ways.intake events result.2.intake)
         (I.ended result.2.intake)
-        (StoppedFor I.stops I.cause ways.intake result.2.intake)
+        (I.stops ways.intake) (I.stops result.2.intake) (I.cause result.2.intake)
         desk.splitter.instances desk.splitter.batch desk.splitter.core
         (O.state ways.outlet) (O.state result.2.outlet) result.1.end (length result.1.by.got) }
     ensures closed { result.1.by.closed ≡ true }
@@ -97,7 +96,7 @@ fn beside<L: Naming + Send + Sync, I: Intake, O: Outlet, G: Gate, R: Threads + W
                 (I.plan ways.intake) (O.plan ways.outlet) }
             ensures served { Serves (λ events. I.gave ways.intake events result.1.intake)
                 (I.ended result.1.intake)
-                (StoppedFor I.stops I.cause ways.intake result.1.intake)
+                (I.stops ways.intake) (I.stops result.1.intake) (I.cause result.1.intake)
                 desk.splitter.instances desk.splitter.batch desk.splitter.core
                 (O.state ways.outlet) (O.state result.1.outlet) result.0.end
                 (length result.0.by.got) }
@@ -167,7 +166,7 @@ pub(crate) fn under<
     requires outlet_plan { O.plan ways.outlet ≡ splitter.core.plan }
     ensures ends { Ends (λ events. I.gave ways.intake events result.1.intake)
         (I.ended result.1.intake)
-        (λ why. StoppedFor I.stops I.cause ways.intake result.1.intake why)
+        (I.stops ways.intake) (I.stops result.1.intake) (I.cause result.1.intake)
         splitter.instances splitter.batch splitter.core
         (O.state ways.outlet) (O.state result.1.outlet) result.0 }
     ensures prompt { IsPrompt (I.asked ways.intake) result.1.intake splitter.core.plan

@@ -2,7 +2,6 @@
 ghost use Rattle.std.specs.Prelude.{◌≡◌, ◌≢◌, ◌≤◌, ◌+◌, IfOk, IfSome, Err, None, OnOk, OnErr, length};
 ghost use Rattle.sp_io.specs.Outside.{Rose};
 ghost use Rattle.sp_core.specs.Running.{Running};
-ghost use Rattle.sp_ports.specs.Stopping.{StoppedFor};
 ghost use Rattle.sp_ports.specs.Taking.{OutletState, Took, TookFirst};
 ghost use Rattle.sp_ports.specs.declared.outlet.OutFault.TheVariants as o;
 ghost use Rattle.sp_split.specs.Driving.{Drove, FailedWithin, FellShort};
@@ -91,8 +90,8 @@ pub(crate) fn round<D: Driver, I: Intake, O: Outlet>(
         → IsGoing I.gave I.asked I.ended I.stops I.cause from intake.old first
         (D.core driver.old) old (O.state outlet.old) last
         → Drove (λ events. I.gave from events intake.new) (I.ended intake.new)
-        (StoppedFor I.stops I.cause from intake.new) first old (O.state outlet.new)
-        (record { core = D.core driver.new; why = why }))) }
+        (I.stops from) (I.stops intake.new) (I.cause intake.new)
+        first old (O.state outlet.new) (record { core = D.core driver.new; why = why }))) }
     ensures short { OnErr result ((from : I) (first : Running) (old : OutletState)
         → I.plan from ≡ first.plan
         → IsGoing I.gave I.asked I.ended I.stops I.cause from intake.old first

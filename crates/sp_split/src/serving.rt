@@ -1,7 +1,6 @@
 // A splitter serves its instances, between an intake and an outlet.
 ghost use Rattle.std.specs.Prelude.{◌≡◌, ◌≤◌, ◌+◌, ◌↔◌, ◌++◌, ◌∷◌, [], None, true, false, length, IfOk, IsTrue, OnOk, OnErr};
 ghost use Rattle.sp_ports.specs.Giving.{AreGood};
-ghost use Rattle.sp_ports.specs.Stopping.{StoppedFor};
 ghost use Rattle.sp_core.specs.Running.{begun};
 ghost use Rattle.sp_split.specs.Driving.{Drove, FellShort};
 ghost use Rattle.sp_split.specs.Prompt.{IsPrompt};
@@ -165,8 +164,8 @@ fn serve_on<I: Intake, O: Outlet, L: Naming, G: Gate, R: Wait>(
     requires outlet_plan { O.plan outlet.old ≡ serving.old.desk.splitter.core.plan }
     ensures ended { IfOk result (λ why. Drove (λ events. I.gave intake.old events intake.new)
         (I.ended intake.new)
-        (StoppedFor I.stops I.cause intake.old intake.new) serving.old.desk.splitter.core
-        (O.state outlet.old) (O.state outlet.new)
+        (I.stops intake.old) (I.stops intake.new) (I.cause intake.new)
+        serving.old.desk.splitter.core (O.state outlet.old) (O.state outlet.new)
         (record { core = serving.new.desk.splitter.core; why = why })) }
     ensures came { CameServing serving.old.desk.splitter.instances
         serving.old.desk.splitter.batch serving.new.desk.splitter.core serving.new.desk.by }
@@ -221,9 +220,9 @@ pub(crate) fn serve<I: Intake, O: Outlet, L: Naming, G: Gate, R: Wait>(
     requires intake_plan { I.plan intake.old ≡ desk.splitter.core.plan }
     requires outlet_plan { O.plan outlet.old ≡ desk.splitter.core.plan }
     ensures served { Serves (λ events. I.gave intake.old events intake.new) (I.ended intake.new)
-        (StoppedFor I.stops I.cause intake.old intake.new) desk.splitter.instances
-        desk.splitter.batch desk.splitter.core (O.state outlet.old) (O.state outlet.new)
-        result.end (length result.by.got) }
+        (I.stops intake.old) (I.stops intake.new) (I.cause intake.new)
+        desk.splitter.instances desk.splitter.batch desk.splitter.core (O.state outlet.old)
+        (O.state outlet.new) result.end (length result.by.got) }
     ensures closed { result.by.closed ≡ true }
     ensures prompt { IsPrompt (I.asked intake.old) intake.new desk.splitter.core.plan
         (O.state outlet.old) (O.state outlet.new) }

@@ -12,3 +12,6 @@ returns-in_err-splitter-clause-short g c =
 
 pub returns-in_err-splitter-clause-prompt : goal.returns-in_err-splitter-clause-prompt
 returns-in_err-splitter-clause-prompt g c = prompt_none (g.I.Intake.asked c.args.intake.now) c.args.intake.now c.args.core.plan (g.O.Outlet.state c.args.outlet.now) (g.I.Intake.asked_none c.args.intake.now)
+
+pub returns-clause-ended : goal.returns-clause-ended
+returns-clause-ended g c = rw c.in_ok-splitter.ensures.core at c.drive_shared.ensures.ends.drove

@@ -1,5 +1,5 @@
 use denote.Param.Send.{sendable}
-use Rattle.std.proofs.Common.{List, rules}
+use Rattle.std.proofs.Common.{List, rules, sym}
 use Rattle.std.proofs.lemmas.Result.{err_from_is_err_and}
 use Rattle.sp_plan.specs.declared.event.Event.{Event}
 use Rattle.sp_piece.proofs.Crossing.{piece_sent}
@@ -20,7 +20,7 @@ pub returns-clause-ends : goal.returns-clause-ends
 returns-clause-ends g c =
     let names = both_parts _ _ _ _ c.under-ended.ensures.same.1 in
     let outs = both_parts _ _ _ _ c.under-ended.ensures.same_out.1 in
-    search rules
+    rw (c.intake-1.given.1 (sym names.0), c.outlet-1.given.1 (sym outs.0)) c.under-ended.ensures.ends
 
 pub returns-clause-same : goal.returns-clause-same
 returns-clause-same g c = let names = both_parts _ _ _ _ c.under-ended.ensures.same.1 in search rules

@@ -8,7 +8,6 @@ use Rattle.sp_hub.specs.Calls.{fresh_seat}
 use Rattle.sp_hub.proofs.Seats.{all_free}
 use Rattle.sp_hub.proofs.Told.{behind_first}
 use Rattle.sp_piece.proofs.Crossing.{job_sent, piece_sent}
-use Rattle.sp_ports.specs.Stopping.{StoppedFor}
 use Rattle.sp_split.specs.Crews.{Crewed}
 use Rattle.sp_split.specs.Serving.{Ends, WoundUp}
 use Rattle.sp_split.proofs.About.{ends_with, fell_at_once}
@@ -99,7 +98,9 @@ returns-clause-ends g c =
     let last = c.beside-crew.result.2.intake in
     let G = λ (events : List Event). g.I.Intake.gave first events last in
     let all = g.I.Intake.ended last in
-    let stopped = StoppedFor g.I.Intake.stops g.I.Intake.cause first last in
+    let before = g.I.Intake.stops first in
+    let behind = g.I.Intake.stops last in
+    let kept = g.I.Intake.cause last in
     let n = c.args.splitter.instances in
     let batch = c.args.splitter.batch in
     let start = c.args.splitter.core in
@@ -108,8 +109,8 @@ returns-clause-ends g c =
     let history = c.wind_up-history.result in
     let seats : c.in-Ok.made.0.seats ≡ n + 1 = ap (λ (h : Extent). h.seats) c.in-Ok.ensures.hub ∙ c.requires.places.0 in
     let wound = subst (λ (k : ℕ). WoundUp k (length c.beside-crew.result.1.by.got) history) seats c.wind_up-history.ensures in
-    subst (λ r. Ends G all stopped n batch start old new r) (sym c.with_history.ensures)
-    (ends_with G all stopped n batch start old new c.beside-crew.result.1.end (length c.beside-crew.result.1.by.got) history c.beside-crew.ensures.served c.requires.instances.0 wound c.returns_follow_readings.ensures)
+    subst (λ r. Ends G all before behind kept n batch start old new r) (sym c.with_history.ensures)
+    (ends_with G all before behind kept n batch start old new c.beside-crew.result.1.end (length c.beside-crew.result.1.by.got) history c.beside-crew.ensures.served c.requires.instances.0 wound c.returns_follow_readings.ensures)
 
 pub returns-in-Err-clause-prompt : goal.returns-in-Err-clause-prompt
 returns-in-Err-clause-prompt g c = prompt_none (g.I.Intake.asked c.args.ways.intake) c.args.ways.intake c.args.splitter.core.plan (g.O.Outlet.state c.args.ways.outlet) (g.I.Intake.asked_none c.args.ways.intake)

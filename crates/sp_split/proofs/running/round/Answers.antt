@@ -5,7 +5,6 @@ use Rattle.sp_plan.specs.declared.plan.Plan.{Plan}
 use Rattle.sp_plan.specs.Compiled.{IsCompiled}
 use Rattle.sp_rules.specs.Schedules.{Reached}
 use Rattle.sp_ports.specs.Giving.{AreGood}
-use Rattle.sp_ports.specs.Stopping.{StoppedFor}
 use Rattle.sp_core.specs.Running.{Running}
 use Rattle.sp_split.specs.Stages.{AllFinished}
 use Rattle.sp_split.proofs.Going.{fed_later, fell_short, was_fed}
@@ -49,13 +48,12 @@ returns-clause-goes g c = λ goes_on from first old going.
     let own = c.work_and_put-put.ensures in
     let G = λ (xs : List Event). g.I.Intake.gave from xs c.feed.new.intake in
     let whole = g.I.Intake.ended c.feed.new.intake in
-    let stopped = StoppedFor g.I.Intake.stops g.I.Intake.cause from c.feed.new.intake in
     let same = ended_any put mid last _ _ _ own.done own.failed own.short in
     let is = fed_later g.I.Intake.ended g.I.Intake.stops g.I.Intake.cause from c.feed.new.intake fed mid.machine.ended last.machine.ended same (c.in_ok-fed.ensures.is from going.fed_so) in
     let turned = fed_turn _ G first before mid last old s new going.going c.feed.ensures.on (c.in_ok-fed.ensures.given from going.going.run.given) _ (c.requires.plan ∙ going.going.run.plan)
     put own.done own.failed own.short own.rose own.no_fault in
     record {
-      going = going_on G whole stopped first last old new fed put c.all_finished-all.result (sym goes_on ∙ c.why_over-over.ensures) turned;
+      going = going_on G whole (g.I.Intake.stops from) (g.I.Intake.stops c.feed.new.intake) (g.I.Intake.cause c.feed.new.intake) first last old new fed put c.all_finished-all.result (sym goes_on ∙ c.why_over-over.ensures) turned;
       fed_so = is;
       behind = behind_round g.I.Intake.asked from c.args.intake.now c.feed.new.intake first before mid last old s new _ put going.behind c.in_ok-fed.ensures.asked
           (took_all first before old s (subst (λ (r : Running). Reached r.plan r.bound r.machine) c.core.ensures c.steps_lead_to.ensures.reached) going.going.run.plan going.going.took) own.done own.failed own.short;
@@ -73,12 +71,11 @@ returns-clause-ended g c = if_some _ c.why_over-over.result (λ why so from firs
     let own = c.work_and_put-put.ensures in
     let G = λ (xs : List Event). g.I.Intake.gave from xs c.feed.new.intake in
     let whole = g.I.Intake.ended c.feed.new.intake in
-    let stopped = StoppedFor g.I.Intake.stops g.I.Intake.cause from c.feed.new.intake in
     let same = ended_any put mid last _ _ _ own.done own.failed own.short in
     let is = fed_later g.I.Intake.ended g.I.Intake.stops g.I.Intake.cause from c.feed.new.intake fed mid.machine.ended last.machine.ended same (c.in_ok-fed.ensures.is from going.fed_so) in
     let turned = fed_turn _ G first before mid last old s new going.going c.feed.ensures.on (c.in_ok-fed.ensures.given from going.going.run.given) _ (c.requires.plan ∙ going.going.run.plan)
     put own.done own.failed own.short own.rose own.no_fault in
-    drove_over G whole stopped first last old new fed put c.all_finished-all.result why (so ∙ c.why_over-over.ensures) (was_fed g.I.Intake.ended g.I.Intake.stops g.I.Intake.cause from c.feed.new.intake fed last.machine.ended is)
+    drove_over G whole (g.I.Intake.stops from) (g.I.Intake.stops c.feed.new.intake) (g.I.Intake.cause c.feed.new.intake) first last old new fed put c.all_finished-all.result why (so ∙ c.why_over-over.ensures) (was_fed g.I.Intake.ended g.I.Intake.stops g.I.Intake.cause from c.feed.new.intake fed last.machine.ended is)
     (on_any _ put (subst (λ (r : Running). c.all_finished-all.result ≡ true → AllFinished r) c.core-2.ensures c.all_finished-all.ensures.0)) turned)
 
 pub returns-clause-prompt : goal.returns-clause-prompt

@@ -2,8 +2,8 @@ use denote.Param.Send.{sendable}
 use Rattle.sp_piece.proofs.Crossing.{job_sent, piece_sent}
 use Rattle.sp_split.proofs.serving.help.Goals as goal
 
-pub room-requires-send-P : goal.room-requires-send-P
-room-requires-send-P g c κs within = search (piece_sent, sendable) depth 20
+pub room-room-requires-send-P : goal.room-room-requires-send-P
+room-room-requires-send-P g c κs within = search (piece_sent, sendable) depth 20
 
 pub waiting-requires-send-P : goal.waiting-requires-send-P
 waiting-requires-send-P g c κs within = search (piece_sent, sendable) depth 20
