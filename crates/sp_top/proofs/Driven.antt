@@ -18,7 +18,7 @@ use Rattle.sp_intake.specs.Intake.{TakesNoFurther}
 use Rattle.sp_intake.specs.Reading.{read, stop_of}
 use Rattle.sp_intake.specs.Standing.{Standing, stop_in, is_whole, ReadSoFar, Gives, ReadsFrom}
 use Rattle.sp_intake.proofs.FitReading.{read_fits}
-use Rattle.sp_ports.specs.Stopping.{is_end, Halts}
+use Rattle.sp_ports.specs.Stopping.{is_end}
 use Rattle.sp_ports.specs.declared.stop.Stop.{Stop}
 use Rattle.sp_ports.specs.declared.stop.Stop.TheVariants.{End, Failed, Open}
 use Rattle.sp_answer.specs.Outcome.{Ending, ending}
@@ -239,7 +239,7 @@ module _ (q : Plan) (grows : Grows) (compiled : IsCompiled q) (origin : SourceSt
 
 -- What a run of a core ended with is what is promised of the run, by why it ended.
 module _ (c : Running) (grows : Grows) (compiled : IsCompiled c.plan) (origin : SourceState) (first last : Standing) (reads : ReadsFrom c.plan origin first) where
-  module _ (stopped : Stop → Type 0) (halted : (s : Stop) → stopped s → Halts s (stop_in last.state)) (before after : SinkState) (t u : ℕ) (end : Went) (drove : Drove (λ events. Gives first events last) (is_whole (stop_in last.state)) stopped c (outlet before t) (outlet after u) end)
+  module _ (stops_before stops_behind : ℕ) (before after : SinkState) (t u : ℕ) (end : Went) (drove : Drove (λ events. Gives first events last) (is_whole (stop_in last.state)) stops_before stops_behind (stop_in last.state) c (outlet before t) (outlet after u) end)
       (kept : IsSequential end.core.plan end.core.machine) where
     abbrev m : Machine
     m = end.core.machine
@@ -263,7 +263,7 @@ module _ (c : Running) (grows : Grows) (compiled : IsCompiled c.plan) (origin : 
     ended_by (why.Stopped s) is =
         let stop = drove.stop s is in
         let all = drove.finished (inr (s, is)) in
-        let at = halted s stop.0 in
+        let at = stop.0.1 in
         ran_done c.plan grows compiled origin last m.events so_far before after s m.finished m.ended at.0 (at.1 ∙ sym stop.1) all.0
         (subst (λ (l : List ℕ). Grew before.held l after.held) emitted_are all.1.lines) (drove.no_fault (λ other. absurd (cc (is, other))))
     ended_by why.Refused is =

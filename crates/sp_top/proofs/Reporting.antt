@@ -13,7 +13,7 @@ use Rattle.sp_plan.specs.Windows.{Numbered, Window, closed, windows, windows_by,
 use Rattle.sp_group.specs.Steps.{replay}
 use Rattle.sp_intake.specs.Reading.{read, stop_of}
 use Rattle.sp_intake.specs.Standing.{Standing, stop_in, is_whole, Gives, ReadsFrom}
-use Rattle.sp_ports.specs.Stopping.{is_end, Halts}
+use Rattle.sp_ports.specs.Stopping.{is_end}
 use Rattle.sp_ports.specs.declared.stop.Stop.{Stop}
 use Rattle.sp_ports.specs.declared.stop.Stop.TheVariants.{End, Failed, Open}
 use Rattle.sp_ports.specs.declared.stop.Failure.TheVariants.{Row, Limit}
@@ -88,9 +88,9 @@ only_end (Failed (Row code row column)) is = cc
 only_end (Failed (Limit limit)) is = cc
 only_end Open is = cc
 
-module _ (c : Running) (origin : SourceState) (first last : Standing) (reads : ReadsFrom c.plan origin first) (stopped : Stop → Type 0)
-    (halted : (s : Stop) → stopped s → Halts s (stop_in last.state)) (before after : OutletState) (speed : Speed) (end : Ended)
-    (drove : Drove (λ events. Gives first events last) (is_whole (stop_in last.state)) stopped c before after (record { core = end.core; why = end.why }))
+module _ (c : Running) (origin : SourceState) (first last : Standing) (reads : ReadsFrom c.plan origin first) (stops_before stops_behind : ℕ)
+    (before after : OutletState) (speed : Speed) (end : Ended)
+    (drove : Drove (λ events. Gives first events last) (is_whole (stop_in last.state)) stops_before stops_behind (stop_in last.state) c before after (record { core = end.core; why = end.why }))
     (bound : c.bound ≡ speed.live) (replays : replay end.core.plan end.core.bound end.core.journal ≡ end.core.machine) (about : CameAbout speed.instances end.core end.history)
     (asked : AsksAtMost (most_asked speed.instances speed.batch) end.core.journal) where
   reported_by : (w : Why) → end.why ≡ w → status_of_end w ≡ Done → ReportsPlan c.plan speed origin.left last.source.left end
@@ -121,7 +121,7 @@ module _ (c : Running) (origin : SourceState) (first last : Standing) (reads : R
       )
   reported_by (why.Stopped s) is done =
       let ends = only_end s done in
-      absurd (cc (ends, (halted s (drove.stop s is).0).1))
+      absurd (cc (ends, (drove.stop s is).0.1.1))
   reported_by why.Refused is done = absurd (cc done)
   reported_by why.Memory is done = absurd (cc done)
 

@@ -1,12 +1,10 @@
 use denote.Param.Send.{sendable}
 use Rattle.std.proofs.Common.{◌∙◌, sym, subst}
 use Rattle.sp_intake.specs.Asked.{standing}
-use Rattle.sp_intake.specs.Standing.{stop_in}
 use Rattle.sp_intake.proofs.Crossing.{input_sent}
 use Rattle.sp_answer.specs.Outcome.{ending}
 use Rattle.sp_answer.specs.Ran.{outside, Ran}
 use Rattle.sp_answer.specs.declared.status.Status.{Status}
-use Rattle.sp_split.specs.Driving.{StoppedSo}
 use Rattle.sp_split.specs.declared.ended.Went.{Went}
 use Rattle.sp_cli.specs.Commands.{speed_seen}
 use Rattle.sp_commands.specs.Run.{IsPlanRun}
@@ -30,8 +28,8 @@ returns-in-Ok-clause-ran g c origin reads =
     let after = g.K.Sink.state c.drive.new.outlet.out.now in
     let went : Went = record { core = c.in-Ok.ended.core; why = c.in-Ok.ended.why } in
     let ran =
-    ended_ran c.args.core c.growth.ensures c.requires.compiled origin first last reads (StoppedSo old.events.stops new.events.stops (stop_in new.events.state))
-    (λ s stopped. stopped.1) before after c.args.lines.now.taken c.drive.new.outlet.taken
+    ended_ran c.args.core c.growth.ensures c.requires.compiled origin first last reads old.events.stops new.events.stops
+    before after c.args.lines.now.taken c.drive.new.outlet.taken
     went c.in-Ok.ensures.ended c.steps_lead_to.ensures.reached.sequential in
     subst (λ (s : Status). Ran (IsPlanRun q) (outside origin before) (outside last.source after) (ending s))
     (sym c.status_of_end-status.ensures) ran
@@ -44,8 +42,8 @@ returns-in-Ok-clause-report g c origin reads done =
     let last = standing (g.S.Source.state new.source.now) new.events in
     let before = g.K.Sink.state c.args.lines.now.out.now in
     let after = g.K.Sink.state c.drive.new.outlet.out.now in
-    reports_plan c.args.core origin first last reads (StoppedSo old.events.stops new.events.stops (stop_in new.events.state))
-    (λ s stopped. stopped.1) (outlet before c.args.lines.now.taken) (outlet after c.drive.new.outlet.taken)
+    reports_plan c.args.core origin first last reads old.events.stops new.events.stops
+    (outlet before c.args.lines.now.taken) (outlet after c.drive.new.outlet.taken)
     (speed_seen c.args.speed.now) c.in-Ok.ended c.in-Ok.ensures.ended c.requires.bound c.steps_lead_to.ensures.replays c.in-Ok.ensures.about c.in-Ok.ensures.asked
     (sym c.status_of_end-status.ensures ∙ done)
 
