@@ -1,5 +1,5 @@
 -- All that an input gives, in a list.
-use Rattle.std.proofs.Common.{◌≡◌, ◌≤◌, List, [], length, Ok, Err, sym, ◌∙◌, ap, subst}
+use Rattle.std.proofs.Common.{◌≡◌, ◌≤◌, List, length, Ok, Err, sym, ◌∙◌, ap, subst}
 use Rattle.std.specs.Prelude.{Option, Some, Result, IsErr, IfOk}
 use Rattle.std.specs.declared.alloc.AllocError.{AllocError}
 use Rattle.sp_base.specs.Limits.{event_limit}

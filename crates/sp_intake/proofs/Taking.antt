@@ -1,12 +1,11 @@
 -- A row that is taken, and one that stops the reading.
-use Rattle.std.proofs.Common.{◌≡◌, ◌≢◌, ◌==◌, ◌≤◌, ℕ, ◌+◌, Bool, true, false, List, [], ◌∷◌, ◌++◌, length, refl, sym, ◌∙◌, ap, subst, arith}
+use Rattle.std.proofs.Common.{◌≡◌, ◌≢◌, ◌==◌, ◌≤◌, ℕ, ◌+◌, Bool, true, false, List, [], ◌∷◌, length, refl, sym, ◌∙◌, ap, subst, arith}
 use Rattle.std.specs.Prelude.{Option, Some, None, Ok, is_some, if◌then◌else◌}
 use Rattle.std.proofs.lemmas.Bool.{eq-eqb, ne_eqb}
 use Rattle.std.proofs.lemmas.List.{append-nil}
 use Rattle.sp_base.specs.Limits.{event_limit}
 use Rattle.sp_io.specs.Outside.{SourceState}
 use Rattle.sp_plan.specs.declared.event.Event.{Event}
-use Rattle.sp_plan.specs.declared.plan.Plan.{Plan}
 use Rattle.sp_cut.specs.declared.span.Span.{Span}
 use Rattle.sp_cut.specs.Answer.{Begins, GivesRow}
 use Rattle.sp_cut.specs.CutRows.{CutRow, row, long_row, open_quote}

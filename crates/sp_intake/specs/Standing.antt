@@ -93,13 +93,13 @@ Gives old events new = (bytes : List ℕ) × Reads old bytes events new
 abbrev pub ReadsFrom : Plan → SourceState → Standing → Type 0
 ReadsFrom q before first = (events : List Event) (last : Standing) → Gives first events last → ReadSoFar q before last.source events (stop_in last.state)
 
--- the event that was put in, where a step gives one
+-- the event that was put in, where the step is one
 abbrev pub given_by : Step → Option Event → List Event
 given_by step.Event given = event_in given
 given_by (step.Stop stop) given = []
 given_by step.Ask given = []
 
--- and where memory did not run out
+-- the same of an answer, which may be want of memory
 abbrev pub given_in : Result Step AllocError → Option Event → List Event
 given_in (Ok told) given = given_by told given
 given_in (Err e) given = []
@@ -110,13 +110,13 @@ state_by step.Event = Going
 state_by (step.Stop stop) = Stopped stop
 state_by step.Ask = Going
 
--- behind a row, or where none is left: a row that gives no event is no step
+-- the same where a row was looked for, which is no step where it gives no event
 abbrev pub state_after : Result (Option Step) AllocError → State
 state_after (Ok None) = Going
 state_after (Ok (Some told)) = state_by told
 state_after (Err e) = Broken
 
--- the event that a row gives, which was put in, if it gives one
+-- and the event that it gives, which was put in
 abbrev pub given_after : Result (Option Step) AllocError → Option Event → List Event
 given_after (Ok None) given = []
 given_after (Ok (Some told)) given = given_by told given

@@ -1,4 +1,4 @@
-ghost use Rattle.std.specs.Prelude.{◌≡◌, []};
+ghost use Rattle.std.specs.Prelude.{◌≡◌};
 ghost use Rattle.sp_intake.specs.Standing.{Gives, stop_in, is_whole};
 ghost use Rattle.sp_intake.specs.Pieces.{TakesPiece, Asked};
 ghost use Rattle.sp_intake.specs.Asked.{standing, IsAsking};

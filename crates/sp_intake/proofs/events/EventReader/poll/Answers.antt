@@ -1,6 +1,6 @@
 use Rattle.std.proofs.Common.{[], refl, ◌∙◌}
 use Rattle.sp_rows.specs.Progress.{plan_of}
-use Rattle.sp_intake.specs.declared.events.State.TheVariants.{Going, Stopped, Broken}
+use Rattle.sp_intake.specs.declared.events.State.TheVariants.{Stopped, Broken}
 use Rattle.sp_intake.specs.Asked.{standing, reader_of}
 use Rattle.sp_intake.specs.Orderly.{same_next}
 use Rattle.sp_intake.specs.Reader.{last_of, event_in}
