@@ -3,3 +3,4 @@ pub mod Placed
 pub mod Cut
 pub mod Merging
 pub mod RisingLists
+pub mod TakenBack

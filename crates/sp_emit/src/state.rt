@@ -1,11 +1,12 @@
 // The lines of a state of the machine.
-ghost use Rattle.std.specs.Prelude.{◌≡◌, ◌++◌, length, map, codes, string_bytes, IfOk, OnOk};
+ghost use Rattle.std.specs.Prelude.{◌≡◌, ◌++◌, length, map, codes, string_bytes, IfOk, OnOk, OnErr};
 ghost use Rattle.std.specs.Fmt.{decimal};
 ghost use Rattle.std.specs.List.{flat_map};
 ghost use Rattle.sp_base.specs.Commas.{list_text};
 ghost use Rattle.sp_emit.specs.StateLines.{group_text, groups_text, head_line, id_text, lines_of_state, ticket_line, truth_text, version_line};
 ghost use Rattle.sp_group.specs.Seen.{seen, seen_group, seen_ticket, seen_version};
 
+use crate::write::push_number;
 use sp_base::{Numbers, push_list};
 use sp_group::{Label, State, TicketLine, VersionLine};
 use sp_plan::{Listed, Memory};
@@ -15,28 +16,30 @@ use std::fmt::Write;
 // Room for a line with few numbers.
 const ROOM: usize = 128;
 
-/// Adds a number, or a dash where there is none.
+/// Adds a number, or a dash where there is none. After want of memory the text is as before.
 pub fn push_id(out: &mut String, id: Option<u64>) -> Result<(), Memory>
-    ensures { OnOk result (string_bytes out.new ≡ string_bytes out.old ++ id_text id) }
+    ensures text { OnOk result (string_bytes out.new ≡ string_bytes out.old ++ id_text id) }
+    ensures err { OnErr result (string_bytes out.new ≡ string_bytes out.old) }
 {
     match id {
-        Some(id) => write!(out, "{id}")?,
-        None => out.push_str("-")?,
+        Some(id) => push_number(out, id),
+        None => out.push_str("-"),
     }
-    Ok(())
 }
 
-/// Adds 1 where it is so, and else 0.
+/// Adds 1 where it is so, and else 0. After want of memory the text is as before.
 pub fn push_truth(out: &mut String, truth: bool) -> Result<(), Memory>
-    ensures { OnOk result (string_bytes out.new ≡ string_bytes out.old ++ truth_text truth) }
+    ensures text { OnOk result (string_bytes out.new ≡ string_bytes out.old ++ truth_text truth) }
+    ensures err { OnErr result (string_bytes out.new ≡ string_bytes out.old) }
 {
     out.push_str(if truth { "1" } else { "0" })
 }
 
-/// Adds numbers joined by commas, or a dash where there are none.
+/// Adds numbers joined by commas, or a dash where there are none. After want of memory the text is as before.
 pub fn push_numbers(out: &mut String, numbers: &Numbers) -> Result<(), Memory>
-    ensures { OnOk result
+    ensures text { OnOk result
         (string_bytes out.new ≡ string_bytes out.old ++ list_text numbers.now.list) }
+    ensures err { OnErr result (string_bytes out.new ≡ string_bytes out.old) }
 {
     push_list(out, numbers.list())
 }

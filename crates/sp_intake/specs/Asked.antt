@@ -1,10 +1,14 @@
 -- How a reader of events stands, and what it answers.
-use Rattle.std.specs.Prelude.{◌≡◌, false}
+use Rattle.std.specs.Prelude.{◌≡◌, false, Option, Some, None, if◌then◌else◌}
 use Rattle.sp_io.specs.Outside.{SourceState}
 use Rattle.sp_plan.specs.declared.plan.Plan.{Plan}
+use Rattle.sp_ports.specs.Stopping.{is_end}
+use Rattle.sp_ports.specs.declared.intake.Next.{Next}
+use Rattle.sp_ports.specs.declared.intake.Next.TheVariants as next
 use Rattle.sp_rows.specs.Progress.{plan_of}
 use Rattle.sp_intake.specs.declared.events.EventReader.{EventReader}
-use Rattle.sp_intake.specs.declared.events.State.TheVariants.{Going}
+use Rattle.sp_intake.specs.declared.events.State.{State}
+use Rattle.sp_intake.specs.declared.events.State.TheVariants.{Going, Stopped, Broken}
 use Rattle.sp_intake.specs.Pieces.{AsksFrom}
 use Rattle.sp_intake.specs.Reader.{Reader}
 use Rattle.sp_intake.specs.Standing.{Standing, ReadsFrom, IsHungry}
@@ -33,3 +37,9 @@ IsUnasked q events = (source : SourceState) → source.ended ≡ false → AsksF
 pub record IsAsking (events : EventReader) : Type 0 where
   pub going : events.state ≡ Going
   pub hungry : IsHungry (reader_of events)
+
+-- what an input answers at each call, where it gives no more
+abbrev pub last_answer : State → Option Next
+last_answer Going = None
+last_answer (Stopped why) = Some (if is_end why then next.End else next.Stop why)
+last_answer Broken = Some next.Memory

@@ -1,15 +1,16 @@
-ghost use Rattle.std.specs.Prelude.{◌≡◌, ◌≤◌, ◌<◌, ◌+◌, [], true, false, Ok, Some, None, IsSome, length, IfOk, if◌then◌else◌};
+ghost use Rattle.std.specs.Prelude.{◌≡◌, ◌≤◌, ◌<◌, ◌+◌, [], true, false, Ok, Some, None, IsSome, IsErr, OnErr, length, IfOk, if◌then◌else◌};
 ghost use Rattle.std.specs.Arc.{arc_value};
 ghost use Rattle.sp_base.specs.Limits.{event_limit};
 ghost use Rattle.sp_cut.specs.CutRows.{long_row, open_quote};
 ghost use Rattle.sp_io.specs.Outside.{SourceState, Rose};
 ghost use Rattle.sp_plan.specs.Compiled.{IsCompiled};
 ghost use Rattle.sp_plan.specs.declared.event.Event as event;
-ghost use Rattle.sp_ports.specs.Giving.{given_at};
+ghost use Rattle.sp_ports.specs.Giving.{given_at, given_by};
 ghost use Rattle.sp_ports.specs.Stopping.{Halts};
+ghost use Rattle.sp_ports.specs.declared.intake.Next.{Next};
 ghost use Rattle.sp_ports.specs.declared.stop.Stop.{Stop};
 ghost use Rattle.sp_rows.specs.Codes.{code_of};
-ghost use Rattle.sp_intake.specs.declared.events.State.TheVariants.{Going};
+ghost use Rattle.sp_intake.specs.declared.events.State.TheVariants.{Going, Stopped, Broken};
 ghost use Rattle.sp_intake.specs.Reader.{IsReady};
 
 use sp_base::limits::EVENT_LIMIT;
@@ -61,7 +62,7 @@ pub struct EventReader {
 impl EventReader {
     ghost use Rattle.sp_intake.specs.Standing.{Reads, WasRead, going, IsHungry, stop_in, is_whole, given_in, given_after, state_after};
     ghost use Rattle.sp_intake.specs.Pieces.{TakesPiece};
-    ghost use Rattle.sp_intake.specs.Asked.{plan_in, reader_of, standing, IsFresh, IsUnasked, IsAsking};
+    ghost use Rattle.sp_intake.specs.Asked.{plan_in, reader_of, standing, IsFresh, IsUnasked, IsAsking, last_answer};
     ghost use Rattle.sp_intake.specs.Reader.{Fails};
     ghost use Rattle.sp_intake.specs.Reading.{end_stop};
     ghost use Rattle.sp_rows.specs.Progress.{read_of};
@@ -167,6 +168,10 @@ impl EventReader {
         ensures stops { self.new.stops ≡ self.old.stops }
         ensures still { result ≡ Ok Step.Ask → self.new.state ≡ self.old.state }
         ensures event { result ≡ Ok Step.Event → self.new.state ≡ self.old.state }
+        ensures stopped { (why : Stop) → self.old.state ≡ Stopped why
+            → (result ≡ Ok (Step.Stop why)) × (self.new.state ≡ self.old.state) }
+        ensures broken { self.old.state ≡ Broken → IsErr result }
+        ensures breaks { OnErr result (self.new.state ≡ Broken) }
     {
         match self.state {
             State::Going => {}
@@ -207,6 +212,10 @@ impl EventReader {
         ensures memory { result ≡ Some Next.Memory → self.new.stops ≡ self.old.stops }
         ensures unasked { result ≡ None → self.new.stops ≡ self.old.stops }
         ensures still { result ≡ None → self.new.state ≡ self.old.state }
+        ensures last { (answer : Next) → result ≡ Some answer → given_by answer ≡ []
+            → last_answer self.new.state ≡ Some answer }
+        ensures again { (answer : Next) → last_answer self.old.state ≡ Some answer
+            → (result ≡ Some answer) × (self.new.state ≡ self.old.state) }
     {
         let mut event = None;
         match self.poll(alloc, &mut event) {
