@@ -1,7 +1,8 @@
 -- What `==` on values, elements, columns and texts decides.
-use Rattle.std.proofs.Common.{◌≡◌, ◌&&◌, ◌==◌, ap}
+use Rattle.std.proofs.Common.{◌≡◌, Bool, true, false, not, ◌&&◌, ◌==◌, Option, Some, None, refl, ap}
 use Rattle.std.specs.Ordering.{int_eq}
 use Rattle.std.specs.Bool.{Decides}
+use Rattle.std.specs.Option.{option_eq}
 use Rattle.std.specs.Str.{bytes_eq}
 use Rattle.std.proofs.lemmas.Bool.Decides.{Decides-eqb, Decides-int_eq, Decides-like, Decides-and}
 use Rattle.std.proofs.lemmas.Slice.Eq.{bytes_eq-Decides}
@@ -22,6 +23,19 @@ value_decides (Number n) (Number m) = Decides-like (int_eq n m) (λ e. ap Number
 value_decides (Symbol s) (Symbol t) = Decides-like (s == t) (λ e. ap Symbol e) (λ e. cc) (Decides-eqb s t)
 value_decides (Number n) (Symbol t) = (λ h. absurd cc, λ e. absurd cc)
 value_decides (Symbol s) (Number m) = (λ h. absurd cc, λ e. absurd cc)
+
+told_same : (a b : Option Value) → option_eq value_eq.it a b ≡ true → a ≡ b
+told_same None None h = refl
+told_same (Some a) (Some b) h = ap Some ((value_decides a b).0 h)
+told_same None (Some b) h = absurd cc
+told_same (Some a) None h = absurd cc
+
+not_unlike : (b : Bool) → not b ≡ false → b ≡ true
+not_unlike true h = refl
+not_unlike false h = absurd cc
+
+pub not_other : (a b : Option Value) → not (option_eq value_eq.it a b) ≡ false → a ≡ b
+not_other a b h = told_same a b (not_unlike (option_eq value_eq.it a b) h)
 
 kind_decides : (a b : Kind) → Decides (kind_eq.it a b) (a ≡ b)
 kind_decides Int Int = (λ h. cc, λ e. cc)

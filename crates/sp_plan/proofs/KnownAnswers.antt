@@ -27,7 +27,7 @@ both_false true y h i = absurd cc
 both_false false y h i = i
 
 -- what reads no bound event comes to the same whatever events are bound
-alone : (x : Expr) (e : Event) (b c : BoundEvents) → reads_bound x ≡ false → value x e b ≡ value x e c
+pub alone : (x : Expr) (e : Event) (b c : BoundEvents) → reads_bound x ≡ false → value x e b ≡ value x e c
 alone (Literal n) e b c h = refl
 alone (Word s) e b c h = refl
 alone (Column n) e b c h = refl

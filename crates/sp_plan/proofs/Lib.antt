@@ -1,4 +1,9 @@
 mod LastBound
+mod HeldSides
+mod MaskBits
+mod Holdings
+mod Columns
+mod WorkedHeld
 mod Blocks
 mod Pages
 mod Released
@@ -12,6 +17,7 @@ mod Sizes
 mod Spines
 mod Fitting
 mod Zips
+mod Parts
 mod Decided
 mod SamePlans
 pub mod Readings

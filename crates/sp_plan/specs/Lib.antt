@@ -19,3 +19,6 @@ pub mod Laws
 pub mod Same
 pub mod Groups
 pub mod Known
+pub mod Held
+pub mod Masks
+pub mod Holding

@@ -31,7 +31,7 @@ fn reads_bound(expr: &Expr) -> bool
 
 // The same of a side of a comparison, which is mostly no operator.
 #[inline(always)]
-fn side_reads_bound(expr: &Expr) -> bool
+pub(crate) fn side_reads_bound(expr: &Expr) -> bool
     ensures { result ≡ Known.reads_bound expr.now }
 {
     match expr {

@@ -5,7 +5,7 @@ ghost use Rattle.sp_plan.specs.Values;
 ghost use Rattle.sp_plan.specs.Values.{BoundEvents, column_of, earlier_column, last_bound};
 ghost use Rattle.sp_plan.specs.Bounds as b;
 
-use crate::{Bound, Compare, Event, Expr, Pred, Value};
+use crate::{Bound, Compare, Event, Expr, Pred};
 
 // The powers of ten that an i64 holds, from the one of 0 on.
 const POWERS: [i64; 19] = [
@@ -60,16 +60,12 @@ fn column_value(event: &Event, column: u16) -> i64
     ensures value { result ≡ column_of column event.now }
     ensures small { b.IsSmall event.now → unsigned_abs result ≤ number_limit }
 {
-    match event.values.get(column as usize) {
-        Some(Value::Number(n)) => n,
-        Some(Value::Symbol(s)) => i64::from(s),
-        None => 0,
-    }
+    event.values.number(column as usize)
 }
 
 // What stands in a column of the last event that is bound to a name; 0 where there is none.
 #[inline(always)]
-fn earlier_value(bound: &Bound, name: u8, column: u16) -> i64
+pub(crate) fn earlier_value(bound: &Bound, name: u8, column: u16) -> i64
     ensures value { result ≡ earlier_column (last_bound name bound.now) column }
     ensures small { b.AllSmall bound.now → unsigned_abs result ≤ number_limit }
 {
@@ -283,6 +279,19 @@ pub fn value(expr: &Expr, event: &Event, bound: &Bound) -> i128
         Expr::Column(column) => i128::from(column_value(event, *column)),
         Expr::Earlier { name, column } => i128::from(earlier_value(bound, *name, *column)),
         _ => chain(expr, event, bound),
+    }
+}
+
+// What a side of a comparison comes to, whatever it is: mostly what `short_value` tells.
+pub(crate) fn side_value(side: &Expr, event: &Event, bound: &Bound) -> i128
+    requires within { b.StaysWithin side.now }
+    requires event { b.IsSmall event.now }
+    requires bound { b.AllSmall bound.now }
+    ensures { result ≡ Values.value side.now event.now bound.now }
+{
+    match short_value(side, event, bound) {
+        Some(n) => n,
+        None => value(side, event, bound),
     }
 }
 

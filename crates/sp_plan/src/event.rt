@@ -1,9 +1,14 @@
-ghost use Rattle.std.specs.Prelude.{◌≡◌, ◌<◌, ◌≤◌, IfOk, OnOk, OnErr, [], ◌∷◌, ◌++◌, length, take, slice_get, ◌↔◌, IsTrue};
-ghost use Rattle.sp_plan.specs.Kept.{with_value};
+ghost use Rattle.std.specs.Prelude.{◌≡◌, ◌<◌, ◌≤◌, IfOk, OnOk, OnErr, [], ◌∷◌, ◌++◌, length, take, slice_get, ◌↔◌, IsTrue, unsigned_abs};
+ghost use Rattle.std.specs.List.{All};
+ghost use Rattle.sp_plan.specs.Kept.{IsPart, no_value, parts_of, whole_of, with_value};
+ghost use Rattle.sp_plan.specs.Values.{units};
+ghost use Rattle.sp_plan.specs.Bounds.{SmallValue};
+ghost use Rattle.sp_base.specs.Limits.{number_limit};
 
 use crate::Memory;
 use std::alloc::Global;
 use std::marker::Model;
+use std::mem::size_of;
 
 /// What stands in a column of an event.
 #[derive(Clone, Copy, Drop, PartialEq, Eq)]
@@ -27,8 +32,13 @@ const FEW: usize = 4;
 // Where the values of an event stand.
 #[derive(Drop)]
 enum Kept {
-    // In the event: the first `count` of these. The others are blank.
-    Few { count: u32, values: [Value; FEW] },
+    // In the event: the first `count` of these numbers, and of each whether it is a text's. The other
+    // places are blank.
+    Few {
+        count: u8,
+        texts: [bool; FEW],
+        numbers: [i64; FEW],
+    },
     // On the heap.
     Many(Vec<Value>),
 }
@@ -40,6 +50,9 @@ pub struct Values {
     alloc: Global,
     kept: Kept,
 }
+
+// An event of few columns takes no more than its time, four numbers, and eight bytes beside them.
+const _: () = prove!(size_of::<Event>() == 48);
 
 impl Model for Values {
     ghost use Rattle.std.specs.Prelude.{List};
@@ -54,37 +67,57 @@ impl Model for Values {
     ghost invariant = { λ s. Counted s.kept };
 }
 
-// These values in their places, where there are few.
-fn placed(values: &[Value]) -> [Value; FEW]
-    requires { length values.now ≤ 4 }
-    ensures { take (length values.now) result ≡ values.now }
+// No value, in places of the event.
+#[inline(always)]
+fn blank() -> Kept
+    ensures { result ≡ no_value }
 {
-    let mut places = [Value::Number(0); FEW];
-    for (i, value) in values.iter().enumerate() {
-        places[i] = *value;
+    Kept::Few {
+        count: 0,
+        texts: [false; FEW],
+        numbers: [0; FEW],
     }
-    places
+}
+
+// A number, and whether it is a text's.
+#[inline(always)]
+fn parts(value: Value) -> (bool, i64)
+    ensures parts { result ≡ parts_of value }
+    ensures part { IsPart (parts_of value) }
+{
+    match value {
+        Value::Number(number) => (false, number),
+        Value::Symbol(symbol) => (true, i64::from(symbol)),
+    }
+}
+
+// The value that has these parts.
+#[inline(always)]
+fn whole(text: bool, number: i64) -> Value
+    requires { IsPart (text, number) }
+    ensures { result ≡ whole_of (text, number) }
+{
+    if text {
+        Value::Symbol(number as u32)
+    } else {
+        Value::Number(number)
+    }
 }
 
 // Puts a value into a place of the event, where the values stand there.
-#[inline]
+#[inline(always)]
 fn put(kept: &mut Kept, place: usize, value: Value)
     requires { place < 4 }
-    ensures { kept.new ≡ with_value kept.old place value }
+    ensures kept { kept.new ≡ with_value kept.old place value }
+    ensures part { IsPart (parts_of value) }
 {
-    if let Kept::Few { values, .. } = kept {
-        values[place] = value;
+    let (text, number) = parts(value);
+    // A pattern can lend one of the two.
+    if let Kept::Few { texts, .. } = kept {
+        texts[place] = text;
     }
-}
-
-// Whether two values are one.
-#[inline(always)]
-fn same_value(x: &Value, y: &Value) -> bool
-    ensures { IsTrue result ↔ (x.now ≡ y.now) }
-{
-    match x {
-        Value::Number(n) => matches!(y, Value::Number(m) if m == n),
-        Value::Symbol(s) => matches!(y, Value::Symbol(t) if t == s),
+    if let Kept::Few { numbers, .. } = kept {
+        numbers[place] = number;
     }
 }
 
@@ -95,17 +128,25 @@ fn same_values(xs: &[Value], ys: &[Value]) -> bool
     xs == ys
 }
 
-// Whether the first values in the places of two events are the same, so many of them.
+// Whether the places of two events hold the same in the first so many.
 #[inline(always)]
-fn same_first(count: u32, xs: &[Value; FEW], ys: &[Value; FEW]) -> bool
+fn same_first(
+    count: u8,
+    texts: &[bool; FEW],
+    numbers: &[i64; FEW],
+    signs: &[bool; FEW],
+    others: &[i64; FEW],
+) -> bool
     requires { count ≤ 4 }
-    ensures { IsTrue result ↔ (take count xs.now ≡ take count ys.now) }
+    ensures { IsTrue result
+        ↔ ((take count texts.now ≡ take count signs.now)
+        × (take count numbers.now ≡ take count others.now)) }
 {
     for i in 0..FEW {
         if i >= count as usize {
             return true;
         }
-        if !same_value(&xs[i], &ys[i]) {
+        if texts[i] != signs[i] || numbers[i] != others[i] {
             return false;
         }
     }
@@ -117,15 +158,11 @@ impl Values {
     pub fn from_slice(alloc: Global, values: &[Value]) -> Result<Values, Memory>
         ensures { IfOk result (λ own. own ≡ values.now) }
     {
-        let kept = if values.len() <= FEW {
-            Kept::Few {
-                count: values.len() as u32,
-                values: placed(values),
-            }
-        } else {
-            Kept::Many(Vec::from_slice(alloc, values)?)
-        };
-        Ok(Values { alloc, kept })
+        let mut own = Values::with_capacity(alloc, values.len())?;
+        for value in values {
+            own.push(*value)?;
+        }
+        Ok(own)
     }
 
     /// No value, with room for so many. Takes no memory for up to four.
@@ -133,10 +170,7 @@ impl Values {
         ensures { IfOk result (λ values. values ≡ []) }
     {
         let kept = if count <= FEW {
-            Kept::Few {
-                count: 0,
-                values: [Value::Number(0); FEW],
-            }
+            blank()
         } else {
             Kept::Many(Vec::with_capacity(alloc, count)?)
         };
@@ -169,38 +203,76 @@ impl Values {
         ensures ok { OnOk result (self.new ≡ self.old ++ value ∷ []) }
         ensures err { OnErr result (self.new ≡ self.old) }
     {
-        let mut values = Vec::with_capacity(self.alloc, 2 * FEW)?;
-        values.extend_from_slice(self.as_slice())?;
+        let mut values = self.spilled()?;
         values.push(value)?;
         self.kept = Kept::Many(values);
         Ok(())
     }
 
-    /// The values, in the order of the plan's columns.
+    // The values on the heap, with room for as many more.
+    #[cold]
+    fn spilled(&self) -> Result<Vec<Value>, Memory>
+        ensures { IfOk result (λ values. values.items ≡ self.now) }
+    {
+        let mut values = Vec::with_capacity(self.alloc, 2 * FEW)?;
+        for place in 0..self.len() {
+            if let Some(own) = self.get(place) {
+                values.push(own)?;
+            }
+        }
+        Ok(values)
+    }
+
+    /// How many there are.
     #[inline]
-    pub fn as_slice(&self) -> &[Value]
-        ensures { result.now ≡ self.now }
+    pub fn len(&self) -> usize
+        ensures { result ≡ length self.now }
     {
         match &self.kept {
-            Kept::Few { count, values } => &values[..*count as usize],
-            Kept::Many(values) => values.as_slice(),
+            Kept::Few { count, .. } => *count as usize,
+            Kept::Many(values) => values.len(),
         }
     }
 
-    // The value at a place, from 0; None behind the last.
+    /// The value at a place, from 0 in the order of the plan's columns; None behind the last.
     #[inline(always)]
-    pub(crate) fn get(&self, place: usize) -> Option<Value>
+    pub fn get(&self, place: usize) -> Option<Value>
         ensures { result ≡ slice_get self.now place }
     {
         match &self.kept {
-            Kept::Few { count, values } => {
+            Kept::Few {
+                count,
+                texts,
+                numbers,
+            } => {
                 if place < *count as usize {
-                    Some(values[place])
+                    Some(whole(texts[place], numbers[place]))
                 } else {
                     None
                 }
             }
             Kept::Many(values) => values.as_slice().get(place).copied(),
+        }
+    }
+
+    // The value at a place as a number, be it a text's; 0 behind the last.
+    #[inline(always)]
+    pub(crate) fn number(&self, place: usize) -> i64
+        ensures value { result ≡ units (slice_get self.now place) }
+        ensures small { All SmallValue self.now → unsigned_abs result ≤ number_limit }
+    {
+        match &self.kept {
+            Kept::Few { count, numbers, .. } => {
+                if place < *count as usize {
+                    numbers[place]
+                } else {
+                    0
+                }
+            }
+            Kept::Many(_) => match self.get(place) {
+                Some(value) => parts(value).1,
+                None => 0,
+            },
         }
     }
 
@@ -211,14 +283,38 @@ impl Values {
     {
         match (&self.kept, &other.kept) {
             (
-                Kept::Few { count, values },
                 Kept::Few {
-                    count: number,
-                    values: others,
+                    count,
+                    texts,
+                    numbers,
                 },
-            ) => count == number && same_first(*count, values, others),
-            _ => same_values(self.as_slice(), other.as_slice()),
+                Kept::Few {
+                    count: size,
+                    texts: signs,
+                    numbers: others,
+                },
+            ) => count == size && same_first(*count, texts, numbers, signs, others),
+            (Kept::Many(values), Kept::Many(others)) => {
+                same_values(values.as_slice(), others.as_slice())
+            }
+            _ => self.same_by_place(other),
         }
+    }
+
+    // The same, asked place by place.
+    #[cold]
+    fn same_by_place(&self, other: &Values) -> bool
+        ensures { IsTrue result ↔ (self.now ≡ other.now) }
+    {
+        if self.len() != other.len() {
+            return false;
+        }
+        for place in 0..self.len() {
+            if self.get(place) != other.get(place) {
+                return false;
+            }
+        }
+        true
     }
 
     /// The same values once more. Takes no memory for up to four.
@@ -227,9 +323,14 @@ impl Values {
         ensures { IfOk result (λ values. values ≡ self.now) }
     {
         let kept = match &self.kept {
-            Kept::Few { count, values } => Kept::Few {
+            Kept::Few {
+                count,
+                texts,
+                numbers,
+            } => Kept::Few {
                 count: *count,
-                values: *values,
+                texts: *texts,
+                numbers: *numbers,
             },
             Kept::Many(values) => Kept::Many(Vec::from_slice(alloc, values.as_slice())?),
         };
@@ -265,13 +366,18 @@ impl Event {
         for event in events {
             match &event.values.kept {
                 // It is copied from place to place.
-                Kept::Few { count, values } => list.push_reserved(Event {
+                Kept::Few {
+                    count,
+                    texts,
+                    numbers,
+                } => list.push_reserved(Event {
                     time: event.time,
                     values: Values {
                         alloc,
                         kept: Kept::Few {
                             count: *count,
-                            values: *values,
+                            texts: *texts,
+                            numbers: *numbers,
                         },
                     },
                 }),

@@ -1,9 +1,9 @@
 // Whether an event has the values that a plan's schema asks for.
-ghost use Rattle.std.specs.Prelude.{◌≡◌};
+ghost use Rattle.std.specs.Prelude.{◌≡◌, length};
 ghost use Rattle.std.specs.List.{list_all, zip};
 ghost use Rattle.sp_plan.specs.Events.{fits, fits_kind, fits_column};
 
-use crate::{Column, Event, Kind, Plan, Value};
+use crate::{Column, Event, Kind, Plan, Value, Values};
 use sp_base::limits::NUMBER_LIMIT;
 
 // The greatest magnitude of a number of the input, and the last time.
@@ -19,13 +19,19 @@ fn fits_kind(kind: Kind, value: Value) -> bool
     }
 }
 
-fn fit_columns(columns: &[Column], values: &[Value]) -> bool
+fn fit_columns(columns: &[Column], values: &Values) -> bool
+    requires { length columns.now ≡ length values.now }
     ensures { result ≡ list_all fits_column (zip columns.now values.now) }
 {
-    columns
-        .iter()
-        .zip(values)
-        .all(|(column, value)| fits_kind(column.kind, *value))
+    for (place, column) in columns.iter().enumerate() {
+        let Some(value) = values.get(place) else {
+            return false;
+        };
+        if !fits_kind(column.kind, value) {
+            return false;
+        }
+    }
+    true
 }
 
 impl Plan {
@@ -35,9 +41,8 @@ impl Plan {
         ensures { result ≡ fits self.now event.now }
     {
         let columns = self.schema.columns.as_slice();
-        let values = event.values.as_slice();
-        columns.len() == values.len()
-            && fit_columns(columns, values)
+        columns.len() == event.values.len()
+            && fit_columns(columns, &event.values)
             && 0 <= event.time
             && event.time <= GREATEST
     }

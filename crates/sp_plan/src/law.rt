@@ -1,4 +1,5 @@
 // What is true of every plan and event. A law runs no code: who calls it has the fact.
+ghost use Rattle.sp_plan.specs.Held.{HeldSidesStandAlone};
 ghost use Rattle.sp_plan.specs.Known.{KnownIsRight, WhatMayNotHoldDoesNot};
 ghost use Rattle.sp_plan.specs.Laws.{FittingEventsAreSmall, PlansAreThemselves, ReadingIsState, SamePredicatesHoldAlike};
 
@@ -33,4 +34,10 @@ pub fn what_may_not_hold_does_not()
 /// Law: what `known` answers is what the predicate comes to, whatever events are bound.
 pub fn known_is_right()
     ensures { KnownIsRight }
+{}
+
+/// Law: what the held sides of a predicate come to for runs depends only on the last event that each has bound to
+/// each name that one of them reads.
+pub fn held_sides_stand_alone()
+    ensures { HeldSidesStandAlone }
 {}

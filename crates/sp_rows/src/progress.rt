@@ -176,7 +176,7 @@ impl Progress {
             Err(_) => Err(RowError::Memory),
             Ok(RowValues::Fault(kind, place)) => Err(self.refusal_at(kind, place)),
             Ok(RowValues::Whole) => {
-                let time = time_in(own.values.as_slice(), layout.plan.schema.time);
+                let time = time_in(&own.values, layout.plan.schema.time);
                 if time < self.last {
                     return Err(self.back_in_time(time, &time_column(layout.plan, layout.places)));
                 }

@@ -77,13 +77,13 @@ pub(crate) fn read_values(
 }
 
 /// The time among the values of a row; 0 where there is none.
-pub(crate) fn time_in(values: &[Value], time: Option<u16>) -> i64
+pub(crate) fn time_in(values: &Values, time: Option<u16>) -> i64
     ensures { result ≡ time_among values.now time }
 {
     match time {
         None => 0,
         Some(own) => match values.get(usize::from(own)) {
-            Some(Value::Number(time)) => *time,
+            Some(Value::Number(time)) => time,
             _ => 0,
         },
     }

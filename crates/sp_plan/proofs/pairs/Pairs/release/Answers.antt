@@ -1,4 +1,4 @@
-use Rattle.std.proofs.Common.{◌≡◌, ◌++◌, ◌∷◌, [], map, List, refl, sym, ap, ◌∙◌, subst, is_ok, take, arith}
+use Rattle.std.proofs.Common.{◌≡◌, ◌∷◌, [], map, List, refl, sym, ap, ◌∙◌, subst, is_ok, take, arith}
 use Rattle.std.proofs.lemmas.List.{map-append, nil_from_length}
 use Rattle.std.proofs.lemmas.Grind.{common_steps}
 use Rattle.sp_plan.specs.declared.event.Event.{Event}
