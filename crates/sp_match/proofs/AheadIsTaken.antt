@@ -3,21 +3,20 @@ use Rattle.std.proofs.Common.{◌≡◌, ℕ, Bool, true, false, cond, List, [],
 use Rattle.std.specs.Prelude.{IfSome, option_map, if◌then◌else◌}
 use Rattle.std.specs.List.{All, find, last_or, list_any}
 use Rattle.std.proofs.lemmas.List.Elements.{All-head, All-tail}
-use Rattle.sp_plan.specs.declared.event.Event.{Event}
 use Rattle.sp_plan.specs.declared.plan.Element.{Element}
 use Rattle.sp_plan.specs.declared.plan.Plan.{Plan}
-use Rattle.sp_plan.specs.Runs.{Pair, again, is_plus, name_holds}
-use Rattle.sp_match.specs.inside.Taking.{again_name, held_once_more, last_again}
+use Rattle.sp_plan.specs.Runs.{Pair, again, is_plus}
+use Rattle.sp_match.specs.inside.Taking.{again_name, last_again, once_more}
 
 -- the last name once more
-pub once_more_is : (q : Plan) (r : List Pair) (e : Event) → held_once_more q r e (last_again q r) ≡ find (name_holds q r e) (again q.elements (last_or None r))
-once_more_is q r e = one (last_or None r)
+pub once_more_is : (passes : ℕ → Bool) (q : Plan) (r : List Pair) → once_more passes (last_again q r) ≡ find passes (again q.elements (last_or None r))
+once_more_is passes q r = one (last_or None r)
   where
-    two : (n : ℕ) (b : Bool) → held_once_more q r e (if b then Some n else None) ≡ find (name_holds q r e) (if b then n ∷ [] else [])
+    two : (n : ℕ) (b : Bool) → once_more passes (if b then Some n else None) ≡ find passes (if b then n ∷ [] else [])
     two n true = refl
     two n false = refl
 
-    one : (o : Option Pair) → held_once_more q r e (again_name q.elements o) ≡ find (name_holds q r e) (again q.elements o)
+    one : (o : Option Pair) → once_more passes (again_name q.elements o) ≡ find passes (again q.elements o)
     one None = refl
     one (Some pair) = two pair.name (list_any (is_plus pair.name) q.elements)
 

@@ -23,12 +23,12 @@ last_bound (next ∷ r) p last is = (λ i. (p.name == last.name) || last_bound r
     or_true true = refl
     or_true false = refl
 
-is_last_bound : (r : List Pair) (last : Pair) → last_or None r ≡ Some last → is_bound r last.name ≡ true
+pub is_last_bound : (r : List Pair) (last : Pair) → last_or None r ≡ Some last → is_bound r last.name ≡ true
 is_last_bound [] last is = absurd (cc is)
 is_last_bound (p ∷ r) last is = last_bound r p last is
 
 -- one pair more of a name that is bound binds no other name
-same_bound : (r : List Pair) (p : Pair) → is_bound r p.name ≡ true → (n : ℕ) → is_bound (r ++ p ∷ []) n ≡ is_bound r n
+pub same_bound : (r : List Pair) (p : Pair) → is_bound r p.name ≡ true → (n : ℕ) → is_bound (r ++ p ∷ []) n ≡ is_bound r n
 same_bound r p bound n = list_any-append (λ pair. pair.name == n) r (p ∷ []) ∙ one (p.name == n) refl
   where
     any_same : (b : Bool) → (b || (false || false)) ≡ b
@@ -43,7 +43,7 @@ same_bound r p bound n = list_any-append (λ pair. pair.name == n) r (p ∷ []) 
     one false e = (λ i. is_bound r n || (e i || false)) ∙ any_same (is_bound r n)
 
 -- so the next element is the same
-same_next : (q : Plan) (r : List Pair) (p : Pair) → is_bound r p.name ≡ true → next_element q (r ++ p ∷ []) ≡ next_element q r
+pub same_next : (q : Plan) (r : List Pair) (p : Pair) → is_bound r p.name ≡ true → next_element q (r ++ p ∷ []) ≡ next_element q r
 same_next q r p bound = λ i. find (λ element. not (list_all (λ n. same_bound r p bound n i) (names_of element))) q.elements
 
 -- where the last name may be bound once more, it is that name

@@ -152,5 +152,8 @@ module _ (q : Plan) (x : Numbered) (n count i : ℕ) (old ks : List Kept) (ts : 
       ap (λ (l : List Kept). run_at l i) (going.front.2 ∙ ap (λ (l : List Kept). fs ++ map (run_after_use ns) l) (drop_more old i (empty 0) within))
       ∙ get_or_at fs (run_after_use ns own) (map (run_after_use ns) (drop (i + 1) old)) (empty 0) i going.front.1
 
+  pub pairs_at_hand : pairs (run_at ks i) ≡ pairs (run_at old i)
+  pairs_at_hand = ap pairs at_hand
+
   pub below_at_hand : NumbersBelow n (run_at ks i)
   below_at_hand = let below : NumbersBelow n own = ready.below i (empty 0) within in subst (NumbersBelow n) (sym at_hand) below

@@ -1,7 +1,7 @@
 -- A run with one pair more keeps what every run keeps, and taking the pair away gives the run before.
 use Rattle.std.proofs.Common.{◌≡◌, ◌≢◌, ℕ, ◌+◌, ◌-◌, ◌<◌, ◌≤◌, Bool, true, false, cond, ◌||◌, ◌==◌, List, [], ◌∷◌, ◌++◌, map, length, get_or, set, Option, Some, None, refl, sym, ap, subst, ◌∙◌, arith, get_or-set_other, append-nil}
 use Rattle.std.specs.Prelude.{IfSome, slice_get, if◌then◌else◌}
-use Rattle.std.specs.List.{All, AllPairs, filter, last_or, zip}
+use Rattle.std.specs.List.{All, AllPairs, filter, last_or, range_with_len, zip}
 use Rattle.std.proofs.lemmas.Bool.Decides.{nat_tests}
 use Rattle.std.proofs.lemmas.List.{length-set, length_push, set-set, set-get_or, take_at, map_push, get_or-replicate}
 use Rattle.std.proofs.lemmas.Grind.{get_or-set_at}
@@ -17,8 +17,9 @@ use Rattle.sp_plan.specs.Runs.{Pair, Run, is_bound, is_consumed, used}
 use Rattle.sp_match.specs.declared.run.Fate.{Fate}
 use Rattle.sp_match.specs.declared.run.Fate.TheVariants.{Stays}
 use Rattle.sp_match.specs.inside.Kept.{Kept, before, binds, but_last, empty, grown, last_under, name_under, pair_of, pairs, undone}
-use Rattle.sp_match.specs.inside.Good.{Good, NumbersBelow}
+use Rattle.sp_match.specs.inside.Good.{Good, NumbersBelow, bound_count}
 use Rattle.sp_match.specs.inside.Effects.{looking, run_with_event}
+use Rattle.sp_match.proofs.NamesAreCounted.{bound_grown}
 use Rattle.sp_match.proofs.PairsOfRuns.{pairs_push}
 use Rattle.sp_match.proofs.RunsAfterBinding.{used_below}
 
@@ -40,6 +41,7 @@ good_fate q f k g = record {
   named = g.named;
   flags = g.flags;
   marks = g.marks;
+  counted = g.counted;
   ahead_is = g.ahead_is;
   used_is = g.used_is;
   rising = g.rising;
@@ -53,6 +55,7 @@ good_looked q k g = record {
   named = g.named;
   flags = g.flags;
   marks = g.marks;
+  counted = g.counted;
   ahead_is = tt;
   used_is = g.used_is;
   rising = g.rising;
@@ -66,6 +69,7 @@ good_looking q k g = record {
   named = g.named;
   flags = g.flags;
   marks = g.marks;
+  counted = g.counted;
   ahead_is = (refl, refl);
   used_is = g.used_is;
   rising = g.rising;
@@ -84,6 +88,11 @@ last_push o (y ∷ ys) x = last_push (Some y) ys x
 flag_back : (flags : List Bool) (name : ℕ) (b : Bool) → get_or flags name false ≡ b → (if b then set flags name true else set (set flags name true) name false) ≡ flags
 flag_back flags name true e = ap (set flags name) (sym e) ∙ set-get_or flags name false
 flag_back flags name false e = set-set flags name true false ∙ ap (set flags name) (sym e) ∙ set-get_or flags name false
+
+-- and the count of the flags
+count_back : (b : Bool) (n : ℕ) → (if b then (if b then n else n + 1) else (if b then n else n + 1) - 1) ≡ n
+count_back true n = refl
+count_back false n = omega arith
 
 -- a number above all isn't among them
 not_among : (ns : List ℕ) (n : ℕ) → All (λ m. m < n) ns → is_among ns n ≡ false
@@ -117,6 +126,11 @@ bound_pairs name (b ∷ bs) (e ∷ es) same =
     let tail : map (λ p. p.0) bs ≡ map (λ p. p.0) es = cc in
     ap (λ rest. (b.0 == name) || rest) (bound_pairs name bs es tail)
 
+-- where a name is bound there is a pair
+some_pair : (name : ℕ) (bs : List (ℕ × ℕ)) → binds name bs ≡ true → 0 < length bs
+some_pair name [] bound = cc
+some_pair name (b ∷ bs) bound = omega arith
+
 -- the last of numbers below n is not n
 last_below : (n : ℕ) (bs : List (ℕ × ℕ)) (o : Option (ℕ × ℕ)) → IfSome o (λ p. p.1 < n) → All (λ m. m < n) (map (λ p. p.1) bs) → IfSome (last_or o bs) (λ p. p.1 < n)
 last_below n [] o first below = first
@@ -142,6 +156,12 @@ before_bound q name x k g named below =
     flags : (if binds name (but_last (k.bound ++ (name, x.0) ∷ [])) then set k.names name true else set (set k.names name true) name false) ≡ k.names
     flags = (λ i. if binds name (but_last_push k.bound (name, x.0) i) then set k.names name true else set (set k.names name true) name false) ∙ flag_back k.names name (binds name k.bound) flag
 
+    count : (if binds name (but_last (k.bound ++ (name, x.0) ∷ [])) then (if get_or k.names name false then k.bound_names else k.bound_names + 1)
+        else (if get_or k.names name false then k.bound_names else k.bound_names + 1) - 1) ≡ k.bound_names
+    count =
+        (λ i. if binds name (but_last_push k.bound (name, x.0) i) then (if flag i then k.bound_names else k.bound_names + 1) else (if flag i then k.bound_names else k.bound_names + 1) - 1)
+        ∙ count_back (binds name k.bound) k.bound_names
+
     back : undone x.0 (Some name) (run_with_event q name x k) ≡ looked_for k
     back = λ i. record {
       number = k.number;
@@ -149,6 +169,7 @@ before_bound q name x k g named below =
       used = used_back (is_consumed (slice_get q.names name)) k.used x.0 (used_below q x.0 k g below) i;
       events = but_last_push k.events (name, x.1) i;
       names = flags i;
+      bound_names = count i;
       ahead = None;
       fate = Stays;
     }
@@ -176,15 +197,17 @@ good_grown q name number event k g named few small below = record {
   named = All-push (λ p. p.0 < length q.names) k.bound (name, number) g.named named;
   flags = length-set k.names name true ∙ g.flags;
   marks = marks;
+  counted = counted;
   ahead_is = tt;
   used_is = used_grown q name number event k g.same_names g.used_is;
   rising = subst (AllPairs (λ m n. m < n)) (sym (map_push (λ p. p.1) k.bound (name, number)))
       (all_pairs_push (λ m n. m < n) (map (λ p. p.1) k.bound) number g.rising (λ i d within. below i d within));
   small = All-push (λ pair. IsSmall pair.1) k.events (name, event) g.small small;
-  undoes = (
-    All-push (λ p. p.0 < 32) k.bound (name, number) g.undoes.0 (omega (arith, named, few)),
-    length_push k.bound (name, number) ∙ ap (λ n. n + 1) g.undoes.1 ∙ sym (length_push k.events (name, event)),
-  );
+  undoes = record {
+    named = All-push (λ p. p.0 < 32) k.bound (name, number) g.undoes.named (omega (arith, named, few));
+    same = length_push k.bound (name, number) ∙ ap (λ n. n + 1) g.undoes.same ∙ sym (length_push k.events (name, event));
+    some_name = λ some. some_bound (get_or k.names name false) refl;
+  };
 }
   where
     pair : Pair
@@ -192,6 +215,23 @@ good_grown q name number event k g named few small below = record {
 
     more : map pair_of (zip (k.bound ++ (name, number) ∷ []) (k.events ++ (name, event) ∷ [])) ≡ pairs k ++ pair ∷ []
     more = pairs_push k.bound k.events name number event g.same_names
+
+    own_flag : get_or k.names name false ≡ is_bound (pairs k) name
+    own_flag = g.marks name (omega (arith, named, few))
+
+    -- the name was bound before, or is now
+    counted : (if get_or k.names name false then k.bound_names else k.bound_names + 1)
+        ≡ bound_count q (map pair_of (zip (k.bound ++ (name, number) ∷ []) (k.events ++ (name, event) ∷ [])))
+    counted =
+        (λ i. if own_flag i then g.counted i else g.counted i + 1) ∙ one (is_bound (pairs k) name) ∙ sym (bound_grown q (pairs k) pair named) ∙ sym (ap (bound_count q) more)
+      where
+        one : (b : Bool) → (if b then bound_count q (pairs k) else bound_count q (pairs k) + 1) ≡ bound_count q (pairs k) + cond b 0 1
+        one true = omega arith
+        one false = refl
+
+    some_bound : (b : Bool) → get_or k.names name false ≡ b → 0 < (if b then k.bound_names else k.bound_names + 1)
+    some_bound true e = g.undoes.some_name (some_pair name k.bound (sym (bound_pairs name k.bound k.events g.same_names) ∙ sym own_flag ∙ e))
+    some_bound false e = omega arith
 
     marks : (n : ℕ) → n < 32 → get_or (set k.names name true) n false ≡ is_bound (map pair_of (zip (k.bound ++ (name, number) ∷ []) (k.events ++ (name, event) ∷ []))) n
     marks n within =
@@ -214,15 +254,20 @@ good_grown q name number event k g named few small below = record {
             get_or-set_other k.names name n true false other ∙ g.marks n within ∙ any_same (is_bound (pairs k) n) ∙ ap (λ b. is_bound (pairs k) n || (b || false)) (sym e)
 
 -- a run that has bound nothing keeps what every run keeps
+none_bound : (names : List ℕ) → 0 ≡ length (filter (is_bound []) names)
+none_bound [] = refl
+none_bound (name ∷ names) = none_bound names
+
 pub good_empty : (q : Plan) (number : ℕ) → Good q (empty number)
 good_empty q number = record {
   same_names = refl;
   named = All-nil (λ p. p.0 < length q.names);
   flags = refl;
   marks = λ name within. get_or-replicate 32 name false false within;
+  counted = none_bound (range_with_len 0 (length q.names));
   ahead_is = tt;
   used_is = refl;
   rising = λ i j d less inside. absurd (omega arith);
   small = All-nil (λ pair. IsSmall pair.1);
-  undoes = (All-nil (λ p. p.0 < 32), refl);
+  undoes = record { named = All-nil (λ p. p.0 < 32); same = refl; some_name = λ some. absurd (omega (arith, some)) };
 }

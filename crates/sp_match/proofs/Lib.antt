@@ -19,6 +19,7 @@ pub mod MovesNameOpenRuns
 pub mod GroupsGrow
 -- A run in plain values: its pairs, what it keeps, and the way back.
 pub mod PairsOfRuns
+pub mod NamesAreCounted
 pub mod GrownRunIsGood
 pub mod RunsUndo
 -- Which name a run takes an event under.
@@ -29,7 +30,9 @@ pub mod NeverTaken
 pub mod AheadIsTaken
 pub mod AheadStays
 pub mod BeginningIsTaken
-pub mod MasksAreSure
+pub mod TakersTell
+pub mod RunsAreHeld
+pub mod RunsGoOn
 pub mod NumbersAreAbove
 -- What is told of runs.
 pub mod MovesAreTold
@@ -52,5 +55,4 @@ pub mod EventIsHandled
 pub mod MatcherAfterEvent
 pub mod EventIsOffered
 -- What the runs want of later events.
-pub mod LeftIsLacked
 pub mod WantedIsTold

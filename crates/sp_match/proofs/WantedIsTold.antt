@@ -16,7 +16,7 @@ use Rattle.sp_match.proofs.RunNumbersStay.{before_number}
 use Rattle.sp_match.proofs.GrownRunIsGood.{looked_for}
 use Rattle.sp_match.proofs.MatcherAfterEvent.{all_before_below, all_started_looked}
 
-zip_push : {X Y : Type 0} (xs : List X) (ys : List Y) (x : X) (y : Y) → length xs ≡ length ys → zip (xs ++ x ∷ []) (ys ++ y ∷ []) ≡ zip xs ys ++ (x, y) ∷ []
+pub zip_push : {X Y : Type 0} (xs : List X) (ys : List Y) (x : X) (y : Y) → length xs ≡ length ys → zip (xs ++ x ∷ []) (ys ++ y ∷ []) ≡ zip xs ys ++ (x, y) ∷ []
 zip_push [] [] x y same = refl
 zip_push [] (b ∷ bs) x y same = absurd (omega (arith, same))
 zip_push (a ∷ more) [] x y same = absurd (omega (arith, same))

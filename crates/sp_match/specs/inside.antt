@@ -4,6 +4,7 @@ pub mod Taking
 pub mod Good
 pub mod Keeping
 -- What an event does to the runs, and how far its handling has come.
+pub mod Takers
 pub mod Offer
 pub mod Effects
 pub mod Turn

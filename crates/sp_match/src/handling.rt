@@ -3,9 +3,9 @@ ghost use Rattle.std.specs.Prelude.{◌≡◌, ◌<◌, [], length, map, take, I
 ghost use Rattle.sp_plan.specs.Runs.{State};
 ghost use Rattle.sp_plan.specs.Moves as definitions;
 ghost use Rattle.sp_match.specs.public.Seen.{all_seen};
-ghost use Rattle.sp_match.specs.inside.Kept.{all_kept, started};
+ghost use Rattle.sp_match.specs.inside.Kept.{all_kept, pairs, started};
 ghost use Rattle.sp_match.specs.inside.Good.{Undoes};
-ghost use Rattle.sp_match.specs.inside.Offer.{IsOffer, IsShared, numbered};
+ghost use Rattle.sp_match.specs.inside.Offer.{AllTold, IsOffer, IsShared, numbered};
 ghost use Rattle.sp_match.specs.inside.Going.{IsReady};
 ghost use Rattle.sp_match.specs.inside.Handling.{IsHandled};
 
@@ -33,6 +33,7 @@ fn handle(
     requires ready { IsReady offer.now.plan.now offer.now.number count (all_kept runs.old.items) }
     requires below { count < offer.now.number }
     requires none { list.old.items ≡ [] }
+    requires told { AllTold offer.now (map pairs (all_kept runs.old.items)) }
     ensures handled { IfOk result (λ began. IsHandled offer.now.plan.now (numbered offer.now) count
         (all_kept runs.old.items) began (all_kept runs.new.items) (all_seen list.new.items)) }
     ensures quiet { OnOk result
@@ -63,6 +64,7 @@ pub(crate) fn handle_all<const WANTED: bool>(
     requires offer { IsOffer offer.now }
     requires ready { IsReady offer.now.plan.now offer.now.number count (all_kept runs.old.items) }
     requires below { count < offer.now.number }
+    requires told { AllTold offer.now (map pairs (all_kept runs.old.items)) }
     ensures handled { IfOk result (λ began. IsHandled offer.now.plan.now (numbered offer.now) count
         (all_kept runs.old.items) began (all_kept runs.new.items) (all_seen moves.new.list.items)) }
     ensures quiet { OnOk result (all_seen moves.new.list.items ≡ []

@@ -5,7 +5,6 @@ ghost use Rattle.sp_plan.specs.Bounds.{IsSmall};
 ghost use Rattle.sp_plan.specs.Compiled.{IsCompiled};
 ghost use Rattle.sp_plan.specs.Events.{fits};
 ghost use Rattle.sp_match.specs.public.Known.{IsKnown, known_by, may_take};
-ghost use Rattle.sp_match.specs.inside.Taking.{IsMask};
 
 use crate::offer::first_name;
 use sp_plan::{Bound, Event, Plan, law, may_hold};
@@ -69,32 +68,5 @@ pub fn known_beside(alloc: Global, plan: &Plan, event: &Event, none: &Bound) -> 
         Known::Onward
     } else {
         Known::Never
-    }
-}
-
-// Which names may take the event: false only at those whose predicate can't hold of it.
-fn asked_names(alloc: Global, plan: &Plan, event: &Event) -> [bool; 32]
-    requires compiled { IsCompiled plan.now }
-    requires small { IsSmall event.now }
-    ensures { IsMask plan.now event.now result }
-{
-    let mut may = [true; 32];
-    let names = plan.names.as_slice();
-    for name in 0..names.len() {
-        may[name] = may_hold(alloc, &names[name].pred, event);
-    }
-    may
-}
-
-/// Which names may take an event. It is asked where so many runs are open that it pays.
-pub(crate) fn names_ahead(alloc: Global, plan: &Plan, event: &Event, open: usize) -> [bool; 32]
-    requires compiled { IsCompiled plan.now }
-    requires small { IsSmall event.now }
-    ensures { IsMask plan.now event.now result }
-{
-    if open < 4 {
-        [true; 32]
-    } else {
-        asked_names(alloc, plan, event)
     }
 }

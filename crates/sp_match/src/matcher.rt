@@ -9,13 +9,15 @@ ghost use Rattle.sp_match.specs.public.Seen.{all_seen, seen_run};
 use crate::Memory;
 use crate::all_runs::{copies, same_runs};
 use crate::handling::handle_all;
-use crate::known::{Known, names_ahead};
+use crate::holdings::Holdings;
+use crate::known::Known;
 use crate::leaving::abandon_all;
 use crate::moves::Moves;
 use crate::offer::Offer;
 use crate::run::Run;
-use crate::settling::{end_all, settle, undo};
+use crate::settling::{end_all, end_event, undo};
 use crate::stock::Stock;
+use crate::takers::takers_of;
 use crate::wanting::{left, want_as_before};
 use sp_plan::{Event, Plan, law};
 use std::alloc::Global;
@@ -33,6 +35,8 @@ pub struct Matcher {
     lefts: Vec<u32>,
     // what runs that ended have left for later ones
     stock: Stock,
+    // what is kept for asking predicates once for all open runs
+    holdings: Holdings,
 }
 
 impl Model for Matcher {
@@ -48,8 +52,9 @@ impl Model for Matcher {
 
     ghost coded = { Prim.hlevel (codes, expr.the_row.coded, pred.the_row.coded) };
 
-    ghost use Rattle.sp_match.specs.inside.Kept.{all_kept, started};
+    ghost use Rattle.sp_match.specs.inside.Kept.{all_kept, pairs, started};
     ghost use Rattle.sp_match.specs.inside.Keeping.{IsKept};
+    ghost use Rattle.sp_match.specs.inside.Takers.{IsHeld};
 
     ghost view = { λ m. record {
       plan = arc_value m.plan;
@@ -57,7 +62,8 @@ impl Model for Matcher {
       started = m.count;
     } };
 
-    ghost invariant = { λ m. IsKept (arc_value m.plan) m.count (all_kept m.runs.items) };
+    ghost invariant = { λ m. IsKept (arc_value m.plan) m.count (all_kept m.runs.items)
+        × IsHeld (arc_value m.plan) (map pairs (all_kept m.runs.items)) m.holdings };
 }
 
 // How many runs have started, where one more may have.
@@ -87,6 +93,7 @@ impl Matcher {
             count: 0,
             lefts: Vec::new(alloc),
             stock: Stock::new(alloc),
+            holdings: Holdings::new(alloc),
         })
     }
 
@@ -105,6 +112,7 @@ impl Matcher {
     {
         end_all(&mut self.runs, &mut self.stock);
         self.count = 0;
+        self.holdings.forget();
     }
 
     /// Handles the next visible event: the open runs are offered it, the oldest first, and then it may
@@ -188,14 +196,15 @@ impl Matcher {
         // The numbers of an event that fits are small, which predicates ask for.
         law::fitting_events_are_small();
         let open = self.runs.len();
-        let may = names_ahead(alloc, &self.plan, event, open);
+        let told = takers_of(alloc, &self.plan, event, &self.runs, &mut self.holdings);
+        let takers = told.as_ref();
         let offer = Offer {
             alloc,
             plan: &self.plan,
             number,
             event,
             known,
-            may: &may,
+            takers,
         };
         match handle_all::<WANTED>(
             &offer,
@@ -207,12 +216,20 @@ impl Matcher {
         ) {
             Ok(started) => {
                 let is_quiet = moves.list.is_empty();
-                settle(&mut self.runs, &mut self.stock, is_quiet);
+                end_event(
+                    &mut self.runs,
+                    &mut self.stock,
+                    &mut self.holdings,
+                    open,
+                    number,
+                    is_quiet,
+                );
                 self.count = count_after(self.count, started);
                 Ok(())
             }
             Err(memory) => {
                 undo(&mut self.runs, open, number);
+                self.holdings.forget();
                 moves.clear();
                 Err(memory)
             }
@@ -284,6 +301,7 @@ impl Matcher {
         let mut moves = Moves::new(alloc);
         abandon_all(&self.runs, &mut moves.list)?;
         self.runs.clear();
+        self.holdings.forget();
         Ok(moves)
     }
 
@@ -297,6 +315,7 @@ impl Matcher {
             count: self.count,
             lefts: Vec::new(alloc),
             stock: Stock::new(alloc),
+            holdings: Holdings::new(alloc),
         })
     }
 

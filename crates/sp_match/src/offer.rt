@@ -9,6 +9,7 @@ ghost use Rattle.sp_match.specs.inside.Offer.{IsOffer, IsShared, lets_leave};
 use crate::Memory;
 use crate::known::Known;
 use crate::stock::Stock;
+use crate::takers::Takers;
 use crate::taking::span;
 use sp_plan::{Bound, Element, Event, Plan, Select, SharedEvent, holds};
 use std::alloc::Global;
@@ -25,8 +26,8 @@ pub(crate) struct Offer<'a> {
     pub(crate) event: &'a Event,
     /// What is known of it.
     pub(crate) known: Known,
-    /// False only at names that can't take it.
-    pub(crate) may: &'a [bool; 32],
+    /// Which of the open runs take it, where that was asked for all of them at once.
+    pub(crate) takers: Option<&'a Takers>,
 }
 
 // Whether the event fulfils the predicate of the name where nothing is bound.

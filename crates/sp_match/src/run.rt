@@ -1,14 +1,15 @@
 // One partial match.
 ghost use Rattle.std.specs.Prelude.{◌≡◌, ℕ, ◌<◌, ◌-◌, not, [], None, Some, length, IfOk, IsTrue, OnOk, OnErr, slice_index_or, false, map};
-ghost use Rattle.std.specs.List.{All, AllPairs, list_any};
+ghost use Rattle.std.specs.Option.{option_map};
+ghost use Rattle.std.specs.List.{All, AllPairs, last_or, list_any};
 ghost use Rattle.sp_base.specs.Numbers.{is_among};
 ghost use Rattle.sp_match.specs.inside.Tally.{is_leaving};
-ghost use Rattle.sp_match.specs.inside.Kept.{kept, stays, empty, grown, before, binds, last_under, name_under, undone, CanGrow, CanUndo};
+ghost use Rattle.sp_match.specs.inside.Kept.{kept, stays, empty, grown, before, binds, but_last, last_under, name_under, undone, CanGrow, CanUndo};
 ghost use Rattle.sp_match.specs.declared.run.Fate.TheVariants.{Stays};
 
 use crate::Memory;
 use sp_base::Numbers;
-use sp_plan::{Bound, Element, SharedEvent};
+use sp_plan::{Binds, Bound, Element, SharedEvent};
 use std::alloc::Global;
 
 /// A partial match that is open.
@@ -24,6 +25,8 @@ pub struct Run {
     pub(crate) events: Bound,
     // which names are bound
     pub(crate) names: [bool; 32],
+    // how many names are bound
+    pub(crate) bound_names: u32,
     // what it may take next, where that was looked for since it bound its last event
     pub(crate) ahead: Option<Ahead>,
     pub(crate) fate: Fate,
@@ -44,6 +47,14 @@ pub(crate) enum Fate {
     Stays,
     Completes,
     Leaves,
+}
+
+impl Binds for Run {
+    ghost binds = { λ run. run.events };
+
+    fn bound(&self) -> &Bound {
+        &self.events
+    }
 }
 
 // The name of a pair, where it is of the event of this number.
@@ -72,6 +83,7 @@ impl Run {
             used: Numbers::new(alloc),
             events: Bound::new(alloc),
             names: [false; 32],
+            bound_names: 0,
             ahead: None,
             fate: Fate::Stays,
         }
@@ -86,6 +98,7 @@ impl Run {
         self.used.clear();
         self.events.clear();
         self.names = [false; 32];
+        self.bound_names = 0;
         self.ahead = None;
         self.fate = Fate::Stays;
         self
@@ -152,19 +165,31 @@ impl Run {
         if consumed {
             self.used.put(number);
         }
+        if !self.names[name as usize] {
+            self.bound_names += 1;
+        }
         self.names[name as usize] = true;
         self.ahead = None;
         Ok(())
     }
 
     // The name of its last pair, where that is of the event of this number.
-    fn last_under(&self, number: u32) -> Option<u8>
+    pub(crate) fn last_under(&self, number: u32) -> Option<u8>
         ensures { result ≡ last_under number (kept self.now) }
     {
         match self.bound.last() {
             Some(pair) => name_under(*pair, number),
             None => None,
         }
+    }
+
+    // Whether the pair before its last one is of the name.
+    pub(crate) fn repeats(&self, name: u8) -> bool
+        ensures { IsTrue result → option_map (λ (pair : ℕ × ℕ). pair.0)
+            (last_or None (but_last self.now.bound.items)) ≡ Some name }
+    {
+        let bound = self.bound.as_slice();
+        bound.len() > 1 && bound[bound.len() - 2].0 == name
     }
 
     // Whether some event is bound to the name.
@@ -178,6 +203,7 @@ impl Run {
     fn take_last(&mut self, name: u8, number: u32)
         requires named { name < 32 }
         requires some { 0 < length self.old.events }
+        requires bound { 0 < self.old.bound_names }
         requires stays { self.old.fate ≡ Stays }
         requires unknown { self.old.ahead ≡ None }
         ensures { kept self.new ≡ undone number (Some name) (kept self.old) }
@@ -189,6 +215,7 @@ impl Run {
         }
         if !self.binds(name) {
             self.names[name as usize] = false;
+            self.bound_names -= 1;
         }
     }
 
@@ -215,6 +242,7 @@ impl Run {
             used: self.used.copy(alloc)?,
             events: self.events.copy(alloc)?,
             names: self.names,
+            bound_names: self.bound_names,
             ahead: self.ahead,
             fate: self.fate,
         })

@@ -1,14 +1,18 @@
 // The end of an event's handling: what was marked is done, or all is made as it was.
-ghost use Rattle.std.specs.Prelude.{◌≡◌, [], IsTrue, OnSome, ◌<◌, filter, length, map, take};
+ghost use Rattle.std.specs.Prelude.{◌≡◌, List, [], IsTrue, OnSome, ◌<◌, filter, length, map, take};
 ghost use Rattle.std.specs.List.{All};
 ghost use Rattle.sp_plan.specs.declared.plan.Plan.{Plan};
-ghost use Rattle.sp_match.specs.inside.Kept.{all_kept, started, before, stays, CanUndo};
-ghost use Rattle.sp_match.specs.inside.Good.{Good};
-ghost use Rattle.sp_match.specs.inside.Going.{IsIdle};
+ghost use Rattle.sp_plan.specs.Runs as definitions;
+ghost use Rattle.sp_match.specs.inside.Kept.{Kept, all_kept, pairs, started, before, stays, CanUndo};
+ghost use Rattle.sp_match.specs.inside.Good.{Good, Undoes};
+ghost use Rattle.sp_match.specs.inside.Going.{IsIdle, IsSet};
 ghost use Rattle.sp_match.specs.inside.Effects.{open_runs};
+ghost use Rattle.sp_match.specs.inside.Takers.{IsHeld};
 
+use crate::holdings::Holdings;
 use crate::run::Run;
 use crate::stock::Stock;
+use sp_plan::law;
 
 /// The runs are as before the event of this number, where so many were there then.
 pub(crate) fn undo(runs: &mut Vec<Run>, count: usize, number: u32)
@@ -52,16 +56,43 @@ fn drop_leaving(runs: &mut Vec<Run>, stock: &mut Stock)
     runs.retain(|run| run.stays());
 }
 
-/// The runs that stay go on, and the others are dropped. Where the event did nothing to any run, they
-/// aren't gone through.
-pub(crate) fn settle(runs: &mut Vec<Run>, stock: &mut Stock, is_quiet: bool)
-    requires quiet { IsTrue is_quiet → All IsIdle (all_kept runs.old.items) }
+// The runs that stay go on, and the others are dropped. Where it is known that all stay, they aren't gone through.
+fn settle(runs: &mut Vec<Run>, stock: &mut Stock, all_stay: bool)
+    requires stay { IsTrue all_stay → All IsIdle (all_kept runs.old.items) }
     ensures runs { map started (all_kept runs.new.items) ≡ open_runs (all_kept runs.old.items) }
     ensures good { (q : Plan) → All (Good q) (all_kept runs.old.items)
         → All (Good q) (all_kept runs.new.items) }
     ensures idle { All IsIdle (all_kept runs.new.items) }
 {
-    if !is_quiet {
+    if !all_stay {
         drop_leaving(runs, stock);
     }
+}
+
+/// The event of this number was handled, when so many runs were open: the runs that stay go on, and the others
+/// are dropped. Where it did nothing to any run they aren't gone through. What is kept beside them stays fresh
+/// where they go on as they were.
+pub(crate) fn end_event(
+    runs: &mut Vec<Run>,
+    stock: &mut Stock,
+    holdings: &mut Holdings,
+    count: usize,
+    number: u32,
+    is_quiet: bool,
+)
+    requires quiet { IsTrue is_quiet → All IsIdle (all_kept runs.old.items) }
+    requires held { (q : Plan) × (rs : List definitions.Run) × IsHeld q rs holdings.old }
+    ensures runs { map started (all_kept runs.new.items) ≡ open_runs (all_kept runs.old.items) }
+    ensures good { (q : Plan) → All (Good q) (all_kept runs.old.items)
+        → All (Good q) (all_kept runs.new.items) }
+    ensures idle { All IsIdle (all_kept runs.new.items) }
+    ensures held { (q : Plan) (old : List Kept) → IsSet q number old → length old ≡ count
+        → Undoes q number old (take (length old) (all_kept runs.old.items))
+        → (IsTrue is_quiet → all_kept runs.old.items ≡ old) → IsHeld q (map pairs old) holdings.old
+        → IsHeld q (map pairs (all_kept runs.new.items)) holdings.new }
+{
+    // What a run binds that no held side reads changes nothing of what is kept.
+    law::held_sides_stand_alone();
+    let go_on = holdings.outlive(runs, count, number, is_quiet);
+    settle(runs, stock, go_on);
 }

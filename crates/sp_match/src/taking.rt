@@ -1,6 +1,7 @@
 // Which name a run takes an event under.
 ghost use Rattle.std.specs.Prelude.{◌≡◌, ◌⊎◌, ◌<◌, ◌≤◌, ◌-◌, ◌&&◌, true, Some, None, length, take, not, slice_get, slice_index_or, IfSome, if◌then◌else◌};
 ghost use Rattle.std.specs.List.{range_with_len, list_any, list_all, last_or};
+ghost use Rattle.sp_base.specs.Numbers.{is_among};
 ghost use Rattle.sp_plan.specs.declared.plan.Plan.{Plan};
 ghost use Rattle.sp_plan.specs.Bounds.{IsSmall};
 ghost use Rattle.sp_plan.specs.Compiled.{IsCompiled};
@@ -8,9 +9,12 @@ ghost use Rattle.sp_plan.specs.Runs;
 ghost use Rattle.sp_plan.specs.Runs.{is_bound, is_plus, names_of, name_holds, unbound};
 ghost use Rattle.sp_match.specs.inside.Kept.{kept, pairs};
 ghost use Rattle.sp_match.specs.inside.Good.{Good, IsNamed};
-ghost use Rattle.sp_match.specs.inside.Taking.{IsAhead, IsMask, ahead_still, is_again, next_element, held_of, held_once_more, last_again};
+ghost use Rattle.sp_match.specs.inside.Taking.{IsAhead, ahead_still, first_lacked, is_again, last_again, next_element, once_more};
+ghost use Rattle.sp_match.specs.inside.Offer.{IsOffer, IsToldAt, answer};
+ghost use Rattle.sp_match.specs.inside.Takers.{is_wanted};
 ghost use Rattle.sp_match.specs.inside.Effects.{looking};
 
+use crate::offer::Offer;
 use crate::run::{Ahead, Run};
 use sp_plan::{Element, Event, Plan, holds};
 
@@ -36,25 +40,17 @@ fn fits_name(plan: &Plan, run: &Run, event: &Event, name: u8) -> bool
     }
 }
 
-// Whether it is known that no run takes the event under the name.
-fn is_out(may: &[bool; 32], name: u8) -> bool
-    ensures { result ≡ not (slice_index_or may.now name true) }
+// Whether the run at this place takes the event under the name, as takers tell it or else as the predicate says.
+fn takes_as(offer: &Offer, run: &Run, at: usize, name: u8) -> bool
+    requires offer { IsOffer offer.now }
+    requires good { Good offer.now.plan.now (kept run.now) }
+    requires told { IsToldAt offer.now at (pairs (kept run.now)) }
+    ensures { result ≡ answer offer.now at (pairs (kept run.now)) name }
 {
-    match may.get(name as usize) {
-        Some(may) => !*may,
-        None => false,
+    match offer.takers {
+        Some(takers) => takers.has(name, at),
+        None => fits_name(offer.plan, run, offer.event, name),
     }
-}
-
-// Whether the run takes the event under the name. The predicate is asked only of names that may take it.
-fn takes_as(plan: &Plan, run: &Run, event: &Event, may: &[bool; 32], name: u8) -> bool
-    requires compiled { IsCompiled plan.now }
-    requires good { Good plan.now (kept run.now) }
-    requires small { IsSmall event.now }
-    requires may { IsMask plan.now event.now may.now }
-    ensures { result ≡ name_holds plan.now (pairs (kept run.now)) event.now name }
-{
-    !is_out(may, name) && fits_name(plan, run, event, name)
 }
 
 /// The names of an element are those from the first number on and below the second.
@@ -127,31 +123,30 @@ fn first_unfilled(plan: &Plan, run: &Run) -> Option<Element>
     element_at(plan, filled_front(plan, run))
 }
 
-// Whether a run has bound no event to the name, and takes the event under it.
-fn takes_anew(plan: &Plan, run: &Run, event: &Event, may: &[bool; 32], name: u8) -> bool
-    requires compiled { IsCompiled plan.now }
-    requires good { Good plan.now (kept run.now) }
-    requires small { IsSmall event.now }
-    requires may { IsMask plan.now event.now may.now }
+// Whether the run has bound no event to the name, and takes the event under it.
+fn takes_anew(offer: &Offer, run: &Run, at: usize, name: u8) -> bool
+    requires offer { IsOffer offer.now }
+    requires good { Good offer.now.plan.now (kept run.now) }
+    requires told { IsToldAt offer.now at (pairs (kept run.now)) }
     requires named { name < 32 }
     ensures { result ≡ (not (is_bound (pairs (kept run.now)) name)
-        && name_holds plan.now (pairs (kept run.now)) event.now name) }
+        && answer offer.now at (pairs (kept run.now)) name) }
 {
-    !has(run, name) && takes_as(plan, run, event, may, name)
+    !has(run, name) && takes_as(offer, run, at, name)
 }
 
 // The first name that the run lacks of the element and under which it takes the event.
-fn lacking(plan: &Plan, run: &Run, event: &Event, may: &[bool; 32], element: Element) -> Option<u8>
-    requires compiled { IsCompiled plan.now }
-    requires good { Good plan.now (kept run.now) }
-    requires small { IsSmall event.now }
-    requires may { IsMask plan.now event.now may.now }
+fn lacking(offer: &Offer, run: &Run, at: usize, element: Element) -> Option<u8>
+    requires offer { IsOffer offer.now }
+    requires good { Good offer.now.plan.now (kept run.now) }
+    requires told { IsToldAt offer.now at (pairs (kept run.now)) }
     requires named { IsNamed element }
-    ensures { result ≡ held_of plan.now (pairs (kept run.now)) event.now (Some element) }
+    ensures { result ≡ first_lacked (answer offer.now at (pairs (kept run.now)))
+        (pairs (kept run.now)) (Some element) }
 {
     let (first, past) = span(element);
     for name in first..past {
-        if takes_anew(plan, run, event, may, name) {
+        if takes_anew(offer, run, at, name) {
             return Some(name);
         }
     }
@@ -284,21 +279,14 @@ pub(crate) fn look_on(plan: &Plan, run: &mut Run, known: Option<Ahead>)
 }
 
 // The name, which may be bound more than once, where the run takes the event under it.
-fn once_more(
-    plan: &Plan,
-    run: &Run,
-    event: &Event,
-    may: &[bool; 32],
-    again: Option<u8>,
-) -> Option<u8>
-    requires compiled { IsCompiled plan.now }
-    requires good { Good plan.now (kept run.now) }
-    requires small { IsSmall event.now }
-    requires may { IsMask plan.now event.now may.now }
-    ensures { result ≡ held_once_more plan.now (pairs (kept run.now)) event.now again }
+fn once_more(offer: &Offer, run: &Run, at: usize, again: Option<u8>) -> Option<u8>
+    requires offer { IsOffer offer.now }
+    requires good { Good offer.now.plan.now (kept run.now) }
+    requires told { IsToldAt offer.now at (pairs (kept run.now)) }
+    ensures { result ≡ once_more (answer offer.now at (pairs (kept run.now))) again }
 {
     let name = again?;
-    if takes_as(plan, run, event, may, name) {
+    if takes_as(offer, run, at, name) {
         Some(name)
     } else {
         None
@@ -306,39 +294,64 @@ fn once_more(
 }
 
 // The first name of the element that the run lacks and under which it takes the event.
-fn onward(
-    plan: &Plan,
-    run: &Run,
-    event: &Event,
-    may: &[bool; 32],
-    element: Option<Element>,
-) -> Option<u8>
-    requires compiled { IsCompiled plan.now }
-    requires good { Good plan.now (kept run.now) }
-    requires small { IsSmall event.now }
-    requires may { IsMask plan.now event.now may.now }
+fn onward(offer: &Offer, run: &Run, at: usize, element: Option<Element>) -> Option<u8>
+    requires offer { IsOffer offer.now }
+    requires good { Good offer.now.plan.now (kept run.now) }
+    requires told { IsToldAt offer.now at (pairs (kept run.now)) }
     requires named { IfSome element IsNamed }
-    ensures { result ≡ held_of plan.now (pairs (kept run.now)) event.now element }
+    ensures { result ≡ first_lacked (answer offer.now at (pairs (kept run.now)))
+        (pairs (kept run.now)) element }
 {
     match element {
-        Some(element) => lacking(plan, run, event, may, element),
+        Some(element) => lacking(offer, run, at, element),
         None => None,
     }
 }
 
-/// The name under which a run takes an event, if it takes it: of the first element not yet filled the
-/// first name that it lacks, else its last name once more. `may` is false only at names that can't take
-/// the event.
-pub(crate) fn takes(plan: &Plan, run: &Run, event: &Event, may: &[bool; 32]) -> Option<u8>
+/// The name under which the run at this place takes the event, if it takes it: of the first element not yet
+/// filled the first name that it lacks, else its last name once more.
+pub(crate) fn takes(offer: &Offer, run: &Run, at: usize) -> Option<u8>
+    requires offer { IsOffer offer.now }
+    requires good { Good offer.now.plan.now (kept run.now) }
+    requires told { IsToldAt offer.now at (pairs (kept run.now)) }
+    ensures { result ≡ Runs.takes offer.now.plan.now (pairs (kept run.now)) offer.now.event.now }
+{
+    let ahead = ahead_of(offer.plan, run);
+    match onward(offer, run, at, ahead.element) {
+        Some(name) => Some(name),
+        None => once_more(offer, run, at, ahead.again),
+    }
+}
+
+// Whether the name is one of the element's.
+fn names(element: Element, name: u8) -> bool
+    requires { IsNamed element }
+    ensures { result ≡ is_among (names_of element) name }
+{
+    let (first, past) = span(element);
+    first <= name && name < past
+}
+
+// Whether the name is one of the element's that the run lacks.
+fn lacks(run: &Run, element: Option<Element>, name: u8) -> bool
+    requires good { (q : Plan) × Good q (kept run.now) }
+    requires named { IfSome element IsNamed }
+    requires few { name < 32 }
+    ensures { result ≡ is_among (unbound (pairs (kept run.now)) element) name }
+{
+    match element {
+        Some(element) => names(element, name) && !has(run, name),
+        None => false,
+    }
+}
+
+/// Whether the run may take the name next.
+pub(crate) fn wants(plan: &Plan, run: &Run, name: u8) -> bool
     requires compiled { IsCompiled plan.now }
     requires good { Good plan.now (kept run.now) }
-    requires small { IsSmall event.now }
-    requires may { IsMask plan.now event.now may.now }
-    ensures { result ≡ Runs.takes plan.now (pairs (kept run.now)) event.now }
+    requires named { name < 32 }
+    ensures { result ≡ is_wanted plan.now (pairs (kept run.now)) name }
 {
     let ahead = ahead_of(plan, run);
-    match onward(plan, run, event, may, ahead.element) {
-        Some(name) => Some(name),
-        None => once_more(plan, run, event, may, ahead.again),
-    }
+    lacks(run, ahead.element, name) || is_again(ahead.again, name)
 }

@@ -1,10 +1,11 @@
 // Run by run, the open runs are offered an event.
-ghost use Rattle.std.specs.Prelude.{◌≡◌, ◌<◌, [], ◌++◌, length, map, IfOk, OnOk};
+ghost use Rattle.std.specs.Prelude.{◌≡◌, ◌<◌, [], ◌++◌, None, false, length, map, IfOk, IsTrue, OnOk};
 ghost use Rattle.std.specs.List.{All};
 ghost use Rattle.sp_match.specs.public.Seen.{all_seen};
-ghost use Rattle.sp_match.specs.inside.Kept.{kept, all_kept};
+ghost use Rattle.sp_plan.specs.Runs as definitions;
+ghost use Rattle.sp_match.specs.inside.Kept.{kept, all_kept, pairs};
 ghost use Rattle.sp_match.specs.inside.Good.{Good, NumbersBelow, Undoes};
-ghost use Rattle.sp_match.specs.inside.Offer.{IsOffer, IsShared, lets_leave, numbered};
+ghost use Rattle.sp_match.specs.inside.Offer.{AllTold, IsOffer, IsShared, IsToldAt, lets_leave, numbered};
 ghost use Rattle.sp_match.specs.inside.Effects.{Adds, run_at, runs_after_offer, offer_told, reception_after_offer};
 ghost use Rattle.sp_match.specs.inside.Turn.{IsTurn, taken_at};
 ghost use Rattle.sp_match.specs.inside.Going.{AllHadTurns, IsSet};
@@ -17,6 +18,7 @@ use crate::offer::{Offer, leaves};
 use crate::run::Run;
 use crate::stock::Stock;
 use crate::taking::takes;
+use sp_plan::{Select, has_bit};
 
 /// What an event has met with among the runs that were open when it came.
 #[derive(Clone, Copy, Drop)]
@@ -43,6 +45,7 @@ fn deal(
     requires good { All (Good offer.now.plan.now) (all_kept runs.old) }
     requires below { NumbersBelow offer.now.number (run_at (all_kept runs.old) at) }
     requires within { at < length runs.old }
+    requires told { IsToldAt offer.now at (pairs (run_at (all_kept runs.old) at)) }
     ensures received { IfOk result (λ r. r ≡ reception_after_offer offer.now.plan.now
         (numbered offer.now) (run_at (all_kept runs.old) at) so_far
         (taken_at offer.now.plan.now at (numbered offer.now) (all_kept runs.old))) }
@@ -56,7 +59,7 @@ fn deal(
     ensures undoes { Undoes offer.now.plan.now offer.now.number (all_kept runs.old)
         (all_kept runs.new) }
 {
-    match takes(offer.plan, &runs[at], offer.event, offer.may) {
+    match takes(offer, &runs[at], at) {
         Some(name) => {
             let used = bind(offer, shared, runs, at, name, list)?;
             Ok(if used {
@@ -73,7 +76,23 @@ fn deal(
     }
 }
 
+// Whether it is told of the run at this place that it does not take the event, and it doesn't leave for that.
+#[inline(always)]
+fn is_passed_over(offer: &Offer, at: usize) -> bool
+    requires { (r : definitions.Run) × IsToldAt offer.now at r }
+    ensures none { IsTrue result
+        → (r : definitions.Run) → IsToldAt offer.now at r
+        → definitions.takes offer.now.plan.now r offer.now.event.now ≡ None }
+    ensures stays { IsTrue result → lets_leave offer.now ≡ false }
+{
+    match (offer.takers, offer.plan.select) {
+        (Some(takers), Select::First | Select::Each) => !has_bit(takers.any, at),
+        _ => false,
+    }
+}
+
 // One run's turn: it is offered the event unless it has left or the event was used.
+#[inline(always)]
 fn turn(
     offer: &Offer,
     shared: &mut Stock,
@@ -87,6 +106,7 @@ fn turn(
     requires good { All (Good offer.now.plan.now) (all_kept runs.old) }
     requires below { NumbersBelow offer.now.number (run_at (all_kept runs.old) at) }
     requires within { at < length runs.old }
+    requires told { IsToldAt offer.now at (pairs (run_at (all_kept runs.old) at)) }
     ensures turned { IfOk result (λ r. IsTurn offer.now.plan.now (lets_leave offer.now) at
         (numbered offer.now) (all_kept runs.old) (all_kept runs.new) (all_seen list.old.items)
         (all_seen list.new.items) so_far r) }
@@ -94,6 +114,9 @@ fn turn(
     ensures undoes { Undoes offer.now.plan.now offer.now.number (all_kept runs.old)
         (all_kept runs.new) }
 {
+    if is_passed_over(offer, at) {
+        return Ok(so_far);
+    }
     if matches!(so_far, Reception::Used) || !runs[at].stays() {
         return Ok(so_far);
     }
@@ -111,6 +134,7 @@ pub(crate) fn offer_to_all(
     requires shared { IsShared offer.now shared.old }
     requires ready { IsSet offer.now.plan.now offer.now.number (all_kept runs.old) }
     requires none { list.old.items ≡ [] }
+    requires told { AllTold offer.now (map pairs (all_kept runs.old)) }
     ensures going { IfOk result (λ r. AllHadTurns offer.now.plan.now (numbered offer.now)
         (all_kept runs.old) (all_kept runs.new) (all_seen list.new.items) r) }
     ensures quiet { OnOk result

@@ -1,5 +1,5 @@
 // How many events runs want at least.
-ghost use Rattle.std.specs.Prelude.{◌≡◌, ◌≤◌, [], ◌++◌, length, map, take, OnOk, OnErr};
+ghost use Rattle.std.specs.Prelude.{◌≡◌, ◌+◌, ◌<◌, ◌≤◌, [], ◌++◌, length, vec_len, vec_capacity, map, take, OnOk, OnErr};
 ghost use Rattle.std.specs.List.{All};
 ghost use Rattle.sp_plan.specs.Compiled.{IsCompiled};
 ghost use Rattle.sp_plan.specs.Moves as definitions;
@@ -18,13 +18,7 @@ pub(crate) fn left(plan: &Plan, run: &Run) -> u32
     ensures left { result ≡ definitions.left plan.now (pairs (kept run.now)) }
     ensures few { result ≤ 32 }
 {
-    let mut left = 0;
-    for name in 0..plan.names.as_slice().len() {
-        if !run.names[name] {
-            left += 1;
-        }
-    }
-    left
+    plan.names.as_slice().len() as u32 - run.bound_names
 }
 
 /// What each run wants; what stood there before is dropped.
@@ -40,18 +34,19 @@ pub(crate) fn want_before(plan: &Plan, runs: &[Run], lefts: &mut Vec<u32>) -> Re
     Ok(())
 }
 
-// What a run wanted and wants now, where it isn't abandoned.
-fn want_one(plan: &Plan, before: u32, run: &Run, wanted: &mut Vec<(u32, u32)>) -> Result<(), Memory>
+// Adds what a run wanted and wants now, where it isn't abandoned. There is room for the pair.
+fn want_one(plan: &Plan, before: u32, run: &Run, wanted: &mut Vec<(u32, u32)>)
     requires compiled { IsCompiled plan.now }
     requires good { Good plan.now (kept run.now) }
-    ensures { OnOk result
-        (wanted.new.items ≡ wanted.old.items ++ wanted_by plan.now (before, kept run.now)) }
+    requires room { vec_len wanted.old < vec_capacity wanted.old }
+    ensures added { wanted.new.items
+        ≡ wanted.old.items ++ wanted_by plan.now (before, kept run.now) }
+    ensures len { vec_len wanted.new ≤ vec_len wanted.old + 1 }
+    ensures capacity { vec_capacity wanted.new ≡ vec_capacity wanted.old }
 {
-    if run.leaves() {
-        return Ok(());
+    if !run.leaves() {
+        wanted.push_reserved((before, left(plan, run)));
     }
-    wanted.push((before, left(plan, run)))?;
-    Ok(())
 }
 
 /// What each of the first runs wanted, by `lefts`, and wants now; of abandoned ones nothing is said.
@@ -71,7 +66,7 @@ pub(crate) fn want_after(
     // Each of the runs may have a pair: the room is made once.
     wanted.reserve(lefts.len())?;
     for (at, before) in lefts.iter().enumerate() {
-        want_one(plan, *before, &runs[at], wanted)?;
+        want_one(plan, *before, &runs[at], wanted);
     }
     Ok(())
 }

@@ -1,11 +1,11 @@
 -- What every run of a matcher keeps.
 use Rattle.std.specs.Prelude.{◌≡◌, ◌⊎◌, ℕ, ◌+◌, ◌<◌, ◌≤◌, false, List, IfSome, length, map, slice_index_or}
-use Rattle.std.specs.List.{All, AllPairs}
+use Rattle.std.specs.List.{All, AllPairs, filter, range_with_len}
 use Rattle.sp_plan.specs.declared.plan.Plan.{Plan}
 use Rattle.sp_plan.specs.declared.plan.Element.{Element}
 use Rattle.sp_plan.specs.declared.plan.Element.TheVariants.{One, Plus, Set}
 use Rattle.sp_plan.specs.Bounds.{AllSmall}
-use Rattle.sp_plan.specs.Runs.{is_bound, used}
+use Rattle.sp_plan.specs.Runs.{Pair, is_bound, used}
 use Rattle.sp_match.specs.inside.Kept.{Kept, CanUndo, before, pairs}
 use Rattle.sp_match.specs.inside.Taking.{IsAhead}
 
@@ -15,13 +15,18 @@ IsNamed (One name) = name < 32
 IsNamed (Plus name) = name < 32
 IsNamed (Set first count) = (first + count ≤ 32) ⊎ (count ≡ 0)
 
--- The parts of a run fit together: the events and the flags are those of its pairs, what it may take next is so where it is known,
--- the numbers rise, and it would use those of consumed names.
+-- how many names of the plan a run of these pairs has bound
+abbrev pub bound_count : Plan → List Pair → ℕ
+bound_count q r = length (filter (is_bound r) (range_with_len 0 (length q.names)))
+
+-- The parts of a run fit together: the events, the flags and their count are those of its pairs, what it may take next is so where it
+-- is known, the numbers rise, and it would use those of consumed names.
 pub record Good (q : Plan) (k : Kept) : Type 0 where
   pub same_names : map (λ p. p.0) k.bound ≡ map (λ p. p.0) k.events
   pub named : All (λ p. p.0 < length q.names) k.bound
   pub flags : length k.names ≡ 32
   pub marks : (name : ℕ) → name < 32 → slice_index_or k.names name false ≡ is_bound (pairs k) name
+  pub counted : k.bound_names ≡ bound_count q (pairs k)
   pub ahead_is : IfSome k.ahead (λ ahead. IsAhead q (pairs k) ahead)
   pub used_is : k.used ≡ used q (pairs k)
   pub rising : AllPairs (λ m n. m < n) (map (λ p. p.1) k.bound)

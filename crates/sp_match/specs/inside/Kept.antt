@@ -1,5 +1,5 @@
 -- A run in plain values, and what the handling of an event does to it.
-use Rattle.std.specs.Prelude.{◌≡◌, ℕ, ◌-◌, ◌<◌, ◌==◌, Bool, false, true, List, [], ◌∷◌, ◌++◌, length, map, take, replicate, Option, None, Some, slice_set, if◌then◌else◌}
+use Rattle.std.specs.Prelude.{◌≡◌, ℕ, ◌+◌, ◌-◌, ◌<◌, ◌≤◌, ◌==◌, Bool, false, true, List, [], ◌∷◌, ◌++◌, length, map, take, replicate, Option, None, Some, slice_index_or, slice_set, if◌then◌else◌}
 use Rattle.std.specs.List.{All, last_or, list_any, zip}
 use Rattle.sp_base.specs.Numbers.{is_among}
 use Rattle.sp_plan.specs.declared.event.Event.{Event}
@@ -16,12 +16,13 @@ pub record Kept : Type 0 where
   pub used : List ℕ
   pub events : List (ℕ × Event)
   pub names : List Bool
+  pub bound_names : ℕ
   pub ahead : Option Ahead
   pub fate : Fate
 
 -- the plain values of a run
 abbrev pub kept : Run → Kept
-kept r = record { number = r.number; bound = r.bound.items; used = r.used.list; events = r.events; names = r.names; ahead = r.ahead; fate = r.fate }
+kept r = record { number = r.number; bound = r.bound.items; used = r.used.list; events = r.events; names = r.names; bound_names = r.bound_names; ahead = r.ahead; fate = r.fate }
 
 -- those of all runs
 abbrev pub all_kept : List Run → List Kept
@@ -47,7 +48,7 @@ stays Leaves = false
 
 -- a run that has bound no event
 abbrev pub empty : ℕ → Kept
-empty number = record { number = number; bound = []; used = []; events = []; names = replicate 32 false; ahead = None; fate = Stays }
+empty number = record { number = number; bound = []; used = []; events = []; names = replicate 32 false; bound_names = 0; ahead = None; fate = Stays }
 
 -- a run with one pair more, of which it isn't yet known what it may take next
 abbrev pub grown : ℕ → Bool → ℕ → Event → Kept → Kept
@@ -56,6 +57,7 @@ grown name consumed number event k = record k {
   used = if consumed then k.used ++ number ∷ [] else k.used;
   events = k.events ++ (name, event) ∷ [];
   names = slice_set k.names name true;
+  bound_names = if slice_index_or k.names name false then k.bound_names else k.bound_names + 1;
   ahead = None;
 }
 
@@ -84,6 +86,7 @@ undone number (Some name) k = record k {
   used = if is_among k.used number then but_last k.used else k.used;
   events = but_last k.events;
   names = if binds name (but_last k.bound) then k.names else slice_set k.names name false;
+  bound_names = if binds name (but_last k.bound) then k.bound_names else k.bound_names - 1;
   ahead = None;
   fate = Stays;
 }
@@ -96,8 +99,15 @@ before number k = undone number (last_under number k) k
 pub record CanGrow (name number : ℕ) (k : Kept) : Type 0 where
   pub named : name < 32
   pub flags : length k.names ≡ 32
+  pub few : k.bound_names ≤ 32
   pub below : All (λ n. n < number) k.used
+
+-- The last of these pairs and events can be taken away, where so many names are bound.
+pub record CanPop (bound : List (ℕ × ℕ)) (events : List (ℕ × Event)) (bound_names : ℕ) : Type 0 where
+  pub named : All (λ pair. pair.0 < 32) bound
+  pub same : length bound ≡ length events
+  pub some_name : 0 < length bound → 0 < bound_names
 
 -- A run's last pair can be taken away.
 abbrev pub CanUndo : Kept → Type 0
-CanUndo k = All (λ pair. pair.0 < 32) k.bound × (length k.bound ≡ length k.events)
+CanUndo k = CanPop k.bound k.events k.bound_names

@@ -1,10 +1,9 @@
 -- The name under which a run takes an event, step by step.
-use Rattle.std.specs.Prelude.{◌≡◌, ℕ, ◌==◌, Bool, true, false, not, List, Option, Some, None, find, slice_index_or, if◌then◌else◌}
+use Rattle.std.specs.Prelude.{◌≡◌, ℕ, ◌==◌, Bool, false, not, List, Option, Some, None, find, if◌then◌else◌}
 use Rattle.std.specs.List.{last_or, list_any}
-use Rattle.sp_plan.specs.declared.event.Event.{Event}
 use Rattle.sp_plan.specs.declared.plan.Element.{Element}
 use Rattle.sp_plan.specs.declared.plan.Plan.{Plan}
-use Rattle.sp_plan.specs.Runs.{Pair, is_filled, is_plus, name_holds, unbound}
+use Rattle.sp_plan.specs.Runs.{Pair, is_filled, is_plus, unbound}
 use Rattle.sp_match.specs.declared.run.Ahead.{Ahead}
 use Rattle.sp_match.specs.inside.Kept.{Kept}
 
@@ -12,13 +11,9 @@ use Rattle.sp_match.specs.inside.Kept.{Kept}
 abbrev pub next_element : Plan → List Pair → Option Element
 next_element q r = find (λ element. not (is_filled r element)) q.elements
 
--- the first of these names under which the run takes the event
-abbrev pub first_held : Plan → List Pair → Event → List ℕ → Option ℕ
-first_held q r e names = find (name_holds q r e) names
-
--- the first name of the element that the run lacks and under which it takes the event
-abbrev pub held_of : Plan → List Pair → Event → Option Element → Option ℕ
-held_of q r e element = first_held q r e (unbound r element)
+-- the first name of the element that the run lacks and that passes
+abbrev pub first_lacked : (ℕ → Bool) → List Pair → Option Element → Option ℕ
+first_lacked passes r element = find passes (unbound r element)
 
 -- the name of a pair, where it may be bound more than once
 abbrev pub again_name : List Element → Option Pair → Option ℕ
@@ -47,11 +42,7 @@ ahead_if name (Some ahead) = if is_again name ahead.again then Some ahead else N
 abbrev pub ahead_still : ℕ → Kept → Option Ahead
 ahead_still name k = ahead_if name k.ahead
 
--- the name, where the run takes the event under it
-abbrev pub held_once_more : Plan → List Pair → Event → Option ℕ → Option ℕ
-held_once_more q r e None = None
-held_once_more q r e (Some name) = if name_holds q r e name then Some name else None
-
--- No run takes the event under a name at which this is false.
-abbrev pub IsMask : Plan → Event → List Bool → Type 0
-IsMask q e may = (name : ℕ) (r : List Pair) → slice_index_or may name true ≡ false → name_holds q r e name ≡ false
+-- the name, where it passes
+abbrev pub once_more : (ℕ → Bool) → Option ℕ → Option ℕ
+once_more passes None = None
+once_more passes (Some name) = if passes name then Some name else None

@@ -11,16 +11,21 @@ use Rattle.sp_match.specs.inside.Effects.{looking, run_with_event, run_if_comple
 use Rattle.sp_match.specs.public.Seen.{seen}
 use Rattle.sp_match.proofs.AheadStays.{still_ahead}
 use Rattle.sp_match.proofs.GrownRunIsGood.{good_grown}
+use Rattle.sp_match.proofs.NamesAreCounted.{bound_few}
 use Rattle.sp_match.proofs.RunsAfterBinding.{used_below}
 use Rattle.sp_match.proofs.RunsUndo.{run_fate, run_bound}
 use Rattle.sp_match.proofs.binding.grow.Goals as goal
 
 pub grow-requires : goal.grow-requires
-grow-requires c = record {
-  named = omega (arith, c.requires.named, c.requires.offer.compiled.names);
-  flags = c.requires.good.flags;
-  below = used_below c.args.offer.now.plan.now c.args.offer.now.number (kept c.args.run.now) c.requires.good c.requires.below;
-}
+grow-requires c =
+    let k = kept c.args.run.now in
+    let most = bound_few c.args.offer.now.plan.now (pairs k) in
+    record {
+      named = omega (arith, c.requires.named, c.requires.offer.compiled.names);
+      flags = c.requires.good.flags;
+      few = omega (arith, most, c.requires.good.counted, c.requires.offer.compiled.names);
+      below = used_below c.args.offer.now.plan.now c.args.offer.now.number (kept c.args.run.now) c.requires.good c.requires.below;
+    }
 
 pub look_on-requires-clause-good : goal.look_on-requires-clause-good
 look_on-requires-clause-good c =

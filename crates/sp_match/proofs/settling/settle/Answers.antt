@@ -24,8 +24,8 @@ staying Stays e = refl
 staying Completes e = cc
 staying Leaves e = cc
 
-pub returns-then-not-is_quiet : goal.returns-then-not-is_quiet
-returns-then-not-is_quiet c =
+pub returns-then-not-all_stay : goal.returns-then-not-all_stay
+returns-then-not-all_stay c =
     let ks = map kept c.args.runs.now.items in
     let is : map kept c.drop_leaving.new.runs.items ≡ filter (λ k. stays k.fate) ks = ap (map kept) c.drop_leaving.ensures ∙ kept_filter c.args.runs.now.items in
     record {
@@ -34,5 +34,5 @@ returns-then-not-is_quiet c =
       idle = subst (All IsIdle) (sym is) (λ k d within. staying _ (filter_passes (λ k. stays k.fate) ks k d within));
     }
 
-pub returns-else-not-is_quiet-clause-runs : goal.returns-else-not-is_quiet-clause-runs
-returns-else-not-is_quiet-clause-runs c = sym (open_all (map kept c.args.runs.now.items) (c.requires.quiet c.if-not-is_quiet.false))
+pub returns-else-not-all_stay-clause-runs : goal.returns-else-not-all_stay-clause-runs
+returns-else-not-all_stay-clause-runs c = sym (open_all (map kept c.args.runs.now.items) (c.requires.stay c.if-not-all_stay.false))

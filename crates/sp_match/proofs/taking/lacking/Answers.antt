@@ -1,14 +1,15 @@
 use Rattle.std.proofs.Common.{◌≡◌, ℕ, ◌+◌, ◌-◌, ◌&&◌, [], ◌∷◌, ◌++◌, true, false, not, Some, None, sym, ap, ◌∙◌, arith, rules}
 use Rattle.std.specs.List.{find, filter, range_with_len}
-use Rattle.sp_plan.specs.Runs.{is_bound, name_holds}
+use Rattle.sp_plan.specs.Runs.{is_bound}
 use Rattle.sp_match.specs.inside.Kept.{kept, pairs}
+use Rattle.sp_match.specs.inside.Offer.{answer}
 use Rattle.sp_match.proofs.Searches.{range_at, range_push, find_filter, found_next, fails_next}
 use Rattle.sp_match.proofs.taking.lacking.Goals as goal
 
 pub returns-then-takes_anew : goal.returns-then-takes_anew
 returns-then-takes_anew c =
     let r = pairs (kept c.args.run.now) in
-    let p = name_holds c.args.plan.now r c.args.event.now in
+    let p = answer c.args.offer.now c.args.at r in
     let t = λ (name : ℕ). not (is_bound r name) in
     let first = c.span-first.result.0 in
     let past = c.span-first.result.1 in
@@ -23,7 +24,7 @@ returns-then-takes_anew c =
 pub loop-name-preserved : goal.loop-name-preserved
 loop-name-preserved c =
     let r = pairs (kept c.args.run.now) in
-    let p = name_holds c.args.plan.now r c.args.event.now in
+    let p = answer c.args.offer.now c.args.at r in
     let t = λ (name : ℕ). not (is_bound r name) in
     let first = c.span-first.result.0 in
     let i = c.loop-name.name - first in

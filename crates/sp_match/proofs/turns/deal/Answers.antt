@@ -7,7 +7,7 @@ use Rattle.sp_plan.specs.Runs.{takes}
 use Rattle.sp_match.specs.declared.run.Fate.TheVariants.{Leaves}
 use Rattle.sp_match.specs.inside.Kept.{Kept, kept, pairs}
 use Rattle.sp_match.specs.inside.Good.{RunUndoes}
-use Rattle.sp_match.specs.inside.Offer.{lets_leave}
+use Rattle.sp_match.specs.inside.Offer.{IsToldAt, lets_leave}
 use Rattle.sp_match.specs.inside.Effects.{runs_after_offer, runs_after_leaving, run_at}
 use Rattle.sp_match.proofs.TakenIsNamed.{takes_named}
 use Rattle.sp_match.proofs.RunsUndo.{here, good_here, run_fate, run_stays, undone_set}
@@ -44,6 +44,9 @@ returns-in_ok-leave-in-None-clause-runs c =
     map-set kept rs at c.leave.new.run ∙ ap (set ks at) c.in_ok-leave-in-None.ensures.run
     ∙ ap (λ (k : Kept). set ks at (record k { fate = Leaves })) (sym (here rs at c.index-runs-at-in-None.result c.requires.within))
     ∙ (λ i. if (sym c.if-leaves.true ∙ c.leaves.ensures) i then runs_after_leaving at ks else ks) ∙ ap (runs_after_offer q (lets_leave c.args.offer.now) at x ks) none
+
+pub takes-requires-clause-told : goal.takes-requires-clause-told
+takes-requires-clause-told c = subst (λ k. IsToldAt c.args.offer.now c.args.at (pairs k)) (here c.args.runs.now c.args.at c.index-runs-at.result c.requires.within) c.requires.told
 
 pub takes-requires-clause-good : goal.takes-requires-clause-good
 takes-requires-clause-good c = good_here c.args.offer.now.plan.now c.args.runs.now c.args.at c.index-runs-at.result c.requires.within c.requires.good

@@ -2,12 +2,14 @@ use Rattle.std.proofs.Common.{◌≡◌, ℕ, ◌<◌, List, map, length, refl, 
 use Rattle.std.proofs.lemmas.List.{length-map}
 use Rattle.sp_plan.specs.Windows.{Numbered}
 use Rattle.sp_plan.specs.Moves.{Told}
-use Rattle.sp_match.specs.inside.Kept.{kept}
+use Rattle.sp_match.specs.inside.Kept.{kept, pairs}
+use Rattle.sp_match.specs.inside.Effects.{run_at}
 use Rattle.sp_match.specs.public.Seen.{seen}
 use Rattle.sp_match.specs.inside.Going.{Going, standing}
 use Rattle.sp_match.specs.declared.turns.Reception.TheVariants.{Passed}
 use Rattle.sp_match.proofs.RunsUndo.{all_stay, undoes_on}
-use Rattle.sp_match.proofs.AllTurnsGoOn.{below_at_hand, going_more, going_start}
+use Rattle.sp_match.proofs.AllTurnsGoOn.{below_at_hand, going_more, going_start, pairs_at_hand}
+use Rattle.sp_match.proofs.TakersTell.{told_here}
 use Rattle.sp_match.specs.inside.Offer.{lets_leave}
 use Rattle.sp_match.proofs.QuietTurns.{turn_quiet}
 use Rattle.sp_match.proofs.turns.offer_to_all.Goals as goal
@@ -34,6 +36,15 @@ turn-requires-clause-below c =
     let count = c.requires.ready.0 in
     below_at_hand c.args.offer.now.plan.now (c.args.offer.now.number, c.args.offer.now.event.now) c.args.offer.now.number count c.loop-at.at old (map kept c.loop-at.runs) (map seen c.loop-at.list.items) c.loop-at.so_far c.requires.ready.1
     (omega (arith, c.loop-at-test.true, length-map c.args.runs.now kept)) (c.loop-at.invariant.going (standing count old) refl)
+
+pub turn-requires-clause-told : goal.turn-requires-clause-told
+turn-requires-clause-told c =
+    let old = map kept c.args.runs.now in
+    let count = c.requires.ready.0 in
+    let within : c.loop-at.at < length old = omega (arith, c.loop-at-test.true, length-map c.args.runs.now kept) in
+    told_here c.args.offer.now old c.loop-at.at (pairs (run_at (map kept c.loop-at.runs) c.loop-at.at)) within
+    (pairs_at_hand c.args.offer.now.plan.now (c.args.offer.now.number, c.args.offer.now.event.now) c.args.offer.now.number count c.loop-at.at old (map kept c.loop-at.runs) (map seen c.loop-at.list.items) c.loop-at.so_far c.requires.ready.1
+    within (c.loop-at.invariant.going (standing count old) refl)) c.requires.told
 
 pub returns-in_err-so_far-clause-undoes : goal.returns-in_err-so_far-clause-undoes
 returns-in_err-so_far-clause-undoes c =

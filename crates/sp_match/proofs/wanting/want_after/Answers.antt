@@ -25,8 +25,11 @@ loop-at-preserved c =
     let inside : i < length lefts = c.loop-at-test.true in
     let within : i < length rs = omega (arith, inside, c.requires.there) in
     let run_is : k ≡ get_or (map kept rs) i k = ap kept c.index-runs-at.is ∙ sym (get_or-map kept rs i c.index-runs-at.result k within) in
-    c.in_ok-want_one.ensures ∙ ap (λ (l : List (ℕ × ℕ)). l ++ wanted_by q (n, k)) c.loop-at.invariant
-    ∙ sym (wanted_more q lefts (map kept rs) i n k inside (omega (arith, within, length-map rs kept)) (get_or_default lefts i 0 n inside) run_is)
+    record {
+      told = c.want_one.ensures.added ∙ ap (λ (l : List (ℕ × ℕ)). l ++ wanted_by q (n, k)) c.loop-at.invariant.told
+          ∙ sym (wanted_more q lefts (map kept rs) i n k inside (omega (arith, within, length-map rs kept)) (get_or_default lefts i 0 n inside) run_is);
+      room = omega (arith, c.want_one.ensures.len, c.want_one.ensures.capacity, c.loop-at.invariant.room);
+    }
 
 pub returns : goal.returns
 returns c = grind (arith, common_steps)

@@ -22,10 +22,10 @@ never q count ks m view own known is x so =
     (λ i run within. every _) refl
 
 pub returns-in-Never-clause-stands : goal.returns-in-Never-clause-stands
-returns-in-Never-clause-stands c = λ yes x so. (never _ c.self.inside.count (map kept c.self.inside.runs.items) c.args.self.now c.self.view_is c.self.invariant c.args.known c.in-Never.is x so).0
+returns-in-Never-clause-stands c = λ yes x so. (never _ c.self.inside.count (map kept c.self.inside.runs.items) c.args.self.now c.self.view_is c.self.invariant.0 c.args.known c.in-Never.is x so).0
 
 pub returns-in-Never-clause-told : goal.returns-in-Never-clause-told
-returns-in-Never-clause-told c = λ yes x so. (never _ c.self.inside.count (map kept c.self.inside.runs.items) c.args.self.now c.self.view_is c.self.invariant c.args.known c.in-Never.is x so).1
+returns-in-Never-clause-told c = λ yes x so. (never _ c.self.inside.count (map kept c.self.inside.runs.items) c.args.self.now c.self.view_is c.self.invariant.0 c.args.known c.in-Never.is x so).1
 
 pub returns-in-Never-clause-wanted : goal.returns-in-Never-clause-wanted
-returns-in-Never-clause-wanted c = λ yes x so. (never _ c.self.inside.count (map kept c.self.inside.runs.items) c.args.self.now c.self.view_is c.self.invariant c.args.known c.in-Never.is x so).2
+returns-in-Never-clause-wanted c = λ yes x so. (never _ c.self.inside.count (map kept c.self.inside.runs.items) c.args.self.now c.self.view_is c.self.invariant.0 c.args.known c.in-Never.is x so).2

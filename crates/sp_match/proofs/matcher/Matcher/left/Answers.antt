@@ -22,7 +22,7 @@ left-requires-clause-good c =
     let inside : place < length rs = omega (arith, c.requires, ap (λ (m : Matching). length m.open_runs) c.self.view_is, length-map (map kept rs) started, length-map rs kept) in
     subst (λ (q : Plan). Good q (kept r)) (sym c.deref.ensures)
     (subst (λ (s : Run). Good (arc_value c.self.inside.plan) (kept s)) (sym c.index.ensures)
-    (subst (Good (arc_value c.self.inside.plan)) (get_or-map kept rs place r (empty 0) inside) (c.self.invariant.good place (empty 0) (omega (arith, inside, length-map rs kept)))))
+    (subst (Good (arc_value c.self.inside.plan)) (get_or-map kept rs place r (empty 0) inside) (c.self.invariant.0.good place (empty 0) (omega (arith, inside, length-map rs kept)))))
 
 pub returns : goal.returns
 returns c =

@@ -7,5 +7,5 @@ use Rattle.sp_match.proofs.matcher.Matcher.open_runs.Goals as goal
 
 pub returns : goal.returns
 returns c =
-    ap (map seen_run) c.deref.ensures.value ∙ all_shown (arc_value c.self.inside.plan) c.self.inside.runs.items c.self.invariant.good
+    ap (map seen_run) c.deref.ensures.value ∙ all_shown (arc_value c.self.inside.plan) c.self.inside.runs.items c.self.invariant.0.good
     ∙ ap (λ (m : Matching). map (shown m.plan) m.open_runs) c.self.view_is

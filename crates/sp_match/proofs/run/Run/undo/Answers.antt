@@ -19,7 +19,7 @@ named n [] all name is = absurd (cc is)
 named n (p ∷ bs) all name is = (last_named n bs p (All-head (λ pair. pair.0 < 32) p bs all) (All-tail (λ pair. pair.0 < 32) p bs all) (name_under n (last_or (Some p) bs)) refl name is, omega arith)
 
 pub take_last-requires-clause-named : goal.take_last-requires-clause-named
-take_last-requires-clause-named c = (named c.args.number c.args.self.now.bound.items c.requires.0 c.in-Some.name (sym c.last_under.ensures ∙ c.in-Some.is)).0
+take_last-requires-clause-named c = (named c.args.number c.args.self.now.bound.items c.requires.named c.in-Some.name (sym c.last_under.ensures ∙ c.in-Some.is)).0
 
 pub take_last-requires-clause-some : goal.take_last-requires-clause-some
-take_last-requires-clause-some c = let some = (named c.args.number c.args.self.now.bound.items c.requires.0 c.in-Some.name (sym c.last_under.ensures ∙ c.in-Some.is)).1 in omega (arith, some, c.requires.1)
+take_last-requires-clause-some c = let some = (named c.args.number c.args.self.now.bound.items c.requires.named c.in-Some.name (sym c.last_under.ensures ∙ c.in-Some.is)).1 in omega (arith, some, c.requires.same)

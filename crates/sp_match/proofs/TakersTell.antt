@@ -1,0 +1,117 @@
+-- Which names a run wants, and what masks tell of the name under which it takes an event.
+use Rattle.std.proofs.Common.{◌≡◌, ℕ, zero, suc, ◌+◌, ◌<◌, ◌≤◌, Bool, true, false, cond, ◌&&◌, ◌||◌, eqb, List, [], ◌∷◌, Option, map, length, Some, None, refl, sym, ap, subst, ◌∙◌, inl, inr, arith}
+use Rattle.std.specs.Prelude.{IfSome, nat_lt, if◌then◌else◌}
+use Rattle.std.specs.Option.{option_copied}
+use Rattle.std.specs.List.{find, filter, last_or, list_any, range_with_len}
+use Rattle.std.proofs.lemmas.Bool.{cases_eq}
+use Rattle.std.proofs.lemmas.Bool.Decides.{nat_tests}
+use Rattle.std.proofs.lemmas.List.{get_or-map, length-map}
+use Rattle.std.proofs.lemmas.List.Folds.{list_any-append}
+use Rattle.sp_base.specs.Numbers.{is_among}
+use Rattle.sp_plan.specs.declared.event.Event.{Event}
+use Rattle.sp_plan.specs.declared.plan.Element.{Element}
+use Rattle.sp_plan.specs.declared.plan.Plan.{Plan}
+use Rattle.sp_plan.specs.Runs.{Pair, again, is_plus, name_holds, takes, unbound, wanted}
+use Rattle.sp_match.specs.declared.offer.Offer.{Offer}
+use Rattle.sp_match.specs.declared.takers.Takers.{Takers}
+use Rattle.sp_match.specs.inside.Effects.{run_at}
+use Rattle.sp_match.specs.inside.Kept.{Kept, empty, pairs}
+use Rattle.sp_match.specs.inside.Offer.{AllTold, IsToldAt, answer_by}
+use Rattle.sp_match.specs.inside.Taking.{again_name, is_again, last_again, next_element}
+use Rattle.sp_match.specs.inside.Takers.{AreTold, IsTold, is_wanted, run_in}
+
+-- a range has the numbers from its first on that are below its end
+pub before_range : (name first n : ℕ) → name < first → is_among (range_with_len first n) name ≡ false
+before_range name first zero below = refl
+before_range name first (suc n) below =
+    let other : eqb first name ≡ false = grind (arith, nat_tests) in
+    λ i. other i || before_range name (first + 1) n (omega (arith, below)) i
+
+pub within_range : (name first n : ℕ) → first ≤ name → is_among (range_with_len first n) name ≡ nat_lt name (first + n)
+within_range name first zero from = grind (arith, nat_tests)
+within_range name first (suc n) from = elim (cases_eq first name) [
+  | inl same ↦
+      let here : eqb first name ≡ true = grind (arith, nat_tests) in
+      let below : nat_lt name (first + suc n) ≡ true = grind (arith, nat_tests) in
+      (λ i. here i || is_among (range_with_len (first + 1) n) name) ∙ sym below
+  | inr apart ↦
+      let other : eqb first name ≡ false = grind (arith, nat_tests) in
+      let e : first + 1 + n ≡ first + suc n = omega arith in
+      (λ i. other i || is_among (range_with_len (first + 1) n) name) ∙ within_range name (first + 1) n (omega (arith, from, apart)) ∙ ap (nat_lt name) e
+]
+
+pub among_filter : (t : ℕ → Bool) (xs : List ℕ) (name : ℕ) → is_among (filter t xs) name ≡ (is_among xs name && t name)
+among_filter t [] name = refl
+among_filter t (x ∷ xs) name = elim (cases_eq x name) [
+  | inl same ↦
+      let here : eqb x name ≡ true = grind (arith, nat_tests) in
+      two (t x) here (ap t same) (among_filter t xs name)
+  | inr apart ↦
+      let other : eqb x name ≡ false = grind (arith, nat_tests) in
+      one (t x) other (among_filter t xs name)
+]
+  where
+    one : (b : Bool) → eqb x name ≡ false → is_among (filter t xs) name ≡ (is_among xs name && t name) → is_among (cond b (x ∷ filter t xs) (filter t xs)) name ≡ ((eqb x name || is_among xs name) && t name)
+    one true other ih = (λ i. other i || is_among (filter t xs) name) ∙ ih ∙ λ i. (sym other i || is_among xs name) && t name
+    one false other ih = ih ∙ λ i. (sym other i || is_among xs name) && t name
+
+    two : (b : Bool) → eqb x name ≡ true → b ≡ t name → is_among (filter t xs) name ≡ (is_among xs name && t name) → is_among (cond b (x ∷ filter t xs) (filter t xs)) name ≡ ((eqb x name || is_among xs name) && t name)
+    two true here so ih = (λ i. here i || is_among (filter t xs) name) ∙ so ∙ λ i. (sym here i || is_among xs name) && t name
+    two false here so ih = ih ∙ (λ i. is_among xs name && sym so i) ∙ none (is_among xs name) ∙ so ∙ λ i. (sym here i || is_among xs name) && t name
+      where
+        none : (b : Bool) → (b && false) ≡ false
+        none true = refl
+        none false = refl
+
+among_again : (elements : List Element) (o : Option Pair) (name : ℕ) → is_among (again elements o) name ≡ is_again name (again_name elements o)
+among_again elements None name = refl
+among_again elements (Some pair) name = one (list_any (is_plus pair.name) elements)
+  where
+    here : (b : Bool) → (b || false) ≡ b
+    here true = refl
+    here false = refl
+
+    one : (b : Bool) → is_among (if b then pair.name ∷ [] else []) name ≡ is_again name (if b then Some pair.name else None)
+    one true = here (eqb pair.name name)
+    one false = refl
+
+-- the names that a run wants are those that it lacks of the first element not filled, and its last one where that may be bound again
+pub wanted_are : (q : Plan) (r : List Pair) (name : ℕ) → is_wanted q r name ≡ (is_among (unbound r (next_element q r)) name || is_again name (last_again q r))
+wanted_are q r name =
+    list_any-append (λ n. eqb n name) (unbound r (next_element q r)) (again q.elements (last_or None r)) ∙ ap (λ b. is_among (unbound r (next_element q r)) name || b) (among_again q.elements (last_or None r) name)
+
+-- what passes among all names that are wanted, in a list of some of them
+pub find_told : (p t : ℕ → Bool) (all xs : List ℕ) → ((n : ℕ) → t n ≡ (is_among all n && p n)) → ((n : ℕ) → is_among xs n ≡ true → is_among all n ≡ true) → find t xs ≡ find p xs
+find_told p t all [] tells within = refl
+find_told p t all (x ∷ xs) tells within =
+    let here : eqb x x ≡ true = grind (arith, nat_tests) in
+    let among : is_among all x ≡ true = within x (λ i. here i || is_among xs x) in
+    let first : t x ≡ p x = tells x ∙ λ i. among i && p x in
+    (λ i. cond (first i) (Some x) (find t xs)) ∙ ap (λ (o : Option ℕ). cond (p x) (Some x) o) (find_told p t all xs tells (λ n is. within n (later (eqb x n) (is_among xs n) is)))
+  where
+    later : (a b : Bool) → b ≡ true → (a || b) ≡ true
+    later true b is = refl
+    later false b is = is
+
+pub find_nothing : (p : ℕ → Bool) (all : List ℕ) → ((n : ℕ) → (is_among all n && p n) ≡ false) → find p all ≡ None
+find_nothing p all none = sym (find_told p (λ n. false) all all (λ n. sym (none n)) (λ n is. is)) ∙ nothing all
+  where
+    nothing : (xs : List ℕ) → find (λ n. false) xs ≡ None
+    nothing [] = refl
+    nothing (x ∷ xs) = nothing xs
+
+-- the name under which a run takes the event, by what is told of it
+pub answers_take : (o : Option Takers) (q : Plan) (e : Event) (at : ℕ) (r : List Pair) → IfSome o (λ t. IsTold q e t at r) → find (answer_by o q e at r) (wanted q r) ≡ takes q r e
+answers_take None q e at r told = refl
+answers_take (Some t) q e at r told = find_told (name_holds q r e) (answer_by (Some t) q e at r) (wanted q r) (wanted q r) told.names (λ n is. is)
+
+-- what is told of all runs, of the one at a place
+pub told_here : (o : Offer) (ks : List Kept) (at : ℕ) (r : List Pair) → at < length ks → r ≡ pairs (run_at ks at) → AllTold o (map pairs ks) → IsToldAt o at r
+told_here o ks at r within is all = one (option_copied o.takers) all
+  where
+    there : run_in (map pairs ks) at ≡ r
+    there = get_or-map pairs ks at (empty 0) [] within ∙ sym is
+
+    one : (t : Option Takers) → IfSome t (λ t. AreTold o.plan.now o.event.now t (map pairs ks)) → IfSome t (λ t. IsTold o.plan.now o.event.now t at r)
+    one None told = tt
+    one (Some t) told = subst (IsTold o.plan.now o.event.now t at) there (told at (omega (arith, within, length-map ks pairs)))

@@ -1,0 +1,221 @@
+// What is kept beside the open runs, so that a predicate is asked once for all of them.
+ghost use Rattle.std.specs.Prelude.{◌≡◌, ◌⊎◌, ℕ, ◌<◌, ◌≤◌, List, length, map, true, false, slice_index_or, IfOk, IsTrue, OnOk};
+ghost use Rattle.std.specs.List.{All};
+ghost use Rattle.sp_plan.specs.Bounds.{IsSmall, PredWithin};
+ghost use Rattle.sp_plan.specs.Compiled.{IsCompiled};
+ghost use Rattle.sp_plan.specs.Held.{held_columns};
+ghost use Rattle.sp_plan.specs.Masks.{has};
+ghost use Rattle.sp_plan.specs.declared.plan.Plan.{Plan};
+ghost use Rattle.sp_plan.specs.Runs as definitions;
+ghost use Rattle.sp_plan.specs.Runs.{bound_events};
+ghost use Rattle.sp_match.specs.inside.Kept.{all_kept, kept, pairs};
+ghost use Rattle.sp_match.specs.inside.Good.{Good};
+ghost use Rattle.sp_match.specs.inside.Takers.{AllGoOn, AreHeld, GoesOn, IsHeld, is_wanted, reads_of, run_in};
+ghost use Rattle.sp_match.specs.inside.Takers as takers;
+
+use crate::Memory;
+use crate::run::Run;
+use crate::taking::wants;
+use sp_plan::{Event, HeldColumn, Name, Plan, Pred, held_sides_read, hold_columns, with_bit};
+use std::alloc::Global;
+
+/// What is kept of a name of the plan.
+#[derive(Drop)]
+pub(crate) struct Holding {
+    /// The open runs that may take it next, as bits.
+    pub(crate) wanting: u64,
+    /// What the held sides of its predicate come to for each open run.
+    pub(crate) columns: Vec<HeldColumn>,
+    /// Whether a held side of some predicate reads an event that is bound to it.
+    pub(crate) is_read: bool,
+}
+
+/// What is kept of each name of the plan: it is so of the open runs where it is fresh.
+#[derive(Drop)]
+pub(crate) struct Holdings {
+    pub(crate) is_fresh: bool,
+    pub(crate) names: Vec<Holding>,
+}
+
+// The runs that may take the name next, as bits.
+fn wanting(plan: &Plan, runs: &[Run], name: u8) -> u64
+    requires compiled { IsCompiled plan.now }
+    requires good { All (Good plan.now) (all_kept runs.now) }
+    requires few { length runs.now ≤ 64 }
+    requires named { name < 32 }
+    ensures { (at : ℕ) → at < length runs.now → has result at
+        ≡ is_wanted plan.now (run_in (map pairs (all_kept runs.now)) at) name }
+{
+    let mut mask = 0;
+    for at in 0..runs.len() {
+        mask = with_bit(mask, at, wants(plan, &runs[at], name));
+    }
+    mask
+}
+
+// What the held sides of a predicate come to for each of the runs. The event is not read.
+fn columns(
+    alloc: Global,
+    plan: &Plan,
+    pred: &Pred,
+    event: &Event,
+    runs: &[Run],
+) -> Result<Vec<HeldColumn>, Memory>
+    requires within { PredWithin pred.now }
+    requires small { IsSmall event.now }
+    requires good { All (Good plan.now) (all_kept runs.now) }
+    requires few { length runs.now ≤ 64 }
+    ensures { IfOk result (λ columns. columns.items
+        ≡ held_columns pred.now (map bound_events (map pairs (all_kept runs.now)))) }
+{
+    hold_columns(alloc, pred, event, runs)
+}
+
+// Whether a held side of the other name's predicate reads an event that is bound to the name.
+fn is_read_by(name: u8, other: &Name) -> bool
+    ensures { result ≡ takers.is_read_by name other.now }
+{
+    held_sides_read(&other.pred, name)
+}
+
+// Whether a held side of some name's predicate does.
+fn is_read(plan: &Plan, name: u8) -> bool
+    ensures { result ≡ takers.is_read plan.now name }
+{
+    plan.names
+        .as_slice()
+        .iter()
+        .any(|other| is_read_by(name, other))
+}
+
+// What is kept of each name of the plan is so of these runs. The event is not read.
+fn keep(
+    alloc: Global,
+    plan: &Plan,
+    event: &Event,
+    runs: &[Run],
+    kept: &mut Vec<Holding>,
+) -> Result<(), Memory>
+    requires compiled { IsCompiled plan.now }
+    requires small { IsSmall event.now }
+    requires good { All (Good plan.now) (all_kept runs.now) }
+    requires few { length runs.now ≤ 64 }
+    ensures { OnOk result (AreHeld plan.now (map pairs (all_kept runs.now)) kept.new.items) }
+{
+    kept.clear();
+    let names = plan.names.as_slice();
+    for name in 0..names.len() {
+        kept.push(Holding {
+            wanting: wanting(plan, runs, name as u8),
+            columns: columns(alloc, plan, &names[name].pred, event, runs)?,
+            is_read: is_read(plan, name as u8),
+        })?;
+    }
+    Ok(())
+}
+
+impl Holdings {
+    // Nothing is kept. Takes no memory.
+    pub(crate) fn new(alloc: Global) -> Holdings
+        ensures { result.is_fresh ≡ false }
+    {
+        Holdings {
+            is_fresh: false,
+            names: Vec::new(alloc),
+        }
+    }
+
+    // What is kept is fresh from now on. The event is not read. After want of memory it isn't fresh.
+    pub(crate) fn refresh(
+        &mut self,
+        alloc: Global,
+        plan: &Plan,
+        event: &Event,
+        runs: &[Run],
+    ) -> Result<(), Memory>
+        requires compiled { IsCompiled plan.now }
+        requires small { IsSmall event.now }
+        requires good { All (Good plan.now) (all_kept runs.now) }
+        requires few { length runs.now ≤ 64 }
+        requires held { IsHeld plan.now (map pairs (all_kept runs.now)) self.old }
+        ensures fresh { OnOk result
+            (AreHeld plan.now (map pairs (all_kept runs.now)) self.new.names.items) }
+        ensures held { IsHeld plan.now (map pairs (all_kept runs.now)) self.new }
+    {
+        if self.is_fresh {
+            return Ok(());
+        }
+        keep(alloc, plan, event, runs, &mut self.names)?;
+        self.is_fresh = true;
+        Ok(())
+    }
+
+    // What is kept isn't so any more.
+    pub(crate) fn forget(&mut self)
+        ensures { self.new.is_fresh ≡ false }
+    {
+        self.is_fresh = false;
+    }
+
+    // An event of this number was handled, when so many runs were open: what is kept stays fresh where these go
+    // on as they were. Answers whether it is known that they do; the runs that don't stay are still there.
+    pub(crate) fn outlive(
+        &mut self,
+        runs: &[Run],
+        count: usize,
+        number: u32,
+        is_quiet: bool,
+    ) -> bool
+        ensures on { (q : Plan) (rs : List definitions.Run) → IsTrue result
+            → IsHeld q rs self.old → (IsTrue is_quiet ⊎ AllGoOn q number count (all_kept runs.now)) }
+        ensures held { IsTrue result → self.new ≡ self.old }
+        ensures stale { result ≡ false → self.new.is_fresh ≡ false }
+    {
+        if is_quiet {
+            return true;
+        }
+        self.is_fresh = self.is_fresh && all_go_on(runs, count, number, &self.names);
+        self.is_fresh
+    }
+}
+
+// Whether a held side reads an event that is bound to the name, as it is kept.
+fn is_kept_read(held: &[Holding], name: u8) -> bool
+    ensures { result ≡ slice_index_or (reads_of held.now) name true }
+{
+    match held.get(name as usize) {
+        Some(holding) => holding.is_read,
+        None => true,
+    }
+}
+
+// Whether the run goes on as it was before the event of this number.
+#[inline(always)]
+fn goes_on(run: &Run, number: u32, held: &[Holding]) -> bool
+    ensures { (q : Plan) (rs : List definitions.Run) → AreHeld q rs held.now
+        → IsTrue result → GoesOn q number (kept run.now) }
+{
+    if !run.stays() {
+        return false;
+    }
+    match run.last_under(number) {
+        Some(name) => run.repeats(name) && !is_kept_read(held, name),
+        None => true,
+    }
+}
+
+// Whether all runs do, and are so many.
+fn all_go_on(runs: &[Run], count: usize, number: u32, held: &[Holding]) -> bool
+    ensures { (q : Plan) (rs : List definitions.Run) → AreHeld q rs held.now
+        → IsTrue result → AllGoOn q number count (all_kept runs.now) }
+{
+    if runs.len() != count {
+        return false;
+    }
+    for at in 0..runs.len() {
+        if !goes_on(&runs[at], number, held) {
+            return false;
+        }
+    }
+    true
+}
