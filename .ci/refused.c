@@ -1,8 +1,8 @@
 // Loaded before the program's other libraries (LD_PRELOAD), this refuses calls of the program by their number, for
-// .ci/refused: REFUSE_OF says of which kind, `memory`, `read`, `write`, `open` or `thread`. The calls of that kind are
-// counted together over all threads, from 1, and those with the numbers from REFUSE to REFUSE_TO, which stand in the
-// environment too, are refused. It has no #include, so that a compiler builds it where the headers of the C library are
-// not installed.
+// .ci/refused: REFUSE_OF says of which kind, `memory`, `read`, `write`, `open`, `thread` or `interrupt`, which is of reads
+// and writes, as if a signal had come. The calls of that kind are counted together over all threads, from 1, and those
+// with the numbers from REFUSE to REFUSE_TO, which stand in the environment too, are refused. It has no #include, so that
+// a compiler builds it where the headers of the C library are not installed.
 
 char *getenv(const char *name);
 unsigned long strtoul(const char *text, char **end, int base);
@@ -15,7 +15,7 @@ void *__libc_calloc(unsigned long count, unsigned long size);
 void *__libc_realloc(void *block, unsigned long size);
 
 // Numbers of x86-64 Linux: of its calls, and of what goes wrong.
-enum { READ = 0, WRITE = 1, OPEN = 2, EIO = 5, EAGAIN = 11, ENOMEM = 12 };
+enum { READ = 0, WRITE = 1, OPEN = 2, EINTR = 4, EIO = 5, EAGAIN = 11, ENOMEM = 12 };
 
 static _Atomic unsigned long calls;
 
@@ -39,10 +39,10 @@ void *calloc(unsigned long count, unsigned long size) { return refused('m', ENOM
 void *realloc(void *block, unsigned long size) { return refused('m', ENOMEM) ? 0 : __libc_realloc(block, size); }
 
 long read(int file, void *room, unsigned long size) {
-  return refused('r', EIO) ? -1 : syscall(READ, file, room, size);
+  return refused('r', EIO) || refused('i', EINTR) ? -1 : syscall(READ, file, room, size);
 }
 long write(int file, const void *bytes, unsigned long size) {
-  return refused('w', EIO) ? -1 : syscall(WRITE, file, bytes, size);
+  return refused('w', EIO) || refused('i', EINTR) ? -1 : syscall(WRITE, file, bytes, size);
 }
 long __write(int file, const void *bytes, unsigned long size) { return write(file, bytes, size); }
 int open(const char *path, int flags, int mode) {

@@ -13,10 +13,11 @@ use std::sync::Arc;
 fn push_event(event: &Event, out: &mut AnswerText) {
     out.number("", event.time as i128);
     out.text(":");
-    for value in event.values.as_slice() {
-        match value {
-            Value::Number(number) => out.number(" ", *number as i128),
-            Value::Symbol(number) => out.number(" #", *number as i128),
+    for place in 0..event.values.len() {
+        match event.values.get(place) {
+            Some(Value::Number(number)) => out.number(" ", number as i128),
+            Some(Value::Symbol(number)) => out.number(" #", number as i128),
+            None => {}
         }
     }
     out.text("\n");
