@@ -45,6 +45,10 @@ live_limit = 4096
 abbrev pub batch_limit : ℕ
 batch_limit = 1024
 
+-- the most windows that are finished before the next predictor takes its place
+abbrev pub rotate_limit : ℕ
+rotate_limit = 65536
+
 -- the whole of a share, in parts
 abbrev pub whole_share : ℕ
 whole_share = 65536

@@ -1,7 +1,7 @@
 //! The limits of the program, and the two numbers that its predictors count by. Contracts cite them as
 //! `specs/Limits` has them, under the same names in small letters.
 ghost use Rattle.std.specs.Prelude.{◌≡◌};
-ghost use Rattle.sp_base.specs.Limits.{event_limit, number_limit, row_limit, piece_limit, query_limit, schedule_limit, length_limit, step_limit, live_limit, batch_limit, whole_share, renewal};
+ghost use Rattle.sp_base.specs.Limits.{event_limit, number_limit, row_limit, piece_limit, query_limit, schedule_limit, length_limit, step_limit, live_limit, batch_limit, rotate_limit, whole_share, renewal};
 
 /// Events: the most of an input, of a machine and of a drill. An input is stopped at the row of one more, a
 /// machine refuses to be fed it, and a drill of more is no command.
@@ -36,6 +36,10 @@ pub const LIVE_LIMIT: u32 = 4_096;
 /// number is no command, and a bad line.
 pub const BATCH_LIMIT: u32 = 1_024;
 
+/// Windows: the most that are finished before the next predictor takes its place, as an option says. A greater
+/// number is no command.
+pub const ROTATE_LIMIT: u32 = 65_536;
+
 /// The whole of a share, in parts: a share counts 65,536ths.
 pub const WHOLE_SHARE: u32 = 65_536;
 
@@ -54,6 +58,7 @@ pub fn limits_are_defined()
     ensures steps { STEP_LIMIT ≡ step_limit }
     ensures live { LIVE_LIMIT ≡ live_limit }
     ensures batches { BATCH_LIMIT ≡ batch_limit }
+    ensures rotations { ROTATE_LIMIT ≡ rotate_limit }
     ensures shares { WHOLE_SHARE ≡ whole_share }
     ensures renewals { RENEWAL ≡ renewal }
 {}
