@@ -1,9 +1,8 @@
 -- What is kept beside the open runs, run by run and name by name.
-use Rattle.std.proofs.Common.{◌≡◌, ℕ, zero, suc, ℤ, ◌+◌, ◌<◌, ◌≤◌, max, Bool, true, false, ◌&&◌, ◌||◌, eqb, List, [], ◌∷◌, ◌++◌, map, length, take, get_or, set, replicate, Option, refl, sym, ap, subst, ◌∙◌, inl, inr, arith, bit_or, get_or-set_other}
+use Rattle.std.proofs.Common.{◌≡◌, ℕ, ℤ, ◌+◌, ◌<◌, ◌≤◌, max, Bool, true, false, ◌&&◌, ◌||◌, eqb, List, [], ◌∷◌, ◌++◌, map, length, take, get_or, Option, refl, sym, ap, subst, ◌∙◌, inl, inr, arith, bit_or}
 use Rattle.std.specs.List.{All}
 use Rattle.std.specs.Int.{bit_at}
 use Rattle.std.proofs.lemmas.Bool.{cases_eq, cases_lt}
-use Rattle.std.proofs.lemmas.List.{get_or-set_same}
 use Rattle.std.proofs.lemmas.Option.{slice_get-get_or, slice_get_past}
 use Rattle.std.proofs.lemmas.Bool.Decides.{nat_tests}
 use Rattle.std.proofs.lemmas.List.{get_or_append_left, get_or-map, get_or_at, get_or_past, length-map, map_push, take_more}
@@ -133,23 +132,14 @@ unread q rs hs held name out = elim (cases_lt name (length q.names)) as (λ _. i
       absurd (cc (past, out))
 ]
 
--- a name of which no run is told
-pub no_mask : (n i : ℕ) → mask_of (replicate n 0) i ≡ 0
-no_mask zero i = refl
-no_mask (suc n) zero = refl
-no_mask (suc n) (suc i) = no_mask n i
-
 -- the masks of names one by one, and the runs of any of them
-module _ (q : Plan) (e : Event) (rs : List (List Pair)) (masks : List ℕ) (any n mask : ℕ) (within : n < length masks) (own : (at : ℕ) → at < length rs → has mask at ≡ takes_under q e (run_in rs at) n) where
+module _ (q : Plan) (e : Event) (rs : List (List Pair)) (masks new : List ℕ) (any n mask : ℕ) (is : new ≡ masks ++ mask ∷ []) (size : length masks ≡ n) (own : (at : ℕ) → at < length rs → has mask at ≡ takes_under q e (run_in rs at) n) where
   pub told_more : ((name at : ℕ) → name < n → at < length rs → has (mask_of masks name) at ≡ takes_under q e (run_in rs at) name)
-      → (name at : ℕ) → name < n + 1 → at < length rs → has (mask_of (set masks n mask) name) at ≡ takes_under q e (run_in rs at) name
-  told_more seen name at below there = elim (cases_eq name n) as (λ _. has (mask_of (set masks n mask) name) at ≡ takes_under q e (run_in rs at) name) [
-    | inl same ↦ ap (λ (m : ℕ). has (mask_of (set masks n mask) m) at) same ∙ ap (λ (m : ℕ). has m at) (get_or-set_same masks n mask 0 within) ∙ own at there ∙ ap (takes_under q e (run_in rs at)) (sym same)
-    | inr apart ↦ ap (λ (m : ℕ). has m at) (get_or-set_other masks n name mask 0 apart) ∙ seen name at (omega (arith, below, apart)) there
+      → (name at : ℕ) → name < n + 1 → at < length rs → has (mask_of new name) at ≡ takes_under q e (run_in rs at) name
+  told_more seen name at below there = ap (λ (ms : List ℕ). has (mask_of ms name) at) is ∙ elim (cases_eq name n) as (λ _. has (mask_of (masks ++ mask ∷ []) name) at ≡ takes_under q e (run_in rs at) name) [
+    | inl same ↦ ap (λ (m : ℕ). has m at) (get_or_at masks mask [] 0 name (size ∙ sym same)) ∙ own at there ∙ ap (takes_under q e (run_in rs at)) (sym same)
+    | inr apart ↦ ap (λ (m : ℕ). has m at) (get_or_append_left masks (mask ∷ []) 0 name (omega (arith, below, apart, size))) ∙ seen name at (omega (arith, below, apart)) there
   ]
-
-  pub none_more : ((name : ℕ) → n ≤ name → mask_of masks name ≡ 0) → (name : ℕ) → n + 1 ≤ name → mask_of (set masks n mask) name ≡ 0
-  none_more others name above = get_or-set_other masks n name mask 0 (λ same. omega (arith, above, same)) ∙ others name (omega (arith, above))
 
   pub any_more : ((name at : ℕ) → name < n → at < length rs → has any at ≡ false → takes_under q e (run_in rs at) name ≡ false)
       → (name at : ℕ) → name < n + 1 → at < length rs → has (bit_or any mask) at ≡ false → takes_under q e (run_in rs at) name ≡ false
@@ -162,8 +152,8 @@ module _ (q : Plan) (e : Event) (rs : List (List Pair)) (masks : List ℕ) (any 
 
 -- when all names were gone through
 module _ (q : Plan) (e : Event) (rs : List (List Pair)) (t : Takers) (few : length rs ≤ 64)
-    (seen : (name at : ℕ) → name < length q.names → at < length rs → has (mask_of t.masks name) at ≡ takes_under q e (run_in rs at) name)
-    (others : (name : ℕ) → length q.names ≤ name → mask_of t.masks name ≡ 0)
+    (seen : (name at : ℕ) → name < length q.names → at < length rs → has (mask_of t.masks.items name) at ≡ takes_under q e (run_in rs at) name)
+    (size : length t.masks.items ≡ length q.names)
     (any : (name at : ℕ) → name < length q.names → at < length rs → has t.any at ≡ false → takes_under q e (run_in rs at) name ≡ false) where
   past : (name : ℕ) (r : List Pair) → length q.names ≤ name → takes_under q e r name ≡ false
   past name r above = (λ i. is_wanted q r name && fits_name (slice_get_past q.names name above i) r e) ∙ no (is_wanted q r name)
@@ -175,9 +165,9 @@ module _ (q : Plan) (e : Event) (rs : List (List Pair)) (t : Takers) (few : leng
   pub all_told : AreTold q e t rs
   all_told at within = record {
     few = omega (arith, few, within);
-    names = λ name. elim (cases_lt name (length q.names)) as (λ _. has (mask_of t.masks name) at ≡ takes_under q e (run_in rs at) name) [
+    names = λ name. elim (cases_lt name (length q.names)) as (λ _. has (mask_of t.masks.items name) at ≡ takes_under q e (run_in rs at) name) [
       | inl named ↦ seen name at named within
-      | inr above ↦ ap (λ (m : ℕ). has m at) (others name above) ∙ has_none at ∙ sym (past name (run_in rs at) above)
+      | inr above ↦ ap (λ (m : ℕ). has m at) (get_or_past t.masks.items name 0 (omega (arith, above, size))) ∙ has_none at ∙ sym (past name (run_in rs at) above)
     ];
     any = λ none. find_nothing (name_holds q (run_in rs at) e) (wanted q (run_in rs at)) (λ name. elim (cases_lt name (length q.names)) as (λ _. takes_under q e (run_in rs at) name ≡ false) [
       | inl named ↦ any name at named within none

@@ -1,7 +1,6 @@
 -- Which names a run wants, and what masks tell of the name under which it takes an event.
 use Rattle.std.proofs.Common.{◌≡◌, ℕ, zero, suc, ◌+◌, ◌<◌, ◌≤◌, Bool, true, false, cond, ◌&&◌, ◌||◌, eqb, List, [], ◌∷◌, Option, map, length, Some, None, refl, sym, ap, subst, ◌∙◌, inl, inr, arith}
-use Rattle.std.specs.Prelude.{IfSome, nat_lt, if◌then◌else◌}
-use Rattle.std.specs.Option.{option_copied}
+use Rattle.std.specs.Prelude.{nat_lt, if◌then◌else◌}
 use Rattle.std.specs.List.{find, filter, last_or, list_any, range_with_len}
 use Rattle.std.proofs.lemmas.Bool.{cases_eq}
 use Rattle.std.proofs.lemmas.Bool.Decides.{nat_tests}
@@ -18,7 +17,7 @@ use Rattle.sp_match.specs.inside.Effects.{run_at}
 use Rattle.sp_match.specs.inside.Kept.{Kept, empty, pairs}
 use Rattle.sp_match.specs.inside.Offer.{AllTold, IsToldAt, answer_by}
 use Rattle.sp_match.specs.inside.Taking.{again_name, is_again, last_again, next_element}
-use Rattle.sp_match.specs.inside.Takers.{AreTold, IsTold, is_wanted, run_in}
+use Rattle.sp_match.specs.inside.Takers.{IsTold, is_wanted, run_in}
 
 -- a range has the numbers from its first on that are below its end
 pub before_range : (name first n : ℕ) → name < first → is_among (range_with_len first n) name ≡ false
@@ -101,17 +100,13 @@ find_nothing p all none = sym (find_told p (λ n. false) all all (λ n. sym (non
     nothing (x ∷ xs) = nothing xs
 
 -- the name under which a run takes the event, by what is told of it
-pub answers_take : (o : Option Takers) (q : Plan) (e : Event) (at : ℕ) (r : List Pair) → IfSome o (λ t. IsTold q e t at r) → find (answer_by o q e at r) (wanted q r) ≡ takes q r e
-answers_take None q e at r told = refl
-answers_take (Some t) q e at r told = find_told (name_holds q r e) (answer_by (Some t) q e at r) (wanted q r) (wanted q r) told.names (λ n is. is)
+pub answers_take : (told : Bool) (t : Takers) (q : Plan) (e : Event) (at : ℕ) (r : List Pair) → (told ≡ true → IsTold q e t at r) → find (answer_by told t q e at r) (wanted q r) ≡ takes q r e
+answers_take false t q e at r so = refl
+answers_take true t q e at r so = find_told (name_holds q r e) (answer_by true t q e at r) (wanted q r) (wanted q r) (so refl).names (λ n is. is)
 
 -- what is told of all runs, of the one at a place
 pub told_here : (o : Offer) (ks : List Kept) (at : ℕ) (r : List Pair) → at < length ks → r ≡ pairs (run_at ks at) → AllTold o (map pairs ks) → IsToldAt o at r
-told_here o ks at r within is all = one (option_copied o.takers) all
+told_here o ks at r within is all = λ told. subst (IsTold o.plan.now o.event.now o.takers.now at) there (all told at (omega (arith, within, length-map ks pairs)))
   where
     there : run_in (map pairs ks) at ≡ r
     there = get_or-map pairs ks at (empty 0) [] within ∙ sym is
-
-    one : (t : Option Takers) → IfSome t (λ t. AreTold o.plan.now o.event.now t (map pairs ks)) → IfSome t (λ t. IsTold o.plan.now o.event.now t at r)
-    one None told = tt
-    one (Some t) told = subst (IsTold o.plan.now o.event.now t at) there (told at (omega (arith, within, length-map ks pairs)))

@@ -17,7 +17,7 @@ use crate::offer::Offer;
 use crate::run::Run;
 use crate::settling::{end_all, end_event, undo};
 use crate::stock::Stock;
-use crate::takers::takers_of;
+use crate::takers::{Takers, takers_of};
 use crate::wanting::{left, want_as_before};
 use sp_plan::{Event, Plan, law};
 use std::alloc::Global;
@@ -37,6 +37,8 @@ pub struct Matcher {
     stock: Stock,
     // what is kept for asking predicates once for all open runs
     holdings: Holdings,
+    // which of the open runs take the event at hand; a room that is used again
+    takers: Takers,
 }
 
 impl Model for Matcher {
@@ -94,6 +96,7 @@ impl Matcher {
             lefts: Vec::new(alloc),
             stock: Stock::new(alloc),
             holdings: Holdings::new(alloc),
+            takers: Takers::new(alloc),
         })
     }
 
@@ -196,15 +199,22 @@ impl Matcher {
         // The numbers of an event that fits are small, which predicates ask for.
         law::fitting_events_are_small();
         let open = self.runs.len();
-        let told = takers_of(alloc, &self.plan, event, &self.runs, &mut self.holdings);
-        let takers = told.as_ref();
+        let is_told = takers_of(
+            alloc,
+            &self.plan,
+            event,
+            &self.runs,
+            &mut self.holdings,
+            &mut self.takers,
+        );
         let offer = Offer {
             alloc,
             plan: &self.plan,
             number,
             event,
             known,
-            takers,
+            is_told,
+            takers: &self.takers,
         };
         match handle_all::<WANTED>(
             &offer,
@@ -316,6 +326,7 @@ impl Matcher {
             lefts: Vec::new(alloc),
             stock: Stock::new(alloc),
             holdings: Holdings::new(alloc),
+            takers: Takers::new(alloc),
         })
     }
 

@@ -26,8 +26,10 @@ pub(crate) struct Offer<'a> {
     pub(crate) event: &'a Event,
     /// What is known of it.
     pub(crate) known: Known,
-    /// Which of the open runs take it, where that was asked for all of them at once.
-    pub(crate) takers: Option<&'a Takers>,
+    /// Whether it was asked of all open runs at once which of them take it.
+    pub(crate) is_told: bool,
+    /// Which do, where that was asked; else this tells of an earlier event.
+    pub(crate) takers: &'a Takers,
 }
 
 // Whether the event fulfils the predicate of the name where nothing is bound.

@@ -1,5 +1,5 @@
 // Which of the open runs take an event, told of all of them at once.
-ghost use Rattle.std.specs.Prelude.{◌≡◌, ℕ, ◌<◌, ◌≤◌, length, map, IfSome};
+ghost use Rattle.std.specs.Prelude.{◌≡◌, ℕ, ◌<◌, ◌≤◌, length, map, IsTrue, OnOk};
 ghost use Rattle.std.specs.List.{All};
 ghost use Rattle.sp_plan.specs.Bounds.{IsSmall};
 ghost use Rattle.sp_plan.specs.Compiled.{IsCompiled};
@@ -8,6 +8,7 @@ ghost use Rattle.sp_match.specs.inside.Kept.{all_kept, pairs};
 ghost use Rattle.sp_match.specs.inside.Good.{Good};
 ghost use Rattle.sp_match.specs.inside.Takers.{AreHeld, AreTold, IsHeld, mask_of, run_in, takes_under};
 
+use crate::Memory;
 use crate::holdings::{Holding, Holdings};
 use crate::run::Run;
 use sp_plan::{Event, Plan, has_bit, holding};
@@ -19,23 +20,31 @@ const FEW: usize = 4;
 // So many runs have bits.
 const MOST: usize = 64;
 
-/// The open runs that take an event, as bits: bit i is that of the run at place i.
-#[derive(Clone, Copy, Drop)]
+/// The open runs that take an event, as bits: bit i is that of the run at place i. The room is used again.
+#[derive(Drop)]
 pub(crate) struct Takers {
-    /// For each name the runs that may take it next and whose predicate the event fulfils.
-    pub(crate) masks: [u64; 32],
+    /// For each name of the plan the runs that may take it next and whose predicate the event fulfils.
+    pub(crate) masks: Vec<u64>,
     /// The runs that take the event under some name.
     pub(crate) any: u64,
 }
 
 impl Takers {
+    // No run. Takes no memory.
+    pub(crate) fn new(alloc: Global) -> Takers {
+        Takers {
+            masks: Vec::new(alloc),
+            any: 0,
+        }
+    }
+
     // Whether the run at this place takes the event under the name.
     #[inline(always)]
     pub(crate) fn has(&self, name: u8, at: usize) -> bool
         requires { at < 64 }
-        ensures { result ≡ has (mask_of self.now.masks name) at }
+        ensures { result ≡ has (mask_of self.now.masks.items name) at }
     {
-        match self.masks.get(name as usize) {
+        match self.masks.as_slice().get(name as usize) {
             Some(mask) => has_bit(*mask, at),
             None => false,
         }
@@ -68,25 +77,33 @@ fn takers_under(
 }
 
 // The runs that take the event.
-fn takers_among(alloc: Global, plan: &Plan, event: &Event, runs: &[Run], held: &[Holding]) -> Takers
+fn takers_among(
+    alloc: Global,
+    plan: &Plan,
+    event: &Event,
+    runs: &[Run],
+    held: &[Holding],
+    takers: &mut Takers,
+) -> Result<(), Memory>
     requires compiled { IsCompiled plan.now }
     requires small { IsSmall event.now }
     requires good { All (Good plan.now) (all_kept runs.now) }
     requires held { AreHeld plan.now (map pairs (all_kept runs.now)) held.now }
-    ensures { AreTold plan.now event.now result (map pairs (all_kept runs.now)) }
+    ensures { OnOk result
+        (AreTold plan.now event.now takers.new (map pairs (all_kept runs.now))) }
 {
-    let mut masks = [0; 32];
-    let mut any = 0;
+    takers.masks.clear();
+    takers.any = 0;
     for name in 0..plan.names.as_slice().len() {
         let mask = takers_under(alloc, plan, event, runs, held, name);
-        masks[name] = mask;
-        any |= mask;
+        takers.masks.push(mask)?;
+        takers.any |= mask;
     }
-    Takers { masks, any }
+    Ok(())
 }
 
-/// The open runs that take the event, where so many are open that it pays to ask predicates once for all of
-/// them. None too where memory for what is kept for that is wanting: then each run is asked by itself.
+/// Finds the open runs that take the event, where so many are open that it pays to ask predicates once for all
+/// of them. False where it doesn't, and where memory is wanting: then each run is asked by itself.
 #[inline(always)]
 pub(crate) fn takers_of(
     alloc: Global,
@@ -94,20 +111,21 @@ pub(crate) fn takers_of(
     event: &Event,
     runs: &[Run],
     holdings: &mut Holdings,
-) -> Option<Takers>
+    takers: &mut Takers,
+) -> bool
     requires compiled { IsCompiled plan.now }
     requires small { IsSmall event.now }
     requires good { All (Good plan.now) (all_kept runs.now) }
     requires held { IsHeld plan.now (map pairs (all_kept runs.now)) holdings.old }
-    ensures told { IfSome result
-        (λ takers. AreTold plan.now event.now takers (map pairs (all_kept runs.now))) }
+    ensures told { IsTrue result
+        → AreTold plan.now event.now takers.new (map pairs (all_kept runs.now)) }
     ensures held { IsHeld plan.now (map pairs (all_kept runs.now)) holdings.new }
 {
     if runs.len() < FEW || runs.len() > MOST {
-        return None;
+        return false;
     }
     match holdings.refresh(alloc, plan, event, runs) {
-        Ok(()) => Some(takers_among(alloc, plan, event, runs, &holdings.names)),
-        Err(_) => None,
+        Ok(()) => takers_among(alloc, plan, event, runs, &holdings.names, takers).is_ok(),
+        Err(_) => false,
     }
 }

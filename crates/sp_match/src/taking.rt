@@ -47,9 +47,10 @@ fn takes_as(offer: &Offer, run: &Run, at: usize, name: u8) -> bool
     requires told { IsToldAt offer.now at (pairs (kept run.now)) }
     ensures { result ≡ answer offer.now at (pairs (kept run.now)) name }
 {
-    match offer.takers {
-        Some(takers) => takers.has(name, at),
-        None => fits_name(offer.plan, run, offer.event, name),
+    if offer.is_told {
+        offer.takers.has(name, at)
+    } else {
+        fits_name(offer.plan, run, offer.event, name)
     }
 }
 

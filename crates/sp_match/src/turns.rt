@@ -85,9 +85,9 @@ fn is_passed_over(offer: &Offer, at: usize) -> bool
         → definitions.takes offer.now.plan.now r offer.now.event.now ≡ None }
     ensures stays { IsTrue result → lets_leave offer.now ≡ false }
 {
-    match (offer.takers, offer.plan.select) {
-        (Some(takers), Select::First | Select::Each) => !has_bit(takers.any, at),
-        _ => false,
+    match offer.plan.select {
+        Select::First | Select::Each => offer.is_told && !has_bit(offer.takers.any, at),
+        Select::Last => false,
     }
 }
 

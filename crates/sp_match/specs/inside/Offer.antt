@@ -1,6 +1,5 @@
 -- An event that is offered to the runs of a window.
-use Rattle.std.specs.Prelude.{◌≡◌, ℕ, Bool, List, Option, None, Some, IfSome}
-use Rattle.std.specs.Option.{option_copied}
+use Rattle.std.specs.Prelude.{◌≡◌, ℕ, Bool, true, false, List, Option, IfSome, IsTrue}
 use Rattle.sp_plan.specs.declared.event.Event.{Event}
 use Rattle.sp_plan.specs.Bounds.{IsSmall}
 use Rattle.sp_plan.specs.Compiled.{IsCompiled}
@@ -31,19 +30,19 @@ pub record IsOffer (o : Offer) : Type 0 where
 abbrev pub IsShared : Offer → Option Event → Type 0
 IsShared o shared = IfSome shared (λ event. event ≡ o.event.now)
 
--- what takers tell of the run at a place and a name; where there are none, what its predicate says of the run
-abbrev pub answer_by : Option Takers → Plan → Event → ℕ → Run → ℕ → Bool
-answer_by None q e at r name = name_holds q r e name
-answer_by (Some t) q e at r name = has (mask_of t.masks name) at
+-- what takers tell of the run at a place and a name, where they tell of the event; else what its predicate says of the run
+abbrev pub answer_by : Bool → Takers → Plan → Event → ℕ → Run → ℕ → Bool
+answer_by false t q e at r name = name_holds q r e name
+answer_by true t q e at r name = has (mask_of t.masks.items name) at
 
 -- so of an offer
 abbrev pub answer : Offer → ℕ → Run → ℕ → Bool
-answer o at r name = answer_by (option_copied o.takers) o.plan.now o.event.now at r name
+answer o at r name = answer_by o.is_told o.takers.now o.plan.now o.event.now at r name
 
 -- What takers tell of the run at a place is so where these are its pairs.
 abbrev pub IsToldAt : Offer → ℕ → Run → Type 0
-IsToldAt o at r = IfSome (option_copied o.takers) (λ t. IsTold o.plan.now o.event.now t at r)
+IsToldAt o at r = IsTrue o.is_told → IsTold o.plan.now o.event.now o.takers.now at r
 
 -- What they tell is so of these runs.
 abbrev pub AllTold : Offer → List Run → Type 0
-AllTold o rs = IfSome (option_copied o.takers) (λ t. AreTold o.plan.now o.event.now t rs)
+AllTold o rs = IsTrue o.is_told → AreTold o.plan.now o.event.now o.takers.now rs

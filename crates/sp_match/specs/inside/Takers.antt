@@ -73,7 +73,7 @@ IsHeld q rs h = h.is_fresh ≡ true → AreHeld q rs h.names.items
 -- What is told of the run at a place is so where these are its pairs.
 pub record IsTold (q : Plan) (e : Event) (t : Takers) (at : ℕ) (r : Run) : Type 0 where
   pub few : at < 64
-  pub names : (name : ℕ) → has (mask_of t.masks name) at ≡ takes_under q e r name
+  pub names : (name : ℕ) → has (mask_of t.masks.items name) at ≡ takes_under q e r name
   pub any : has t.any at ≡ false → takes q r e ≡ None
 
 -- So of each of these runs.

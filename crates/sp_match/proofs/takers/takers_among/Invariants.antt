@@ -1,4 +1,4 @@
-use Rattle.std.proofs.Common.{◌≡◌, ℕ, ◌<◌, ◌≤◌, false, map, length}
+use Rattle.std.proofs.Common.{◌≡◌, ℕ, ◌<◌, false, map, length}
 use Rattle.sp_plan.specs.Masks.{has}
 use Rattle.sp_match.specs.inside.Kept.{kept, pairs}
 use Rattle.sp_match.specs.inside.Takers.{mask_of, run_in, takes_under}
@@ -6,8 +6,7 @@ use Rattle.sp_match.proofs.takers.takers_among.Given as goal
 
 abbrev pub invariant-loop-name : goal.invariant-loop-name
 invariant-loop-name l = record {
-  size : length l.masks ≡ 32;
-  seen : (name at : ℕ) → name < l.name → at < length l.runs → has (mask_of l.masks name) at ≡ takes_under l.plan l.event (run_in (map pairs (map kept l.runs)) at) name;
-  others : (name : ℕ) → l.name ≤ name → mask_of l.masks name ≡ 0;
-  any : (name at : ℕ) → name < l.name → at < length l.runs → has l.any at ≡ false → takes_under l.plan l.event (run_in (map pairs (map kept l.runs)) at) name ≡ false;
+  size : length l.takers.masks.items ≡ l.name;
+  seen : (name at : ℕ) → name < l.name → at < length l.runs → has (mask_of l.takers.masks.items name) at ≡ takes_under l.plan l.event (run_in (map pairs (map kept l.runs)) at) name;
+  any : (name at : ℕ) → name < l.name → at < length l.runs → has l.takers.any at ≡ false → takes_under l.plan l.event (run_in (map pairs (map kept l.runs)) at) name ≡ false;
 }

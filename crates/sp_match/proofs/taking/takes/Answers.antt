@@ -1,5 +1,5 @@
 use Rattle.std.proofs.Common.{None, not, sym, ap, ◌∙◌}
-use Rattle.std.specs.Option.{option_copied, option_or}
+use Rattle.std.specs.Option.{option_or}
 use Rattle.std.specs.List.{find, last_or}
 use Rattle.std.proofs.lemmas.List.Folds.{find-append}
 use Rattle.sp_plan.specs.Runs.{again, is_filled, unbound}
@@ -18,7 +18,7 @@ returns-in-Some c =
     let p = answer o c.args.at r in
     let more = again q.elements (last_or None r) in
     ap (λ o. option_or o (find p more)) (sym c.in-Some.is ∙ c.onward.ensures ∙ ap (first_lacked p r) c.ahead_of-ahead.ensures.ahead.0)
-    ∙ sym (find-append p (unbound r (find (λ element. not (is_filled r element)) q.elements)) more) ∙ answers_take (option_copied o.takers) q o.event.now c.args.at r c.requires.told
+    ∙ sym (find-append p (unbound r (find (λ element. not (is_filled r element)) q.elements)) more) ∙ answers_take o.is_told o.takers.now q o.event.now c.args.at r c.requires.told
 
 pub returns-in-None : goal.returns-in-None
 returns-in-None c =
@@ -29,4 +29,4 @@ returns-in-None c =
     let more = again q.elements (last_or None r) in
     c.once_more.ensures ∙ ap (once_more p) c.ahead_of-ahead.ensures.ahead.1 ∙ once_more_is p q r
     ∙ ap (λ o. option_or o (find p more)) (sym c.in-None.is ∙ c.onward.ensures ∙ ap (first_lacked p r) c.ahead_of-ahead.ensures.ahead.0)
-    ∙ sym (find-append p (unbound r (find (λ element. not (is_filled r element)) q.elements)) more) ∙ answers_take (option_copied o.takers) q o.event.now c.args.at r c.requires.told
+    ∙ sym (find-append p (unbound r (find (λ element. not (is_filled r element)) q.elements)) more) ∙ answers_take o.is_told o.takers.now q o.event.now c.args.at r c.requires.told

@@ -42,7 +42,7 @@ invariant_of-self g c =
     (subst (λ (n : ℕ). Undoes c.deref-3.result.now c.args.number old (take n (map kept c.handle_all.new.runs.items))) (sym long) c.in-Ok.ensures.undoes) in (
       kept_so,
       c.end_event.ensures.held q old set (long ∙ sym (c.len-open.ensures ∙ c.self.inside.runs.ok.0)) undoes (λ quiet. c.in-Ok.ensures.quiet (told quiet))
-          (held_on c.deref.result.now q c.deref-2.result.now c.self.inside.runs.items c.takers_of-told.new.holdings c.deref.ensures c.deref-2.ensures.value c.takers_of-told.ensures.held),
+          (held_on c.deref.result.now q c.deref-2.result.now c.self.inside.runs.items c.takers_of-is_told.new.holdings c.deref.ensures c.deref-2.ensures.value c.takers_of-is_told.ensures.held),
     )
 
 pub returns-in-Ok : goal.returns-in-Ok
