@@ -1,6 +1,8 @@
 pub mod Numbers
+pub mod Speeds
 pub mod Found
 pub mod Walked
+pub mod Named
 pub mod PairsFound
 pub mod Within
 pub mod Worked

@@ -1,23 +1,23 @@
 -- Words in pairs as whole commands, from what is found at them.
-use Rattle.std.proofs.Common.{◌≡◌, List, ◌∷◌, ◌∙◌, ap}
-use Rattle.std.specs.Prelude.{option_and_then, option_map, unwrap_or, codes}
+use Rattle.std.proofs.Common.{◌≡◌, List, ◌∙◌, ap}
+use Rattle.std.specs.Prelude.{option_and_then, option_map, codes}
 use Rattle.clap.specs.Walk.{Row, Text, first_of}
-use Rattle.sp_base.specs.Limits.{live_limit, batch_limit, event_limit}
-use Rattle.sp_cli.specs.Numbers.{number, number_or}
-use Rattle.sp_cli.specs.Commands.{plain, one_source, with_numbers, run_of, trace_of, drill_of, source_in, live_in, speed_in, run_in, plain_in, trace_in}
+use Rattle.sp_base.specs.Limits.{event_limit}
+use Rattle.sp_cli.specs.Numbers.{number}
+use Rattle.sp_cli.specs.Commands.{plain, source_by, live_by, speed_by, run_of, trace_of, drill_of, source_in, live_in, speed_in, run_in, plain_in, trace_in}
 use Rattle.sp_cli.specs.Paired.{PairsAreFound, value_of}
 use Rattle.sp_cli.specs.PairedCommands.{source_said, live_said, speed_said, PairsAreCommands}
 
 -- where each option is found that is said, it says the same
 module _ (rows : List Row) (said : List (Text × Text)) (are : (id : Text) → first_of id rows ≡ value_of id said) where
   source_same : source_in rows ≡ source_said said
-  source_same = λ i. one_source (are (codes "query") i) (are (codes "file") i)
+  source_same = λ i. source_by (λ id. are id i)
 
   live_same : live_in rows ≡ live_said said
-  live_same = λ i. number_or 64 1 live_limit (are (codes "live") i)
+  live_same = λ i. live_by (λ id. are id i)
 
   speed_same : speed_in rows ≡ speed_said said
-  speed_same = λ i. with_numbers (number_or 2 0 16 (are (codes "instances") i)) (live_same i) (number_or 64 1 batch_limit (are (codes "batch") i)) (unwrap_or (are (codes "predictor") i) (codes "markov"))
+  speed_same = λ i. speed_by (λ id. are id i)
 
 pub pairs_are_commands : PairsAreFound → PairsAreCommands
 pairs_are_commands finds = record {

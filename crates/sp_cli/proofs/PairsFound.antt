@@ -1,6 +1,6 @@
 -- Words in pairs are found as they stand.
-use Rattle.std.proofs.Common.{◌≡◌, ◌∙◌, Bool, true, false, not, ◌&&◌, ◌||◌, ◌==◌, List, [], ◌∷◌, length, drop, Some, None, if◌then◌else◌, cond, refl, ap, ap₂}
-use Rattle.std.specs.Prelude.{fold, is_some, option_and_then, slice_get, find}
+use Rattle.std.proofs.Common.{◌≡◌, ◌∙◌, Bool, true, false, not, ◌&&◌, ◌||◌, ◌==◌, List, [], ◌∷◌, ◌++◌, length, map, drop, Some, None, if◌then◌else◌, cond, refl, ap, ap₂}
+use Rattle.std.specs.Prelude.{codes, fold, is_some, option_and_then, slice_get, find}
 use Rattle.std.specs.List.{list_any}
 use Rattle.std.specs.Str.{bytes_eq}
 use Rattle.clap.proofs.OnLiterals.{clap_on_literals}
@@ -8,10 +8,12 @@ use Rattle.clap.specs.Walk.{Row, Rule, Text, Walk, default_rows, finished, first
 use Rattle.clap.specs.Takes.{is_given}
 use Rattle.clap.specs.Facts.{explicit_source}
 use Rattle.clap.specs.Simple.{App, Shape, built, entered, names_of}
-use Rattle.clap.specs.Kinds.{Kinds, check_kinds, or_else}
+use Rattle.clap.specs.Kinds.{check_kinds, or_else}
 use Rattle.clap.specs.Faults.{built_fault, check_fault, default_fault, defaults_fault, entered_fault, given_default_fault, settle_fault, walk_fault}
+use Rattle.sp_cli.specs.Numbers.{NumberOption, live_number, speed_numbers}
 use Rattle.sp_cli.specs.Options.{found, unless_refused, run_options, plain_options, trace_options, drill_options}
-use Rattle.sp_cli.specs.Paired.{FindsPairs, PairsAreFound, IsSourceName, query, file, IsSpeedName, instances, live, batch, predictor, IsRunName, source, speed, IsTraceName, schedule, value_of}
+use Rattle.sp_cli.specs.Paired.{FindsPairs, PairsAreFound, IsSourceName, query, file, IsSpeedName, IsRunName, source, speed, IsTraceName, schedule, live, value_of}
+use Rattle.sp_cli.proofs.Named.{Named, named_option, right_none, rules_of, speed_option}
 use Rattle.sp_cli.proofs.Walked.{Ends, IsOption, absent_at_first, between, held_at, row, rows, ends}
 
 -- ---- what is left out
@@ -116,9 +118,17 @@ finds app s is_built all bare IsName known words said pairs =
     let e = ends s IsName known words said pairs [] None [] (record { rows_are = refl; passes = refl }) (absent_at_first said) in
     (rows said, found_at s bare words said e app is_built all, λ id. first_said id said)
 
-right_none : (kinds : Kinds) → or_else kinds [] ≡ kinds
-right_none [] = refl
-right_none (kind ∷ kinds) = refl
+-- options that are made of letters and names have no default, and none has to be there
+optional_of : (named : Named) → AreOptional (rules_of named)
+optional_of [] = tt
+optional_of (one ∷ named) = (refl, refl, optional_of named)
+
+-- the options that say where a query stands, and those that say how a run works
+abbrev sources : Named
+sources = (Some 113, codes "query") ∷ (Some 102, codes "file") ∷ []
+
+abbrev speeds : Named
+speeds = map (λ (one : NumberOption). (None, one.name)) speed_numbers ++ (None, codes "predictor") ∷ []
 
 -- ---- `plain`
 
@@ -136,7 +146,7 @@ plain_all = refl
 
 plain_bare : IsBare plain_shape
 unfolding plain_options plain_shape
-plain_bare = record { help = refl; below = refl; optional = (refl, refl, (refl, refl, tt)) }
+plain_bare = record { help = refl; below = refl; optional = optional_of sources }
 
 plain_source : (word id : Text) → IsSourceName word id → IsOption plain_shape word id
 unfolding clap_on_literals plain_options plain_shape
@@ -159,14 +169,11 @@ drill_all = refl
 
 drill_bare : IsBare drill_shape
 unfolding drill_options drill_shape
-drill_bare = record { help = refl; below = refl; optional = (refl, refl, (refl, refl, (refl, refl, (refl, refl, tt)))) }
+drill_bare = record { help = refl; below = refl; optional = optional_of speeds }
 
 drill_speed : (word id : Text) → IsSpeedName word id → IsOption drill_shape word id
-unfolding clap_on_literals drill_options drill_shape
-drill_speed word id instances = record { letter = None; ours = refl; step = λ rs pending. refl; passes = λ rs pending. right_none (settle_fault drill_shape.rules drill_shape.args_override_self (held_at rs pending)) }
-drill_speed word id live = record { letter = None; ours = refl; step = λ rs pending. refl; passes = λ rs pending. right_none (settle_fault drill_shape.rules drill_shape.args_override_self (held_at rs pending)) }
-drill_speed word id batch = record { letter = None; ours = refl; step = λ rs pending. refl; passes = λ rs pending. right_none (settle_fault drill_shape.rules drill_shape.args_override_self (held_at rs pending)) }
-drill_speed word id predictor = record { letter = None; ours = refl; step = λ rs pending. refl; passes = λ rs pending. right_none (settle_fault drill_shape.rules drill_shape.args_override_self (held_at rs pending)) }
+unfolding drill_options drill_shape
+drill_speed = speed_option drill_shape speeds refl refl refl
 
 -- ---- `run`
 
@@ -184,7 +191,7 @@ run_all = refl
 
 run_bare : IsBare run_shape
 unfolding run_options run_shape
-run_bare = record { help = refl; below = refl; optional = (refl, refl, (refl, refl, (refl, refl, (refl, refl, (refl, refl, (refl, refl, tt)))))) }
+run_bare = record { help = refl; below = refl; optional = optional_of (sources ++ speeds) }
 
 run_source : (word id : Text) → IsSourceName word id → IsOption run_shape word id
 unfolding clap_on_literals run_options run_shape
@@ -192,13 +199,13 @@ run_source word id query = record { letter = Some 113; ours = refl; step = λ rs
 run_source word id file = record { letter = Some 102; ours = refl; step = λ rs pending. refl; passes = λ rs pending. right_none (settle_fault run_shape.rules run_shape.args_override_self (held_at rs pending)) }
 
 run_speed : (word id : Text) → IsSpeedName word id → IsOption run_shape word id
-unfolding clap_on_literals run_options run_shape
-run_speed word id instances = record { letter = None; ours = refl; step = λ rs pending. refl; passes = λ rs pending. right_none (settle_fault run_shape.rules run_shape.args_override_self (held_at rs pending)) }
-run_speed word id live = record { letter = None; ours = refl; step = λ rs pending. refl; passes = λ rs pending. right_none (settle_fault run_shape.rules run_shape.args_override_self (held_at rs pending)) }
-run_speed word id batch = record { letter = None; ours = refl; step = λ rs pending. refl; passes = λ rs pending. right_none (settle_fault run_shape.rules run_shape.args_override_self (held_at rs pending)) }
-run_speed word id predictor = record { letter = None; ours = refl; step = λ rs pending. refl; passes = λ rs pending. right_none (settle_fault run_shape.rules run_shape.args_override_self (held_at rs pending)) }
+unfolding run_options run_shape
+run_speed = speed_option run_shape (sources ++ speeds) refl refl refl
 
 -- ---- `trace`
+
+abbrev traces : Named
+traces = sources ++ (None, codes "schedule") ∷ (None, live_number.name) ∷ []
 
 trace_shape : Shape
 unfolding trace_options
@@ -214,7 +221,7 @@ trace_all = refl
 
 trace_bare : IsBare trace_shape
 unfolding trace_options trace_shape
-trace_bare = record { help = refl; below = refl; optional = (refl, refl, (refl, refl, (refl, refl, (refl, refl, tt)))) }
+trace_bare = record { help = refl; below = refl; optional = optional_of traces }
 
 trace_source : (word id : Text) → IsSourceName word id → IsOption trace_shape word id
 unfolding clap_on_literals trace_options trace_shape
@@ -222,10 +229,10 @@ trace_source word id query = record { letter = Some 113; ours = refl; step = λ 
 trace_source word id file = record { letter = Some 102; ours = refl; step = λ rs pending. refl; passes = λ rs pending. right_none (settle_fault trace_shape.rules trace_shape.args_override_self (held_at rs pending)) }
 
 trace_known : (word id : Text) → IsTraceName word id → IsOption trace_shape word id
-unfolding clap_on_literals trace_options trace_shape
+unfolding trace_options trace_shape
 trace_known word id (source w i name) = trace_source w i name
-trace_known word id schedule = record { letter = None; ours = refl; step = λ rs pending. refl; passes = λ rs pending. right_none (settle_fault trace_shape.rules trace_shape.args_override_self (held_at rs pending)) }
-trace_known word id live = record { letter = None; ours = refl; step = λ rs pending. refl; passes = λ rs pending. right_none (settle_fault trace_shape.rules trace_shape.args_override_self (held_at rs pending)) }
+trace_known word id schedule = named_option trace_shape traces (codes "schedule") refl refl
+trace_known word id live = named_option trace_shape traces live_number.name refl refl
 
 run_known : (word id : Text) → IsRunName word id → IsOption run_shape word id
 run_known word id (source w i name) = run_source w i name

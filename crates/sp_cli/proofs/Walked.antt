@@ -42,7 +42,7 @@ waits found id = record { held = held_at found (Some (id, [])); waiting = option
 same : (text : Text) → bytes_eq text text ≡ true
 same text = (bytes_eq-Decides text text).1 refl
 
-differ : (a b : Text) → a ≢ b → bytes_eq a b ≡ false
+pub differ : (a b : Text) → a ≢ b → bytes_eq a b ≡ false
 differ a b apart = go (bytes_eq a b) refl
   where
     go : (t : Bool) → bytes_eq a b ≡ t → t ≡ false

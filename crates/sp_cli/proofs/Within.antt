@@ -1,14 +1,15 @@
 -- The numbers of a command are within their limits.
-use Rattle.std.proofs.Common.{◌≡◌, ℕ, Bool, true, false, cond, List, [], ◌∷◌, Option, Some, None, ◌&&◌, nat_le, if◌then◌else◌, refl, ap, subst, arith}
+use Rattle.std.proofs.Common.{◌≡◌, ℕ, Bool, true, false, cond, List, [], ◌∷◌, Option, Some, None, ◌&&◌, nat_le, if◌then◌else◌, refl, ap, subst}
 use Rattle.std.specs.Prelude.{codes, option_and_then, option_map, unwrap_or}
+use Rattle.std.specs.List.{list_all}
 use Rattle.std.specs.Str.{bytes_eq}
 use Rattle.std.specs.Str.Parse.{digits_value}
 use Rattle.clap.specs.Walk.{Row, Text, first_of}
-use Rattle.sp_base.specs.Limits.{live_limit, batch_limit, event_limit}
-use Rattle.sp_cli.specs.Numbers.{number, number_or, is_numeral, is_between}
+use Rattle.sp_base.specs.Limits.{event_limit}
+use Rattle.sp_cli.specs.Numbers.{NumberOption, number, number_said, put_number, numbers_said, live_number, speed_numbers, is_numeral, is_between}
 use Rattle.sp_cli.specs.Options.{found, run_options, plain_options, trace_options, drill_options}
-use Rattle.sp_cli.specs.Commands.{Command, QuerySource, Speed, run, plain, trace, drill, with_numbers, instances_in, live_in, batch_in, predictor_in, source_in, speed_in, run_of, trace_of, drill_of, run_in, plain_in, trace_in, drill_at, run_at, plain_at, trace_at}
-use Rattle.sp_cli.specs.Limits.{IsBetween, IsSpeedWithin, IsWithin, NumbersAreWithin}
+use Rattle.sp_cli.specs.Commands.{Command, QuerySource, Speed, run, plain, trace, drill, numbers_of, speed_of, predictor_by, live_in, source_in, speed_in, run_of, trace_of, drill_of, run_in, plain_in, trace_in, drill_at, run_at, plain_at, trace_at}
+use Rattle.sp_cli.specs.Limits.{IsBetween, IsNumberOf, AreNumbersOf, IsSpeedWithin, IsWithin, NumbersAreWithin}
 use Rattle.sp_cli.proofs.Numbers.{first, second, le_from}
 
 -- the value of an option that is there
@@ -36,24 +37,44 @@ number_within least greatest text =
     let between = second (is_numeral text) (is_between least greatest v) e in
     (le_from least v (first (nat_le least v) (nat_le v greatest) between), le_from v greatest (second (nat_le least v) (nat_le v greatest) between)))
 
-number_or_within : (left_out least greatest : ℕ) → IsBetween least greatest left_out → (said : Option (List ℕ)) → Has (IsBetween least greatest) (number_or left_out least greatest said)
-number_or_within left_out least greatest within None = has_some (IsBetween least greatest) left_out within
-number_or_within left_out least greatest within (Some text) = number_within least greatest text
+-- an option may say what it is where it is left out
+abbrev is_fine : NumberOption → Bool
+is_fine one = is_between one.least one.greatest one.left_out
 
-numbers_within : (i l b : Option ℕ) (p : Text) → Has (IsBetween 0 16) i → Has (IsBetween 1 live_limit) l → Has (IsBetween 1 batch_limit) b → Has IsSpeedWithin (with_numbers i l b p)
-numbers_within None l b p hi hl hb = has_none IsSpeedWithin
-numbers_within (Some i) None b p hi hl hb = has_none IsSpeedWithin
-numbers_within (Some i) (Some l) None p hi hl hb = has_none IsSpeedWithin
-numbers_within (Some i) (Some l) (Some b) p hi hl hb =
-    has_some IsSpeedWithin (record { instances = i; live = l; batch = b; predictor = p }) (record { instances = hi i refl; live = hl l refl; batch = hb b refl })
+said_within : (one : NumberOption) → is_fine one ≡ true → (said : Option (List ℕ)) → Has (IsNumberOf one) (number_said one said)
+said_within one fine None = has_some (IsNumberOf one) one.left_out
+    (le_from one.least one.left_out (first (nat_le one.least one.left_out) (nat_le one.left_out one.greatest) fine), le_from one.left_out one.greatest (second (nat_le one.least one.left_out) (nat_le one.left_out one.greatest) fine))
+said_within one fine (Some text) = number_within one.least one.greatest text
 
-live_within : (rows : List Row) → Has (IsBetween 1 live_limit) (live_in rows)
-live_within rows = number_or_within 64 1 live_limit (omega arith, omega arith) (first_of (codes "live") rows)
+put_within : (one : NumberOption) (others : List NumberOption) (a : Option ℕ) (s : Option (List ℕ)) → Has (IsNumberOf one) a → Has (AreNumbersOf others) s
+    → Has (AreNumbersOf (one ∷ others)) (put_number a s)
+put_within one others None s ha hs = has_none (AreNumbersOf (one ∷ others))
+put_within one others (Some n) None ha hs = has_none (AreNumbersOf (one ∷ others))
+put_within one others (Some n) (Some numbers) ha hs = has_some (AreNumbersOf (one ∷ others)) (n ∷ numbers) (ha n refl, hs numbers refl)
+
+numbers_within : (text_of : Text → Option Text) (ones : List NumberOption) → list_all is_fine ones ≡ true → Has (AreNumbersOf ones) (numbers_said text_of ones)
+numbers_within text_of [] fine = has_some (AreNumbersOf []) [] tt
+numbers_within text_of (one ∷ others) fine =
+    put_within one others (number_said one (text_of one.name)) (numbers_said text_of others) (said_within one (first (is_fine one) (list_all is_fine others) fine) (text_of one.name))
+    (numbers_within text_of others (second (is_fine one) (list_all is_fine others) fine))
+
+-- a speed has the numbers that it is made of
+of_numbers : (P : List ℕ → Type 0) (numbers : List ℕ) (predictor : Text) → P numbers → Has (λ speed. P (numbers_of speed)) (speed_of numbers predictor)
+of_numbers P (instances ∷ live ∷ batch ∷ rotate ∷ []) predictor p =
+    has_some (λ speed. P (numbers_of speed)) (record { instances = instances; live = live; batch = batch; predictor = predictor; rotate = rotate }) p
+of_numbers P _ predictor p = has_none (λ speed. P (numbers_of speed))
+
+speed_of_within : (said : Option (List ℕ)) (predictor : Text) → Has (AreNumbersOf speed_numbers) said → Has IsSpeedWithin (option_and_then (λ numbers. speed_of numbers predictor) said)
+speed_of_within None predictor h = has_none IsSpeedWithin
+speed_of_within (Some numbers) predictor h = of_numbers (AreNumbersOf speed_numbers) numbers predictor (h numbers refl)
+
+live_within : (rows : List Row) → Has (IsNumberOf live_number) (live_in rows)
+live_within rows = said_within live_number refl (first_of live_number.name rows)
 
 speed_within : (rows : List Row) → Has IsSpeedWithin (speed_in rows)
-speed_within rows = numbers_within (instances_in rows) (live_in rows) (batch_in rows) (predictor_in rows)
-    (number_or_within 2 0 16 (omega arith, omega arith) (first_of (codes "instances") rows)) (live_within rows)
-    (number_or_within 64 1 batch_limit (omega arith, omega arith) (first_of (codes "batch") rows))
+speed_within rows =
+    let text_of : Text → Option Text = λ name. first_of name rows in
+    speed_of_within (numbers_said text_of speed_numbers) (predictor_by text_of) (numbers_within text_of speed_numbers refl)
 
 run_within : (query : Option QuerySource) (speed : Option Speed) → Has IsSpeedWithin speed → Has IsWithin (run_of query speed)
 run_within None speed h = has_none IsWithin
@@ -64,7 +85,7 @@ plain_within : (query : Option QuerySource) → Has IsWithin (option_map plain q
 plain_within None = has_none IsWithin
 plain_within (Some query) = has_some IsWithin (plain query) tt
 
-trace_within : (query : Option QuerySource) (schedule : Option Text) (live : Option ℕ) → Has (IsBetween 1 live_limit) live → Has IsWithin (trace_of query schedule live)
+trace_within : (query : Option QuerySource) (schedule : Option Text) (live : Option ℕ) → Has (IsNumberOf live_number) live → Has IsWithin (trace_of query schedule live)
 trace_within None schedule live h = has_none IsWithin
 trace_within (Some query) None live h = has_none IsWithin
 trace_within (Some query) (Some schedule) None h = has_none IsWithin

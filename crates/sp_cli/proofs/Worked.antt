@@ -18,11 +18,15 @@ abbrev of : List ℕ → Option Command
 of line = command_of (parted line)
 
 abbrev speed : ℕ → ℕ → ℕ → List ℕ → Speed
-speed instances live batch predictor = record { instances = instances; live = live; batch = batch; predictor = predictor }
+speed instances live batch predictor = record { instances = instances; live = live; batch = batch; predictor = predictor; rotate = 0 }
 
 -- how a run works where no option says more
 abbrev usual : Speed
 usual = speed 2 64 64 (codes "markov")
+
+-- the usual, with an exchange of predictors
+abbrev rotating : ℕ → Speed
+rotating rotate = record usual { rotate = rotate }
 
 abbrev q : QuerySource
 q = text (codes "Q")
@@ -70,8 +74,8 @@ unfolding clap_on_literals found plain_options
 just_one_source = refl
 
 nothing_beside_the_options :
-    map of (codes "plain -q Q Q" ∷ codes "plain Q -q Q" ∷ codes "plain -q Q --live 1" ∷ codes "plain --que Q" ∷ codes "plain -q" ∷ [])
-    ≡ None ∷ None ∷ None ∷ None ∷ None ∷ []
+    map of (codes "plain -q Q Q" ∷ codes "plain Q -q Q" ∷ codes "plain -q Q --live 1" ∷ codes "plain -q Q --rotate 1" ∷ codes "plain --que Q" ∷ codes "plain -q" ∷ [])
+    ≡ None ∷ None ∷ None ∷ None ∷ None ∷ None ∷ []
 unfolding clap_on_literals found plain_options
 nothing_beside_the_options = refl
 
@@ -117,6 +121,12 @@ batch_within_limits :
 unfolding clap_on_literals found run_options
 batch_within_limits = refl
 
+rotate_within_limits :
+    map of (codes "run -q Q --rotate 0" ∷ codes "run -q Q --rotate 65536" ∷ codes "run -q Q --rotate 65537" ∷ codes "run -q Q --rotate +1" ∷ codes "run -q Q --rotate 1 --rotate 1" ∷ [])
+    ≡ run_q usual ∷ run_q (rotating 65536) ∷ None ∷ None ∷ None ∷ []
+unfolding clap_on_literals found run_options
+rotate_within_limits = refl
+
 one_to_ten_digits :
     map of (codes "run -q Q --live 0000000007" ∷ codes "run -q Q --live 00000000007" ∷ codes "run -q Q --live=" ∷ [])
     ≡ run_q (speed 2 7 64 (codes "markov")) ∷ None ∷ None ∷ []
@@ -136,14 +146,14 @@ unfolding clap_on_literals found run_options
 an_option_twice = refl
 
 the_options_of_a_trace :
-    map of (codes "trace -q Q --schedule S" ∷ codes "trace --live=4096 --schedule=S -f F" ∷ codes "trace -q Q" ∷ codes "trace -q Q --schedule S --live 4097" ∷ codes "trace -q Q --schedule S --batch 1" ∷ [])
-    ≡ Some (trace q (codes "S") 64) ∷ Some (trace (file (codes "F")) (codes "S") 4096) ∷ None ∷ None ∷ None ∷ []
+    map of (codes "trace -q Q --schedule S" ∷ codes "trace --live=4096 --schedule=S -f F" ∷ codes "trace -q Q" ∷ codes "trace -q Q --schedule S --live 4097" ∷ codes "trace -q Q --schedule S --batch 1" ∷ codes "trace -q Q --schedule S --rotate 1" ∷ [])
+    ≡ Some (trace q (codes "S") 64) ∷ Some (trace (file (codes "F")) (codes "S") 4096) ∷ None ∷ None ∷ None ∷ None ∷ []
 unfolding clap_on_literals found trace_options
 the_options_of_a_trace = refl
 
 the_words_of_a_drill :
-    map of (codes "drill 8 7" ∷ codes "drill 1048576 4294967295 --predictor even" ∷ codes "drill 1048577 7" ∷ codes "drill 0 7" ∷ codes "drill 8 4294967296" ∷ [])
-    ≡ Some (drill 8 7 usual) ∷ Some (drill 1048576 4294967295 (speed 2 64 64 (codes "even"))) ∷ None ∷ None ∷ None ∷ []
+    map of (codes "drill 8 7" ∷ codes "drill 1048576 4294967295 --predictor even" ∷ codes "drill 1048577 7" ∷ codes "drill 0 7" ∷ codes "drill 8 4294967296" ∷ codes "drill 8 7 --rotate 5" ∷ [])
+    ≡ Some (drill 8 7 usual) ∷ Some (drill 1048576 4294967295 (speed 2 64 64 (codes "even"))) ∷ None ∷ None ∷ None ∷ Some (drill 8 7 (rotating 5)) ∷ []
 unfolding clap_on_literals found drill_options
 the_words_of_a_drill = refl
 

@@ -4,27 +4,39 @@ use Rattle.std.specs.Str.{bytes_eq}
 use Rattle.clap.specs.Walk.{Row, Text, first_of, rows_of}
 use Rattle.clap.specs.Matches.{found_of}
 use Rattle.clap.specs.declared.parser.matches.ArgMatches.{ArgMatches}
-use Rattle.sp_base.specs.Limits.{live_limit, batch_limit, event_limit}
-use Rattle.sp_cli.specs.Numbers.{number, number_or}
+use Rattle.sp_base.specs.Limits.{event_limit}
+use Rattle.sp_cli.specs.Numbers.{NumberOption, number, number_said, numbers_said, live_number, speed_numbers}
 use Rattle.sp_cli.specs.Options.{found, run_options, plain_options, trace_options, drill_options}
 use Rattle.sp_cli.specs.declared.command.Command.{Command as FoundCommand}
 use Rattle.sp_cli.specs.declared.command.Command.TheVariants as c
 use Rattle.sp_cli.specs.declared.command.QuerySource.{QuerySource as FoundSource}
 use Rattle.sp_cli.specs.declared.command.QuerySource.TheVariants as q
 use Rattle.sp_cli.specs.declared.command.Speed.{Speed as FoundSpeed}
+use Rattle.sp_cli.specs.declared.values.NumberOption.{NumberOption as FoundNumber}
 
 -- where a query stands: in a text, or in the file of a name
 pub data QuerySource : Type 0 where
   text : (content : Text) → QuerySource
   file : (name : Text) → QuerySource
 
--- How a run works: how many instances read, how many versions may be live, how many events are fed or lent at a time, and the
--- predictor's name.
+-- How a run works: how many instances read, how many versions may be live, how many events are fed or lent at a time, the name of the
+-- predictor that works first, and behind how many finished windows the next one takes its place (0: never).
 pub record Speed : Type 0 where
   pub instances : ℕ
   pub live : ℕ
   pub batch : ℕ
   pub predictor : Text
+  pub rotate : ℕ
+
+-- its numbers, in the order of their options
+abbrev pub numbers_of : Speed → List ℕ
+numbers_of speed = speed.instances ∷ speed.live ∷ speed.batch ∷ speed.rotate ∷ []
+
+-- the speed of these numbers
+abbrev pub speed_of : List ℕ → Text → Option Speed
+speed_of (instances ∷ live ∷ batch ∷ rotate ∷ []) predictor =
+    Some (record { instances = instances; live = live; batch = batch; predictor = predictor; rotate = rotate })
+speed_of _ predictor = None
 
 -- a run of a query, the same window by window, a run of the machine over a schedule's file, or a run over generated rows
 pub data Command : Type 0 where
@@ -40,28 +52,28 @@ one_source None (Some name) = Some (file name)
 one_source None None = None
 one_source (Some content) (Some name) = None
 
-abbrev pub source_in : List Row → Option QuerySource
-source_in rows = one_source (first_of (codes "query") rows) (first_of (codes "file") rows)
+-- what options say of where the query stands, of how many versions may be live, and of how a run works, by the text that stands for each name
+abbrev pub source_by : (Text → Option Text) → Option QuerySource
+source_by text_of = one_source (text_of (codes "query")) (text_of (codes "file"))
 
-abbrev pub instances_in : List Row → Option ℕ
-instances_in rows = number_or 2 0 16 (first_of (codes "instances") rows)
+abbrev pub live_by : (Text → Option Text) → Option ℕ
+live_by text_of = number_said live_number (text_of live_number.name)
+
+abbrev pub predictor_by : (Text → Option Text) → Text
+predictor_by text_of = unwrap_or (text_of (codes "predictor")) (codes "markov")
+
+abbrev pub speed_by : (Text → Option Text) → Option Speed
+speed_by text_of = option_and_then (λ numbers. speed_of numbers (predictor_by text_of)) (numbers_said text_of speed_numbers)
+
+-- the same of options that were found
+abbrev pub source_in : List Row → Option QuerySource
+source_in rows = source_by (λ name. first_of name rows)
 
 abbrev pub live_in : List Row → Option ℕ
-live_in rows = number_or 64 1 live_limit (first_of (codes "live") rows)
-
-abbrev pub batch_in : List Row → Option ℕ
-batch_in rows = number_or 64 1 batch_limit (first_of (codes "batch") rows)
-
-abbrev pub predictor_in : List Row → Text
-predictor_in rows = unwrap_or (first_of (codes "predictor") rows) (codes "markov")
-
-abbrev pub with_numbers : Option ℕ → Option ℕ → Option ℕ → Text → Option Speed
-with_numbers (Some instances) (Some live) (Some batch) predictor =
-    Some (record { instances = instances; live = live; batch = batch; predictor = predictor })
-with_numbers _ _ _ predictor = None
+live_in rows = live_by (λ name. first_of name rows)
 
 abbrev pub speed_in : List Row → Option Speed
-speed_in rows = with_numbers (instances_in rows) (live_in rows) (batch_in rows) (predictor_in rows)
+speed_in rows = speed_by (λ name. first_of name rows)
 
 abbrev pub run_of : Option QuerySource → Option Speed → Option Command
 run_of (Some query) (Some speed) = Some (run query speed)
@@ -128,7 +140,11 @@ speed_seen read = record {
   live = read.live;
   batch = read.batch;
   predictor = string_bytes read.predictor;
+  rotate = read.rotate;
 }
+
+abbrev pub number_seen : FoundNumber → NumberOption
+number_seen one = record { name = one.name.now; least = one.least; greatest = one.greatest; left_out = one.left_out }
 
 abbrev pub seen : FoundCommand → Command
 seen (c.Run query speed) = run (source_seen query) (speed_seen speed)

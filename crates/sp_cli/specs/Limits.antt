@@ -1,22 +1,31 @@
 -- The limits of a command's numbers.
-use Rattle.std.specs.Prelude.{◌≡◌, ◌≤◌, ℕ, List, Some}
+use Rattle.std.specs.Prelude.{◌≡◌, ◌≤◌, ℕ, List, [], ◌∷◌, Some}
 use Rattle.clap.specs.Walk.{Text}
-use Rattle.sp_base.specs.Limits.{live_limit, batch_limit, event_limit}
-use Rattle.sp_cli.specs.Commands.{Command, run, plain, trace, drill, Speed, command_of}
+use Rattle.sp_base.specs.Limits.{event_limit}
+use Rattle.sp_cli.specs.Numbers.{NumberOption, live_number, speed_numbers}
+use Rattle.sp_cli.specs.Commands.{Command, run, plain, trace, drill, Speed, numbers_of, command_of}
 
 abbrev pub IsBetween : ℕ → ℕ → ℕ → Type 0
 IsBetween least greatest n = (least ≤ n) × (n ≤ greatest)
 
-pub record IsSpeedWithin (speed : Speed) : Type 0 where
-  pub instances : IsBetween 0 16 speed.instances
-  pub live : IsBetween 1 live_limit speed.live
-  pub batch : IsBetween 1 batch_limit speed.batch
+-- it is between the least and the greatest that its option may say
+abbrev pub IsNumberOf : NumberOption → ℕ → Type 0
+IsNumberOf one n = IsBetween one.least one.greatest n
+
+-- each of the numbers is, of the option at its place
+abbrev pub AreNumbersOf : List NumberOption → List ℕ → Type 0
+AreNumbersOf [] [] = Unit {0}
+AreNumbersOf (one ∷ others) (n ∷ numbers) = IsNumberOf one n × AreNumbersOf others numbers
+AreNumbersOf _ _ = ⊥
+
+abbrev pub IsSpeedWithin : Speed → Type 0
+IsSpeedWithin speed = AreNumbersOf speed_numbers (numbers_of speed)
 
 -- each number of the command is within its limits
 abbrev pub IsWithin : Command → Type 0
 IsWithin (run query speed) = IsSpeedWithin speed
 IsWithin (plain query) = Unit {0}
-IsWithin (trace query schedule live) = IsBetween 1 live_limit live
+IsWithin (trace query schedule live) = IsNumberOf live_number live
 IsWithin (drill events seed speed) = IsBetween 1 event_limit events × IsBetween 0 4294967295 seed × IsSpeedWithin speed
 
 -- What words say is within the limits.

@@ -1,7 +1,8 @@
--- Which texts are numbers of a word.
-use Rattle.std.specs.Prelude.{ℕ, Bool, List, Option, Some, None, ◌&&◌, length, nat_lt, nat_le, if◌then◌else◌}
+-- Which texts are numbers of a word, and which numbers options say.
+use Rattle.std.specs.Prelude.{ℕ, Bool, List, [], ◌∷◌, Option, Some, None, ◌&&◌, length, nat_lt, nat_le, if◌then◌else◌, codes}
 use Rattle.std.specs.Str.{all_ascii_digits}
 use Rattle.std.specs.Str.Parse.{digits_value}
+use Rattle.sp_base.specs.Limits.{live_limit, batch_limit, rotate_limit}
 
 -- one to ten digits, and nothing else
 abbrev pub is_numeral : List ℕ → Bool
@@ -15,7 +16,36 @@ abbrev pub number : ℕ → ℕ → List ℕ → Option ℕ
 number least greatest text =
     if is_numeral text && is_between least greatest (digits_value 10 text) then Some (digits_value 10 text) else None
 
--- the same of an option's text, with a number where the option is left out
-abbrev pub number_or : ℕ → ℕ → ℕ → Option (List ℕ) → Option ℕ
-number_or left_out least greatest None = Some left_out
-number_or left_out least greatest (Some text) = number least greatest text
+-- A number that an option says: the option's name, the least and the greatest that it may be, and what it is where the option is left out.
+pub record NumberOption : Type 0 where
+  pub name : List ℕ
+  pub least : ℕ
+  pub greatest : ℕ
+  pub left_out : ℕ
+
+-- how many versions may be live
+abbrev pub live_number : NumberOption
+live_number = record { name = codes "live"; least = 1; greatest = live_limit; left_out = 64 }
+
+-- the numbers that say how a run works
+abbrev pub speed_numbers : List NumberOption
+speed_numbers =
+    record { name = codes "instances"; least = 0; greatest = 16; left_out = 2 }
+    ∷ live_number
+    ∷ record { name = codes "batch"; least = 1; greatest = batch_limit; left_out = 64 }
+    ∷ record { name = codes "rotate"; least = 0; greatest = rotate_limit; left_out = 0 }
+    ∷ []
+
+-- the number that the text of such an option says
+abbrev pub number_said : NumberOption → Option (List ℕ) → Option ℕ
+number_said one None = Some one.left_out
+number_said one (Some text) = number one.least one.greatest text
+
+abbrev pub put_number : Option ℕ → Option (List ℕ) → Option (List ℕ)
+put_number (Some n) (Some numbers) = Some (n ∷ numbers)
+put_number _ _ = None
+
+-- the numbers that such options say, by the text that stands for each name, or none where one of them says none
+abbrev pub numbers_said : (List ℕ → Option (List ℕ)) → List NumberOption → Option (List ℕ)
+numbers_said text_of [] = Some []
+numbers_said text_of (one ∷ others) = put_number (number_said one (text_of one.name)) (numbers_said text_of others)

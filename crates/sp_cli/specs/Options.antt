@@ -1,10 +1,11 @@
 -- The options of each command, told as commands of `clap`, and what its definition of simple commands finds at words.
-use Rattle.std.specs.Prelude.{ℕ, List, [], ◌∷◌, Option, Some, None, true, codes}
+use Rattle.std.specs.Prelude.{ℕ, List, [], ◌∷◌, Option, Some, None, fold, true, codes}
 use Rattle.clap.specs.Walk.{Row, Rule, Text}
 use Rattle.clap.specs.Simple.{App, matches_of, new_app, new_rule, on_top, with_rule}
 use Rattle.clap.specs.Faults.{fault_of}
 use Rattle.clap.specs.Kinds.{Kinds}
 use Rattle.clap.specs.declared.builder.action.ArgAction.TheVariants.{Set}
+use Rattle.sp_cli.specs.Numbers.{NumberOption, speed_numbers}
 
 -- an option of one text, by its long name
 abbrev pub option : Text → Rule
@@ -22,11 +23,12 @@ no_options = on_top (λ shape. record shape { no_binary_name = true; disable_hel
 abbrev pub with_query : App → App
 with_query app = with_rule (with_rule app (option_or_letter 113 (codes "query"))) (option_or_letter 102 (codes "file"))
 
--- how a run works
+abbrev pub with_number : App → NumberOption → App
+with_number app one = with_rule app (option one.name)
+
+-- how a run works: its numbers, and its predictor
 abbrev pub with_speed : App → App
-with_speed app =
-    with_rule (with_rule (with_rule (with_rule app
-    (option (codes "instances"))) (option (codes "live"))) (option (codes "batch"))) (option (codes "predictor"))
+with_speed app = with_rule (fold with_number app speed_numbers) (option (codes "predictor"))
 
 unfoldable pub run_options : App
 run_options = with_speed (with_query no_options)

@@ -1,9 +1,10 @@
 -- Words in pairs: the name of an option, and what it says as a word of its own.
 use Rattle.std.specs.Prelude.{◌≡◌, ◌≢◌, List, [], ◌∷◌, Option, Some, None, if◌then◌else◌, slice_index, codes}
-use Rattle.std.specs.List.{All}
+use Rattle.std.specs.List.{All, Contains}
 use Rattle.std.specs.Str.{bytes_eq}
 use Rattle.clap.specs.Simple.{App}
 use Rattle.clap.specs.Walk.{Row, Text, first_of}
+use Rattle.sp_cli.specs.Numbers.{NumberOption, speed_numbers}
 use Rattle.sp_cli.specs.Options.{found, run_options, plain_options, trace_options, drill_options}
 
 -- the options that say where a query stands, by their short names
@@ -11,11 +12,9 @@ pub data IsSourceName : Text → Text → Type 0 where
   query : IsSourceName (codes "-q") (codes "query")
   file : IsSourceName (codes "-f") (codes "file")
 
--- the options that say how a run works
+-- the options that say how a run works, each behind two hyphens
 pub data IsSpeedName : Text → Text → Type 0 where
-  instances : IsSpeedName (codes "--instances") (codes "instances")
-  live : IsSpeedName (codes "--live") (codes "live")
-  batch : IsSpeedName (codes "--batch") (codes "batch")
+  number : (one : NumberOption) → Contains speed_numbers one → IsSpeedName (45 ∷ 45 ∷ one.name) one.name
   predictor : IsSpeedName (codes "--predictor") (codes "predictor")
 
 pub data IsRunName : Text → Text → Type 0 where

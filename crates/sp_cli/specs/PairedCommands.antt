@@ -1,22 +1,20 @@
 -- Words in pairs as whole commands.
-use Rattle.std.specs.Prelude.{◌≡◌, ℕ, List, ◌∷◌, Option, option_map, unwrap_or, codes}
+use Rattle.std.specs.Prelude.{◌≡◌, ℕ, List, ◌∷◌, Option, option_map, codes}
 use Rattle.clap.specs.Walk.{Text}
-use Rattle.sp_base.specs.Limits.{live_limit, batch_limit, event_limit}
-use Rattle.sp_cli.specs.Numbers.{number, number_or}
-use Rattle.sp_cli.specs.Commands.{QuerySource, Speed, plain, one_source, with_numbers, run_of, trace_of, drill_of, command_of}
+use Rattle.sp_base.specs.Limits.{event_limit}
+use Rattle.sp_cli.specs.Numbers.{number}
+use Rattle.sp_cli.specs.Commands.{QuerySource, Speed, plain, source_by, live_by, speed_by, run_of, trace_of, drill_of, command_of}
 use Rattle.sp_cli.specs.Paired.{IsSourceName, IsSpeedName, IsRunName, IsTraceName, ArePairs, value_of}
 
 -- what the pairs say of where the query stands, of how many versions may be live, and of how a run works
 abbrev pub source_said : List (Text × Text) → Option QuerySource
-source_said said = one_source (value_of (codes "query") said) (value_of (codes "file") said)
+source_said said = source_by (λ name. value_of name said)
 
 abbrev pub live_said : List (Text × Text) → Option ℕ
-live_said said = number_or 64 1 live_limit (value_of (codes "live") said)
+live_said said = live_by (λ name. value_of name said)
 
 abbrev pub speed_said : List (Text × Text) → Option Speed
-speed_said said =
-    with_numbers (number_or 2 0 16 (value_of (codes "instances") said)) (live_said said) (number_or 64 1 batch_limit (value_of (codes "batch") said))
-    (unwrap_or (value_of (codes "predictor") said) (codes "markov"))
+speed_said said = speed_by (λ name. value_of name said)
 
 -- Behind the name of a command, and behind the two numbers of a drill, words in pairs give the command that their values say.
 pub record PairsAreCommands : Type 0 where

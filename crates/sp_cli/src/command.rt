@@ -19,8 +19,11 @@ pub struct Speed {
     pub live: u32,
     /// The most events that are fed or lent at a time: 1 to 1024.
     pub batch: u32,
-    /// The name of the predictor.
+    /// The name of the predictor that works first.
     pub predictor: String,
+    /// Behind how many finished windows the next predictor takes the place of the one at work: 0 to 65,536;
+    /// 0: never.
+    pub rotate: u32,
 }
 
 /// What the words ask for.

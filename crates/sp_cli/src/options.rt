@@ -1,11 +1,12 @@
 // The options of each command as commands of `clap`, and what it finds at words.
-ghost use Rattle.std.specs.Prelude.{◌≡◌, Some, None, true, false, map, IfOk, IfErr, string_bytes};
+ghost use Rattle.std.specs.Prelude.{◌≡◌, Some, None, true, false, fold, map, IfOk, IfErr, string_bytes};
 ghost use Rattle.clap.specs.Words.{app_of, rule_of, with_rule, is_simple_and_free};
-ghost use Rattle.sp_cli.specs.Commands.{rows_in};
-ghost use Rattle.sp_cli.specs.Options.{option, no_options, with_query, with_speed, found};
+ghost use Rattle.sp_cli.specs.Commands.{number_seen, rows_in};
+ghost use Rattle.sp_cli.specs.Options.{option, no_options, with_query, with_number, with_speed, found};
 ghost use Rattle.sp_cli.specs.Options as specs;
 
 use crate::command::UsageFault;
+use crate::values::{NumberOption, speed_numbers};
 use clap::error::ErrorKind;
 use clap::{Arg, ArgAction, ArgMatches};
 use std::alloc::{AllocError, Global};
@@ -62,16 +63,29 @@ fn with_query<'a>(
     with_option(command, one_text(alloc, "file").short('f'))
 }
 
-// With the four options that say how a run works.
+// With the options of these numbers.
+fn with_numbers<'a>(
+    alloc: Global,
+    mut command: clap::Command<'a>,
+    options: &[NumberOption],
+) -> Result<clap::Command<'a>, AllocError>
+    ensures { IfOk result (λ more.
+        app_of more ≡ fold with_number (app_of command.entry) (map number_seen options.now)) }
+{
+    for option in options {
+        command = with_text(alloc, command, option.name)?;
+    }
+    Ok(command)
+}
+
+// With the options that say how a run works: its numbers, and its predictor.
 fn with_speed<'a>(
     alloc: Global,
     command: clap::Command<'a>,
 ) -> Result<clap::Command<'a>, AllocError>
     ensures { IfOk result (λ more. app_of more ≡ specs.with_speed (app_of command.entry)) }
 {
-    let command = with_text(alloc, command, "instances")?;
-    let command = with_text(alloc, command, "live")?;
-    let command = with_text(alloc, command, "batch")?;
+    let command = with_numbers(alloc, command, speed_numbers())?;
     with_text(alloc, command, "predictor")
 }
 

@@ -4,20 +4,9 @@ ghost use Rattle.sp_cli.specs.Commands.{command_of, run_at, plain_at, trace_at, 
 
 use crate::command::{Command, UsageFault};
 use crate::options::{drill_options, find_options, plain_options, run_options, trace_options};
-use crate::values::{Limits, live_in, number_of, source_in, speed_in, value_of};
+use crate::values::{live_in, number_of, source_in, speed_in, value_of};
 use sp_base::limits::EVENT_LIMIT;
 use std::alloc::Global;
-
-// How many events a drill may have.
-const EVENTS: Limits = Limits {
-    least: 1,
-    greatest: EVENT_LIMIT,
-};
-
-const SEED: Limits = Limits {
-    least: 0,
-    greatest: u32::MAX,
-};
 
 // What stands behind `run`.
 fn read_run(alloc: Global, words: &[String]) -> Result<Command, UsageFault>
@@ -74,8 +63,8 @@ fn read_drill(alloc: Global, words: &[String]) -> Result<Command, UsageFault>
     let [events, seed, rest @ ..] = words else {
         return Err(UsageFault::Usage);
     };
-    let events = number_of(events.as_str(), EVENTS)?;
-    let seed = number_of(seed.as_str(), SEED)?;
+    let events = number_of(events.as_str(), 1, EVENT_LIMIT)?;
+    let seed = number_of(seed.as_str(), 0, u32::MAX)?;
     let matches = find_options(drill_options(alloc)?, rest)?;
     let speed = speed_in(alloc, &matches)?;
     Ok(Command::Drill {

@@ -1,52 +1,60 @@
 // What the values of options say.
-ghost use Rattle.std.specs.Prelude.{◌≡◌, Some, None, IfOk, IfErr, option_map};
+ghost use Rattle.std.specs.Prelude.{◌≡◌, Some, None, IfOk, IfErr, OnOk, OnErr, length, map, option_map};
 ghost use Rattle.clap.specs.Words.{first_of};
-ghost use Rattle.sp_cli.specs.Numbers.{number, number_or};
-ghost use Rattle.sp_cli.specs.Commands.{source_seen, speed_seen, rows_in};
+ghost use Rattle.sp_cli.specs.Numbers.{number, number_said, numbers_said};
+ghost use Rattle.sp_cli.specs.Numbers as listed;
+ghost use Rattle.sp_cli.specs.Commands.{source_seen, speed_seen, number_seen, rows_in};
 ghost use Rattle.sp_cli.specs.Commands as specs;
 
 use crate::command::{QuerySource, Speed, UsageFault};
 use clap::ArgMatches;
-use sp_base::limits::{BATCH_LIMIT, LIVE_LIMIT};
+use sp_base::limits::{BATCH_LIMIT, LIVE_LIMIT, ROTATE_LIMIT};
 use std::alloc::Global;
 
-/// The numbers that a word may write.
+/// A number that an option says: the option's name, the least and the greatest that it may be, and what it is
+/// where the option is left out.
 #[derive(Clone, Copy, Drop)]
-pub(crate) struct Limits {
+pub(crate) struct NumberOption {
+    pub(crate) name: &'static str,
     pub(crate) least: u32,
     pub(crate) greatest: u32,
+    pub(crate) left_out: u32,
+}
+
+// How many versions may be live.
+#[rattlefmt::skip]
+const LIVE: NumberOption = NumberOption { name: "live", least: 1, greatest: LIVE_LIMIT, left_out: 64 };
+
+// The numbers that say how a run works, in the order of `numbers_of` in `specs/Commands.antt`.
+#[rattlefmt::skip]
+const SPEED_NUMBERS: [NumberOption; 4] = [
+    NumberOption { name: "instances", least: 0, greatest: 16, left_out: 2 },
+    LIVE,
+    NumberOption { name: "batch", least: 1, greatest: BATCH_LIMIT, left_out: 64 },
+    NumberOption { name: "rotate", least: 0, greatest: ROTATE_LIMIT, left_out: 0 },
+];
+
+/// The options of the numbers that say how a run works.
+pub(crate) fn speed_numbers() -> &'static [NumberOption]
+    ensures { map number_seen result.now ≡ listed.speed_numbers }
+{
+    &SPEED_NUMBERS
 }
 
 // The most digits of a number.
 const DIGITS: usize = 10;
 
-// The limits of the numbers that options say.
-const INSTANCES: Limits = Limits {
-    least: 0,
-    greatest: 16,
-};
-
-const LIVE: Limits = Limits {
-    least: 1,
-    greatest: LIVE_LIMIT,
-};
-
-const BATCH: Limits = Limits {
-    least: 1,
-    greatest: BATCH_LIMIT,
-};
-
-/// The number within the limits that the text writes: one to ten digits.
-pub(crate) fn number_of(text: &str, limits: Limits) -> Result<u32, UsageFault>
-    ensures ok { IfOk result (λ n. number limits.least limits.greatest text.now ≡ Some n) }
-    ensures usage { IfErr result (λ _. number limits.least limits.greatest text.now ≡ None) }
+/// The number from the least to the greatest that the text writes: one to ten digits.
+pub(crate) fn number_of(text: &str, least: u32, greatest: u32) -> Result<u32, UsageFault>
+    ensures ok { IfOk result (λ n. number least greatest text.now ≡ Some n) }
+    ensures usage { IfErr result (λ _. number least greatest text.now ≡ None) }
 {
     // a sign is no digit, though a number may be read behind it
     if text.len() > DIGITS || text.as_bytes().first() == Some(&b'+') {
         return Err(UsageFault::Usage);
     }
     match text.parse::<u32>() {
-        Ok(n) if limits.least <= n && n <= limits.greatest => Ok(n),
+        Ok(n) if least <= n && n <= greatest => Ok(n),
         _ => Err(UsageFault::Usage),
     }
 }
@@ -58,23 +66,18 @@ pub(crate) fn value_of<'a>(matches: &ArgMatches<'a>, name: &str) -> Option<&'a s
     matches.get_str(name)
 }
 
-// The number that the option of this name says, or the other where it is left out.
-fn number_at(
-    matches: &ArgMatches<'_>,
-    name: &str,
-    limits: Limits,
-    left_out: u32,
-) -> Result<u32, UsageFault>
+// The number that the option says.
+fn number_at(matches: &ArgMatches<'_>, option: NumberOption) -> Result<u32, UsageFault>
     ensures ok { IfOk result (λ n.
-        number_or left_out limits.least limits.greatest (first_of name.now (rows_in matches.now))
+        number_said (number_seen option) (first_of option.name.now (rows_in matches.now))
         ≡ Some n) }
     ensures usage { IfErr result (λ _.
-        number_or left_out limits.least limits.greatest (first_of name.now (rows_in matches.now))
+        number_said (number_seen option) (first_of option.name.now (rows_in matches.now))
         ≡ None) }
 {
-    match value_of(matches, name) {
-        Some(text) => number_of(text, limits),
-        None => Ok(left_out),
+    match value_of(matches, option.name) {
+        Some(text) => number_of(text, option.least, option.greatest),
+        None => Ok(option.left_out),
     }
 }
 
@@ -83,7 +86,7 @@ pub(crate) fn live_in(matches: &ArgMatches<'_>) -> Result<u32, UsageFault>
     ensures ok { IfOk result (λ n. specs.live_in (rows_in matches.now) ≡ Some n) }
     ensures usage { IfErr result (λ _. specs.live_in (rows_in matches.now) ≡ None) }
 {
-    number_at(matches, "live", LIVE, 64)
+    number_at(matches, LIVE)
 }
 
 /// Where the query stands: just one of its two options says it.
@@ -100,6 +103,24 @@ pub(crate) fn source_in(alloc: Global, matches: &ArgMatches<'_>) -> Result<Query
     }
 }
 
+// Writes what each of the options says to its place among the numbers.
+fn read_numbers(
+    matches: &ArgMatches<'_>,
+    options: &[NumberOption],
+    numbers: &mut [u32],
+) -> Result<(), UsageFault>
+    requires { length numbers.old ≡ length options.now }
+    ensures ok { OnOk result (numbers_said (λ name. first_of name (rows_in matches.now))
+        (map number_seen options.now) ≡ Some numbers.new) }
+    ensures usage { OnErr result (numbers_said (λ name. first_of name (rows_in matches.now))
+        (map number_seen options.now) ≡ None) }
+{
+    for i in 0..options.len() {
+        numbers[i] = number_at(matches, options[i])?;
+    }
+    Ok(())
+}
+
 /// How a run works.
 pub(crate) fn speed_in(alloc: Global, matches: &ArgMatches<'_>) -> Result<Speed, UsageFault>
     ensures ok { IfOk result
@@ -107,9 +128,9 @@ pub(crate) fn speed_in(alloc: Global, matches: &ArgMatches<'_>) -> Result<Speed,
     ensures usage { IfErr result
         (λ e. e ≡ UsageFault.Usage → specs.speed_in (rows_in matches.now) ≡ None) }
 {
-    let instances = number_at(matches, "instances", INSTANCES, 2)?;
-    let live = live_in(matches)?;
-    let batch = number_at(matches, "batch", BATCH, 64)?;
+    let mut numbers = [0; SPEED_NUMBERS.len()];
+    read_numbers(matches, speed_numbers(), &mut numbers)?;
+    let [instances, live, batch, rotate] = numbers;
     let name = value_of(matches, "predictor").unwrap_or("markov");
     let predictor = String::from_str(alloc, name)?;
     Ok(Speed {
@@ -117,5 +138,6 @@ pub(crate) fn speed_in(alloc: Global, matches: &ArgMatches<'_>) -> Result<Speed,
         live,
         batch,
         predictor,
+        rotate,
     })
 }
