@@ -1,9 +1,10 @@
 -- Numbers between two others, and the least and the greatest of them against one.
-use Rattle.std.proofs.Common.{◌≡◌, ℕ, ℤ, pos, ◌-◌, ◌<◌, ◌^◌, ◌≤ℤ◌, ◌<ℤ◌, int_le, int_lt, true, not, List, [], length, get_or, take, sym, ◌+◌, ◌≤◌, ◌∙◌, arith, length-take}
+use Rattle.std.proofs.Common.{◌≡◌, ℕ, ℤ, pos, ◌-◌, ◌<◌, ◌^◌, ◌≤ℤ◌, ◌<ℤ◌, int_le, int_lt, true, not, List, [], ◌∷◌, length, get_or, take, drop, sym, ◌+◌, ◌≤◌, ◌∙◌, arith, length-take}
 use Rattle.std.specs.List.{All}
 use Rattle.std.proofs.lemmas.Int.{ints}
-use Rattle.std.proofs.lemmas.List.{length_push, take_more}
-use Rattle.std.proofs.lemmas.List.Elements.{All-nil, All-push, All-weaker}
+use Rattle.std.proofs.lemmas.List.{length-append, length-drop, length_push, take_more}
+use Rattle.std.proofs.lemmas.List.Elements.{All-append, All-cons, All-drop, All-nil, All-push, All-take, All-weaker}
+use Rattle.sp_plan.specs.Held.{put}
 use Rattle.sp_plan.specs.Holding.{Between}
 use Rattle.sp_plan.specs.Masks.{has}
 use Rattle.sp_plan.proofs.MaskBits.{has-all}
@@ -31,6 +32,17 @@ between_more xs i least greatest least' greatest' few within b la ln ga gn =
       above = All-push (λ (m : ℤ). least' ≤ℤ m) (take i xs) n (wider_above (take i xs) least least' la b.above) ln;
       under = All-push (λ (m : ℤ). m ≤ℤ greatest') (take i xs) n (wider_under (take i xs) greatest greatest' ga b.under) gn;
     })
+
+-- another number at a place, or one more
+pub between_put : (xs : List ℤ) (at : ℕ) (least greatest least' greatest' n : ℤ) → Between xs least greatest → at < 64
+    → least' ≤ℤ least → least' ≤ℤ n → greatest ≤ℤ greatest' → n ≤ℤ greatest' → Between (put xs at n) least' greatest'
+between_put xs at least greatest least' greatest' n b room la ln ga gn = record {
+  few = omega (arith, b.few, room, length-append (take at xs) (n ∷ drop (at + 1) xs), length-take at xs, length-drop (at + 1) xs);
+  above = All-append (λ (m : ℤ). least' ≤ℤ m) (take at xs) (n ∷ drop (at + 1) xs) (All-take (λ (m : ℤ). least' ≤ℤ m) at xs (wider_above xs least least' la b.above))
+      (All-cons (λ (m : ℤ). least' ≤ℤ m) n (drop (at + 1) xs) ln (All-drop (λ (m : ℤ). least' ≤ℤ m) (at + 1) xs (wider_above xs least least' la b.above)));
+  under = All-append (λ (m : ℤ). m ≤ℤ greatest') (take at xs) (n ∷ drop (at + 1) xs) (All-take (λ (m : ℤ). m ≤ℤ greatest') at xs (wider_under xs greatest greatest' ga b.under))
+      (All-cons (λ (m : ℤ). m ≤ℤ greatest') n (drop (at + 1) xs) gn (All-drop (λ (m : ℤ). m ≤ℤ greatest') (at + 1) xs (wider_under xs greatest greatest' ga b.under)));
+}
 
 less_than : (n g t : ℤ) → n ≤ℤ g → g <ℤ t → int_lt n t ≡ true
 less_than n g t h i = grind (arith, ints)

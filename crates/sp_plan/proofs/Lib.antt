@@ -3,6 +3,7 @@ mod HeldSides
 mod MaskBits
 mod Holdings
 mod Columns
+pub mod PutColumns
 mod WorkedHeld
 mod Blocks
 mod Pages

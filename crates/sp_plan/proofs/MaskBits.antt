@@ -170,3 +170,25 @@ seen_before f mask before run count is few next seen so zero below = let same : 
 seen_before f mask before run count is few next seen so (suc k) below =
     let same : before + k ≡ run + suc k = omega arith in
     shifted_more mask k is (omega arith) ∙ seen k (omega arith) ∙ ap f same
+
+-- the bit of one run alone, and all bits but this one
+one_bit : (run other : ℕ) → has (1 * 2 ^ run % 2 ^ 64) other ≡ has (bit_or 0 (1 * 2 ^ run % 2 ^ 64)) other
+one_bit run other = sym (has-or 0 (1 * 2 ^ run % 2 ^ 64) other ∙ ap (λ (t : Bool). t || has (1 * 2 ^ run % 2 ^ 64) other) (has-none other))
+
+pub cleared_same : (mask run : ℕ) → run < 64 → has (bit_and mask (bit_not w64 (1 * 2 ^ run % 2 ^ 64))) run ≡ false
+cleared_same mask run h =
+    has-and mask (bit_not w64 (1 * 2 ^ run % 2 ^ 64)) run
+    ∙ ap (λ (t : Bool). has mask run && t) (has-not (1 * 2 ^ run % 2 ^ 64) run (omega arith) h ∙ ap not (one_bit run run ∙ bit_set 0 run h)) ∙ and_false (has mask run)
+  where
+    and_false : (t : Bool) → (t && false) ≡ false
+    and_false true = refl
+    and_false false = refl
+
+pub cleared_other : (mask run other : ℕ) → run < 64 → other < 64 → (other ≡ run → ⊥) → has (bit_and mask (bit_not w64 (1 * 2 ^ run % 2 ^ 64))) other ≡ has mask other
+cleared_other mask run other h i apart =
+    has-and mask (bit_not w64 (1 * 2 ^ run % 2 ^ 64)) other
+    ∙ ap (λ (t : Bool). has mask other && t) (has-not (1 * 2 ^ run % 2 ^ 64) other (omega arith) i ∙ ap not (one_bit run other ∙ bits_kept 0 run other h apart ∙ has-none other)) ∙ and_true (has mask other)
+  where
+    and_true : (t : Bool) → (t && true) ≡ t
+    and_true true = refl
+    and_true false = refl

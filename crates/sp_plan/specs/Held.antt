@@ -1,5 +1,5 @@
 -- Sides of comparisons that read nothing of the event at hand: what they come to is kept for each run, and compared with the event.
-use Rattle.std.specs.Prelude.{◌≡◌, ℕ, ◌==◌, length, slice_index_or, ℤ, pos, ◌<◌, ◌^◌, ◌-◌, Bool, true, false, ◌||◌, List, [], ◌∷◌, ◌++◌, map, unsigned_abs, if◌then◌else◌}
+use Rattle.std.specs.Prelude.{◌≡◌, ℕ, ◌==◌, length, slice_index_or, ℤ, pos, ◌<◌, ◌+◌, ◌^◌, ◌-◌, take, drop, Bool, true, false, ◌||◌, List, [], ◌∷◌, ◌++◌, map, unsigned_abs, if◌then◌else◌}
 use Rattle.std.specs.Int.{saturate_to_bits}
 use Rattle.std.specs.List.{list_any}
 use Rattle.sp_plan.specs.declared.event.Event.{Event}
@@ -85,6 +85,10 @@ held_column bounds side = map (λ b. held_value b side) bounds
 -- for each held side of a predicate, what it comes to for each of these runs
 abbrev pub held_columns : Pred → List BoundEvents → List (List ℤ)
 held_columns p bounds = map (held_column bounds) (held_sides p)
+
+-- a list with another element at the place; where there is none, with one more behind the others
+abbrev pub put : {X : Type 0} → List X → ℕ → X → List X
+put xs at x = take at xs ++ x ∷ drop (at + 1) xs
 
 -- the same comparison, where its sides change places
 abbrev pub turned : Compare → Compare

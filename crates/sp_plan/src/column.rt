@@ -1,12 +1,12 @@
 // What a held side comes to for each of some runs.
-ghost use Rattle.std.specs.Prelude.{◌≡◌, ℕ, ◌<◌, ◌≤◌, length, pos, slice_index_or, int_le, int_lt, vec_len};
+ghost use Rattle.std.specs.Prelude.{◌≡◌, ℕ, ◌<◌, ◌≤◌, length, pos, slice_index_or, int_le, int_lt, vec_len, OnErr, OnOk};
 ghost use Rattle.std.specs.Ordering.{int_eq};
-ghost use Rattle.sp_plan.specs.Held.{IsInside};
+ghost use Rattle.sp_plan.specs.Held.{IsInside, put};
 ghost use Rattle.sp_plan.specs.Masks.{has};
 ghost use Rattle.sp_plan.specs.Values;
 
-use crate::Compare;
 use crate::masks::{below, equal};
+use crate::{Compare, Memory};
 use std::marker::Model;
 
 /// What a held side comes to for each of at most 64 runs, in their order. Contracts see the list. Beside it
@@ -29,6 +29,19 @@ impl Model for HeldColumn {
     ghost invariant = { λ c. Between c.values.items c.least c.greatest };
 }
 
+// The value at the place becomes this one; where there is none it is put behind the others.
+fn put_value(values: &mut Vec<i64>, at: usize, value: i64) -> Result<(), Memory>
+    ensures put { OnOk result (values.new.items ≡ put values.old.items at value) }
+    ensures err { OnErr result (values.new.items ≡ values.old.items) }
+{
+    if at < values.len() {
+        values[at] = value;
+    } else {
+        values.push(value)?;
+    }
+    Ok(())
+}
+
 impl HeldColumn {
     // These values, of at most 64 runs.
     pub(crate) fn of(values: Vec<i64>) -> HeldColumn
@@ -46,6 +59,19 @@ impl HeldColumn {
             least,
             greatest,
         }
+    }
+
+    // The run at this place has this value from now on; it may be one more run, behind the others. Takes memory for
+    // such a one alone, and after want of it the column is as before.
+    pub(crate) fn put(&mut self, run: usize, value: i64) -> Result<(), Memory>
+        requires { run < 64 }
+        ensures put { OnOk result (self.new ≡ put self.old run value) }
+        ensures err { OnErr result (self.new ≡ self.old) }
+    {
+        put_value(&mut self.values, run, value)?;
+        self.least = self.least.min(value);
+        self.greatest = self.greatest.max(value);
+        Ok(())
     }
 
     // The runs whose values are less.

@@ -1,10 +1,12 @@
 // Sides of comparisons that read nothing of the event at hand, and what they come to.
-ghost use Rattle.std.specs.Prelude.{◌≡◌, ◌≤◌, ◌++◌, false, ◌*ℤ◌, length, map, IfOk, IfSome, OnOk};
+ghost use Rattle.std.specs.Prelude.{◌≡◌, ℤ, ◌+◌, ◌<◌, ◌≤◌, List, [], ◌++◌, false, ◌*ℤ◌, length, map, IfOk, IfSome, OnOk, slice_index_or, slice_set};
+ghost use Rattle.std.specs.Option.{option_copied, option_to_list};
 ghost use Rattle.std.specs.List.{All};
 ghost use Rattle.sp_plan.specs.Held;
-ghost use Rattle.sp_plan.specs.Held.{saturated};
+ghost use Rattle.sp_plan.specs.Held.{put, saturated};
 ghost use Rattle.sp_plan.specs.Bounds as b;
 ghost use Rattle.sp_plan.specs.Values;
+ghost use Rattle.sp_plan.specs.Values.{BoundEvents};
 ghost use Rattle.sp_plan.specs.declared.event.Event.{Event};
 ghost use Rattle.sp_plan.specs.declared.plan.Expr.{Expr};
 
@@ -253,6 +255,96 @@ pub fn hold_columns<R: Binds>(
     let mut columns = Vec::new(alloc);
     add_columns(alloc, pred, event, runs, &mut columns)?;
     Ok(columns)
+}
+
+// The held side of a comparison, where it is parted.
+fn held_side<'a>(left: &'a Expr, right: &'a Expr) -> Option<&'a Expr>
+    ensures { option_to_list (option_copied result)
+        ≡ Held.held_of (Held.sides left.now right.now) left.now right.now }
+{
+    match sides_of(left, right) {
+        Sides::LeftHeld => Some(left),
+        Sides::RightHeld => Some(right),
+        Sides::Near | Sides::Mixed => None,
+    }
+}
+
+// The column at this place has the value for the run from now on. Answers the next place.
+fn put_at(columns: &mut [HeldColumn], at: usize, run: usize, value: i64) -> Result<usize, Memory>
+    requires within { at < length columns.old }
+    requires few { run < 64 }
+    ensures next { IfOk result (λ next. next ≡ at + 1) }
+    ensures size { length columns.new ≡ length columns.old }
+    ensures put { OnOk result (columns.new
+        ≡ slice_set columns.old at (put (slice_index_or columns.old at []) run value)) }
+{
+    columns[at].put(run, value)?;
+    Ok(at + 1)
+}
+
+// The columns of the predicate's parted comparisons, from the first place on, have what their held sides come to over
+// what is bound for the run at a place. Answers the place behind them.
+fn put_values(
+    pred: &Pred,
+    event: &Event,
+    bound: &Bound,
+    run: usize,
+    columns: &mut [HeldColumn],
+    first: usize,
+) -> Result<usize, Memory>
+    requires within { b.PredWithin pred.now }
+    requires event { b.IsSmall event.now }
+    requires bound { b.AllSmall bound.now }
+    requires few { run < 64 }
+    requires room { first + length (Held.held_sides pred.now) ≤ length columns.old }
+    ensures behind { IfOk result (λ next. next ≡ first + length (Held.held_sides pred.now)) }
+    ensures size { length columns.new ≡ length columns.old }
+    ensures put { (bounds : List BoundEvents) (front back : List (List ℤ))
+        → columns.old ≡ front ++ Held.held_columns pred.now bounds ++ back → length front ≡ first
+        → OnOk result (columns.new
+        ≡ front ++ Held.held_columns pred.now (put bounds run bound.now) ++ back) }
+{
+    let mut rest = pred;
+    let mut next = first;
+    loop {
+        match rest {
+            Pred::Always => return Ok(next),
+            Pred::Test { left, right, .. } => {
+                return match held_side(left, right) {
+                    Some(side) => put_at(columns, next, run, held_value(side, event, bound)),
+                    None => Ok(next),
+                };
+            }
+            Pred::And(left, right) | Pred::Or(left, right) => {
+                next = put_values(right, event, bound, run, columns, next)?;
+                rest = left;
+            }
+            Pred::Not(inner) => rest = inner,
+        }
+    }
+}
+
+/// The columns of a predicate's held sides, when the run at this place has bound these events; it may be one run more,
+/// behind the others. Any small event serves as the event at hand: it is not read. Takes memory for one run more
+/// alone; after want of it nothing is known of the columns.
+pub fn hold_run(
+    pred: &Pred,
+    event: &Event,
+    bound: &Bound,
+    run: usize,
+    columns: &mut [HeldColumn],
+) -> Result<(), Memory>
+    requires within { b.PredWithin pred.now }
+    requires event { b.IsSmall event.now }
+    requires bound { b.AllSmall bound.now }
+    requires few { run < 64 }
+    requires room { length (Held.held_sides pred.now) ≤ length columns.old }
+    ensures size { length columns.new ≡ length columns.old }
+    ensures held { (bounds : List BoundEvents) → columns.old ≡ Held.held_columns pred.now bounds
+        → OnOk result (columns.new ≡ Held.held_columns pred.now (put bounds run bound.now)) }
+{
+    put_values(pred, event, bound, run, columns, 0)?;
+    Ok(())
 }
 
 /// Whether a held side of one of the predicate's parted comparisons reads an event that is bound to the name: where

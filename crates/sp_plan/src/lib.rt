@@ -26,12 +26,12 @@ pub use column::HeldColumn;
 pub use eval::{holds, value};
 pub use event::{Event, Value, Values};
 pub use found::Match;
-pub use held::{held_sides_read, hold_columns};
+pub use held::{held_sides_read, hold_columns, hold_run};
 pub use law::{
     fitting_events_are_small, held_sides_stand_alone, known_is_right, plans_are_themselves,
     reading_is_state, same_predicates_hold_alike, what_may_not_hold_does_not,
 };
-pub use masks::{has_bit, with_bit};
+pub use masks::{has_bit, put_bit, with_bit};
 pub use places::Places;
 pub use plan::{
     Column, Compare, Element, Expr, Kind, Length, Name, Opening, Plan, Pred, Schema, Select,

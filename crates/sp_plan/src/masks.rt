@@ -1,5 +1,5 @@
 // Sets of runs as bits of a number.
-ghost use Rattle.std.specs.Prelude.{◌≡◌, ℕ, ◌<◌, ◌≤◌, ◌||◌, length, pos, slice_index_or, int_lt};
+ghost use Rattle.std.specs.Prelude.{◌≡◌, ℕ, ◌<◌, ◌≤◌, ◌||◌, false, length, pos, slice_index_or, int_lt};
 ghost use Rattle.std.specs.Ordering.{int_eq};
 ghost use Rattle.sp_plan.specs.Masks.{has};
 
@@ -20,6 +20,30 @@ pub fn with_bit(mask: u64, run: usize, is: bool) -> u64
     ensures others { (other : ℕ) → (other ≡ run → ⊥) → has result other ≡ has mask other }
 {
     mask | (u64::from(is) << run)
+}
+
+/// A mask that has the bit of a run where this is so, and else lacks it. Its other bits stay.
+#[inline(always)]
+pub fn put_bit(mask: u64, run: usize, is: bool) -> u64
+    requires { run < 64 }
+    ensures same { has result run ≡ is }
+    ensures others { (other : ℕ) → other < 64 → (other ≡ run → ⊥) → has result other ≡ has mask other }
+{
+    if is {
+        with_bit(mask, run, true)
+    } else {
+        without_bit(mask, run)
+    }
+}
+
+// A mask without the bit of a run.
+#[inline(always)]
+fn without_bit(mask: u64, run: usize) -> u64
+    requires { run < 64 }
+    ensures same { has result run ≡ false }
+    ensures others { (other : ℕ) → other < 64 → (other ≡ run → ⊥) → has result other ≡ has mask other }
+{
+    mask & !(1 << run)
 }
 
 // The runs whose values are less. The mask is shifted, so that the bit of each value comes in at the same place.
