@@ -33,6 +33,7 @@ pub mod BeginningIsTaken
 pub mod TakersTell
 pub mod RunsAreHeld
 pub mod RunsGoOn
+pub mod RunsFollow
 pub mod NumbersAreAbove
 -- What is told of runs.
 pub mod MovesAreTold

@@ -1,11 +1,11 @@
 -- What is kept of runs stays where they go on.
-use Rattle.std.proofs.Common.{◌≡◌, ℕ, ◌+◌, ◌-◌, ◌<◌, Bool, true, false, cond, not, ◌||◌, ◌==◌, List, [], ◌∷◌, ◌++◌, map, length, take, get_or, Option, Some, None, refl, sym, ap, subst, ◌∙◌, inl, inr, arith}
+use Rattle.std.proofs.Common.{◌≡◌, ℕ, ◌+◌, ◌-◌, ◌<◌, ◌≤◌, Bool, true, false, cond, not, ◌||◌, ◌==◌, List, [], ◌∷◌, ◌++◌, map, length, take, get_or, Option, Some, None, refl, sym, ap, subst, ◌∙◌, inl, inr, arith}
 use Rattle.std.specs.Prelude.{IfSome, if◌then◌else◌}
 use Rattle.std.specs.Option.{option_map}
 use Rattle.std.specs.List.{All, filter, last_or, list_any, zip}
 use Rattle.std.proofs.lemmas.Bool.{cases_Bool}
 use Rattle.std.proofs.lemmas.Bool.Decides.{nat_tests}
-use Rattle.std.proofs.lemmas.List.{append-nil, get_or-map, length-map, map_push, take_all, take_more}
+use Rattle.std.proofs.lemmas.List.{append-nil, get_or-map, get_or-take, length-map, length-take, map_push, take_all, take_more}
 use Rattle.std.proofs.lemmas.List.Elements.{filter-append}
 use Rattle.sp_base.specs.Numbers.{is_among}
 use Rattle.sp_plan.specs.declared.event.Event.{Event}
@@ -16,21 +16,15 @@ use Rattle.sp_plan.specs.Held.{HeldSidesStandAlone, blank, held_columns}
 use Rattle.sp_plan.specs.Runs.{Pair, again, bound_events, is_bound, is_plus, names_of, unbound, wanted}
 use Rattle.sp_plan.specs.Values.{last_bound}
 use Rattle.sp_match.specs.declared.holdings.Holding.{Holding}
-use Rattle.sp_match.specs.inside.Kept.{Kept, before, but_last, empty, last_under, name_under, pair_of, pairs, started, undone}
-use Rattle.sp_match.specs.inside.Effects.{open_runs}
+use Rattle.sp_match.specs.inside.Kept.{Kept, before, but_last, empty, last_under, name_under, pair_of, pairs, undone}
+use Rattle.sp_match.specs.inside.Effects.{run_at}
 use Rattle.sp_match.specs.inside.Good.{Good, NumbersBelow, Undoes}
 use Rattle.sp_match.specs.inside.Taking.{next_element}
-use Rattle.sp_match.specs.inside.Takers.{AllGoOn, AreHeld, IsRepeated, columns_over, is_read, is_read_by, run_in}
+use Rattle.sp_match.specs.inside.Takers.{AreAlike, AreHeld, GoesOn, IsRepeated, columns_over, is_read, is_read_by, run_in}
 use Rattle.sp_match.proofs.AheadStays.{is_last_bound, same_bound, same_next}
 use Rattle.sp_match.proofs.GrownRunIsGood.{before_below, last_push, looked_for}
 use Rattle.sp_match.proofs.PairsOfRuns.{last_name}
-use Rattle.sp_match.proofs.RunsAreHeld.{same_pairs}
 use Rattle.sp_match.proofs.WantedIsTold.{zip_push}
-
--- Both runs want the same names, and held sides read the same events of them.
-pub record AreAlike (q : Plan) (r s : List Pair) : Type 0 where
-  pub wants : wanted q r ≡ wanted q s
-  pub reads : (name : ℕ) → is_read q name ≡ true → last_bound name (bound_events r) ≡ last_bound name (bound_events s)
 
 abbrev name_of : Option Pair → Option ℕ
 name_of o = option_map (λ (x : Pair). x.name) o
@@ -125,20 +119,18 @@ module _ (q : Plan) (n : ℕ) (k k' : Kept) (good : Good q k) (good' : Good q k'
       one None is so = not_bound is
       one (Some name) is so = bound_again name is so
 
--- so of all runs
-module _ (q : Plan) (n : ℕ) (old new : List Kept) (good : All (Good q) old) (below : All (NumbersBelow n) old) (undoes : Undoes q n old (take (length old) new)) (on : AllGoOn q n (length old) new) where
-  whole : take (length old) new ≡ new
-  whole = take_all (length old) new (omega (arith, on.size))
-
-  alike_at : (at : ℕ) → at < length old → AreAlike q (run_in (map pairs old) at) (run_in (map pairs new) at)
-  alike_at at within =
+-- so of the run at a place
+module _ (q : Plan) (n : ℕ) (old new : List Kept) (good : All (Good q) old) (below : All (NumbersBelow n) old) (undoes : Undoes q n old (take (length old) new)) (long : length old ≤ length new) where
+  pub alike_at : (at : ℕ) → at < length old → GoesOn q n (run_at new at) → AreAlike q (run_in (map pairs old) at) (pairs (run_at new at))
+  alike_at at within on =
       let k = get_or old at (empty 0) in
       let k' = get_or new at (empty 0) in
-      let inside : at < length new = omega (arith, within, on.size) in
-      let good' : Good q k' = subst (λ (l : List Kept). All (Good q) l) whole undoes.good at (empty 0) inside in
-      let back : before n k' ≡ before n k = sym (get_or-map (before n) new at (empty 0) (empty 0) inside) ∙ ap (λ (l : List Kept). get_or l at (empty 0)) (ap (map (before n)) (sym whole) ∙ undoes.before) ∙ get_or-map (before n) old at (empty 0) (empty 0) within in
-      subst (AreAlike q (run_in (map pairs old) at)) (sym (get_or-map pairs new at (empty 0) [] inside)) (subst (λ (r : List Pair). AreAlike q r (pairs k')) (sym (get_or-map pairs old at (empty 0) [] within))
-      (goes q n k k' (good at (empty 0) within) good' (below at (empty 0) within) back (on.runs at (empty 0) inside).bound))
+      let front = take (length old) new in
+      let inside : at < length front = omega (arith, within, long, length-take (length old) new) in
+      let same : get_or front at (empty 0) ≡ k' = get_or-take (length old) new at (empty 0) within in
+      let good' : Good q k' = subst (Good q) same (undoes.good at (empty 0) inside) in
+      let back : before n k' ≡ before n k = ap (before n) (sym same) ∙ sym (get_or-map (before n) front at (empty 0) (empty 0) inside) ∙ ap (λ (l : List Kept). get_or l at (empty 0)) undoes.before ∙ get_or-map (before n) old at (empty 0) (empty 0) within in
+      subst (λ (r : List Pair). AreAlike q r (pairs k')) (sym (get_or-map pairs old at (empty 0) [] within)) (goes q n k k' (good at (empty 0) within) good' (below at (empty 0) within) back on.bound)
 
 -- what is kept is the same of runs that are alike
 module _ (alone : HeldSidesStandAlone) (q : Plan) (rs ss : List (List Pair)) (size : length rs ≡ length ss) (alike : (at : ℕ) → at < length rs → AreAlike q (run_in rs at) (run_in ss at)) where
@@ -165,13 +157,3 @@ module _ (alone : HeldSidesStandAlone) (q : Plan) (rs ss : List (List Pair)) (si
     columns = held.columns ∙ columns_same q.names (λ name is. is);
     reads = held.reads;
   }
-
--- the runs that are left when an event was handled, where all go on
-pub pairs_left : (q : Plan) (n : ℕ) (settled new : List Kept) (count : ℕ) → map started settled ≡ open_runs new → AllGoOn q n count new → map pairs new ≡ map pairs settled
-pairs_left q n settled new count is on = same_pairs settled new new is refl (λ at d within. (on.runs at d within).idle)
-
-pub held_on_going : (alone : HeldSidesStandAlone) (q : Plan) (n : ℕ) (old new settled : List Kept) (hs : List Holding) → All (Good q) old → All (NumbersBelow n) old → Undoes q n old (take (length old) new) → AllGoOn q n (length old) new
-    → map started settled ≡ open_runs new → AreHeld q (map pairs old) hs → AreHeld q (map pairs settled) hs
-held_on_going alone q n old new settled hs good below undoes on is held =
-    subst (λ (l : List (List Pair)). AreHeld q l hs) (pairs_left q n settled new (length old) is on)
-    (held_same alone q (map pairs old) (map pairs new) (length-map old pairs ∙ sym on.size ∙ sym (length-map new pairs)) (λ at within. alike_at q n old new good below undoes on at (omega (arith, within, length-map old pairs))) hs held)

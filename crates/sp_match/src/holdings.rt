@@ -1,22 +1,29 @@
 // What is kept beside the open runs, so that a predicate is asked once for all of them.
-ghost use Rattle.std.specs.Prelude.{◌≡◌, ◌⊎◌, ℕ, ◌<◌, ◌≤◌, List, length, map, true, false, slice_index_or, IfOk, IsTrue, OnOk};
+ghost use Rattle.std.specs.Prelude.{◌≡◌, ℕ, ◌<◌, ◌≤◌, Bool, List, length, map, true, false, slice_index_or, IfOk, IsTrue, OnOk};
 ghost use Rattle.std.specs.List.{All};
 ghost use Rattle.sp_plan.specs.Bounds.{IsSmall, PredWithin};
 ghost use Rattle.sp_plan.specs.Compiled.{IsCompiled};
-ghost use Rattle.sp_plan.specs.Held.{held_columns};
+ghost use Rattle.sp_plan.specs.Held.{held_columns, put};
 ghost use Rattle.sp_plan.specs.Masks.{has};
 ghost use Rattle.sp_plan.specs.declared.plan.Plan.{Plan};
 ghost use Rattle.sp_plan.specs.Runs as definitions;
 ghost use Rattle.sp_plan.specs.Runs.{bound_events};
-ghost use Rattle.sp_match.specs.inside.Kept.{all_kept, kept, pairs};
+ghost use Rattle.sp_plan.specs.Values.{BoundEvents};
+ghost use Rattle.sp_match.specs.inside.Kept.{Kept, all_kept, kept, pairs};
 ghost use Rattle.sp_match.specs.inside.Good.{Good};
-ghost use Rattle.sp_match.specs.inside.Takers.{AllGoOn, AreHeld, GoesOn, IsHeld, is_wanted, reads_of, run_in};
+ghost use Rattle.sp_match.specs.inside.Takers.{AreAlike, AreGrown, AreHeld, GoesOn, IsHeld, columns_under, is_wanted, reads_of, run_in};
+ghost use Rattle.sp_match.specs.inside.Going.{IsIdle};
+ghost use Rattle.sp_match.specs.inside.Offer.{IsOffer};
 ghost use Rattle.sp_match.specs.inside.Takers as takers;
 
 use crate::Memory;
+use crate::offer::Offer;
 use crate::run::Run;
 use crate::taking::wants;
-use sp_plan::{Event, HeldColumn, Name, Plan, Pred, held_sides_read, hold_columns, with_bit};
+use sp_plan::{
+    Event, HeldColumn, Name, Plan, Pred, held_sides_read, hold_columns, hold_run, law, put_bit,
+    with_bit,
+};
 use std::alloc::Global;
 
 /// What is kept of a name of the plan.
@@ -114,6 +121,60 @@ fn keep(
     Ok(())
 }
 
+// What is kept of a name follows the run at this place, which may be one more, behind the others. After want of memory
+// nothing is known of it.
+fn keep_name(
+    plan: &Plan,
+    event: &Event,
+    run: &Run,
+    at: usize,
+    name: usize,
+    holding: &mut Holding,
+) -> Result<(), Memory>
+    requires compiled { IsCompiled plan.now }
+    requires small { IsSmall event.now }
+    requires good { Good plan.now (kept run.now) }
+    requires few { at < 64 }
+    requires named { name < length plan.now.names }
+    requires held { (bounds : List BoundEvents)
+        × (holding.old.columns.items ≡ columns_under plan.now name bounds) }
+    ensures read { holding.new.is_read ≡ holding.old.is_read }
+    ensures here { has holding.new.wanting at
+        ≡ is_wanted plan.now (pairs (kept run.now)) name }
+    ensures others { (other : ℕ) → other < 64 → (other ≡ at → ⊥)
+        → has holding.new.wanting other ≡ has holding.old.wanting other }
+    ensures columns { (bounds : List BoundEvents)
+        → holding.old.columns.items ≡ columns_under plan.now name bounds
+        → OnOk result (holding.new.columns.items ≡ columns_under plan.now name
+        (put bounds at (bound_events (pairs (kept run.now))))) }
+{
+    holding.wanting = put_bit(holding.wanting, at, wants(plan, run, name as u8));
+    let pred = &plan.names.as_slice()[name].pred;
+    hold_run(pred, event, &run.events, at, &mut holding.columns)
+}
+
+// What is kept of each name does.
+fn keep_run(
+    plan: &Plan,
+    event: &Event,
+    run: &Run,
+    at: usize,
+    held: &mut [Holding],
+) -> Result<(), Memory>
+    requires compiled { IsCompiled plan.now }
+    requires small { IsSmall event.now }
+    requires good { Good plan.now (kept run.now) }
+    requires few { at < 64 }
+    requires held { (rs : List definitions.Run) × AreHeld plan.now rs held.old }
+    ensures { (rs : List definitions.Run) → AreHeld plan.now rs held.old → at ≤ length rs
+        → OnOk result (AreHeld plan.now (put rs at (pairs (kept run.now))) held.new) }
+{
+    for name in 0..plan.names.as_slice().len() {
+        keep_name(plan, event, run, at, name, &mut held[name])?;
+    }
+    Ok(())
+}
+
 impl Holdings {
     // Nothing is kept. Takes no memory.
     pub(crate) fn new(alloc: Global) -> Holdings
@@ -157,24 +218,28 @@ impl Holdings {
         self.is_fresh = false;
     }
 
-    // An event of this number was handled, when so many runs were open: what is kept stays fresh where these go
-    // on as they were. Answers whether it is known that they do; the runs that don't stay are still there.
+    // An event was handled, when so many runs were open: what is kept stays fresh where all of them stay, and follows
+    // those that bound the event. Answers whether it is known that they stay; the runs that don't are still there.
     pub(crate) fn outlive(
         &mut self,
+        offer: &Offer,
         runs: &[Run],
         count: usize,
-        number: u32,
         is_quiet: bool,
     ) -> bool
-        ensures on { (q : Plan) (rs : List definitions.Run) → IsTrue result
-            → IsHeld q rs self.old → (IsTrue is_quiet ⊎ AllGoOn q number count (all_kept runs.now)) }
-        ensures held { IsTrue result → self.new ≡ self.old }
+        requires offer { IsOffer offer.now }
+        requires good { All (Good offer.now.plan.now) (all_kept runs.now) }
+        requires was { (old : List Kept)
+            × AreGrown offer.now.plan.now offer.now.number count is_quiet old (all_kept runs.now)
+            × IsHeld offer.now.plan.now (map pairs old) self.old }
+        ensures idle { IsTrue result → All IsIdle (all_kept runs.now) }
+        ensures held { IsHeld offer.now.plan.now (map pairs (all_kept runs.now)) self.new }
         ensures stale { result ≡ false → self.new.is_fresh ≡ false }
     {
         if is_quiet {
             return true;
         }
-        self.is_fresh = self.is_fresh && all_go_on(runs, count, number, &self.names);
+        self.is_fresh = self.is_fresh && all_follow(offer, runs, count, &mut self.names);
         self.is_fresh
     }
 }
@@ -204,16 +269,49 @@ fn goes_on(run: &Run, number: u32, held: &[Holding]) -> bool
     }
 }
 
-// Whether all runs do, and are so many.
-fn all_go_on(runs: &[Run], count: usize, number: u32, held: &[Holding]) -> bool
-    ensures { (q : Plan) (rs : List definitions.Run) → AreHeld q rs held.now
-        → IsTrue result → AllGoOn q number count (all_kept runs.now) }
+// What is kept follows the run at this place, if the run stays; `is_old` says whether it was open when the event came.
+// Where the run goes on as it was, that is done.
+#[inline(always)]
+fn follow(offer: &Offer, run: &Run, at: usize, is_old: bool, held: &mut [Holding]) -> bool
+    requires offer { IsOffer offer.now }
+    requires good { Good offer.now.plan.now (kept run.now) }
+    requires few { at < 64 }
+    requires held { (rs : List definitions.Run) × AreHeld offer.now.plan.now rs held.old }
+    ensures idle { IsTrue result → IsIdle (kept run.now) }
+    ensures held { (rs : List definitions.Run) → AreHeld offer.now.plan.now rs held.old
+        → at ≤ length rs
+        → (IsTrue is_old → GoesOn offer.now.plan.now offer.now.number (kept run.now)
+        → (at < length rs) × AreAlike offer.now.plan.now (run_in rs at) (pairs (kept run.now)))
+        → IsTrue result
+        → AreHeld offer.now.plan.now (put rs at (pairs (kept run.now))) held.new }
 {
-    if runs.len() != count {
+    // What a run binds that no held side reads changes nothing of what is kept.
+    law::held_sides_stand_alone();
+    if is_old && goes_on(run, offer.number, held) {
+        return true;
+    }
+    if !run.stays() {
+        return false;
+    }
+    keep_run(offer.plan, offer.event, run, at, held).is_ok()
+}
+
+// What is kept follows all runs, if they stay; so many of them were open when the event came.
+fn all_follow(offer: &Offer, runs: &[Run], count: usize, held: &mut [Holding]) -> bool
+    requires offer { IsOffer offer.now }
+    requires good { All (Good offer.now.plan.now) (all_kept runs.now) }
+    requires was { (is_quiet : Bool) × (old : List Kept)
+        × AreGrown offer.now.plan.now offer.now.number count is_quiet old (all_kept runs.now)
+        × AreHeld offer.now.plan.now (map pairs old) held.old }
+    ensures idle { IsTrue result → All IsIdle (all_kept runs.now) }
+    ensures held { IsTrue result
+        → AreHeld offer.now.plan.now (map pairs (all_kept runs.now)) held.new }
+{
+    if runs.len() < count || runs.len() > 64 {
         return false;
     }
     for at in 0..runs.len() {
-        if !goes_on(&runs[at], number, held) {
+        if !follow(offer, &runs[at], at, at < count, held) {
             return false;
         }
     }

@@ -227,11 +227,11 @@ impl Matcher {
             Ok(started) => {
                 let is_quiet = moves.list.is_empty();
                 end_event(
+                    &offer,
                     &mut self.runs,
                     &mut self.stock,
                     &mut self.holdings,
                     open,
-                    number,
                     is_quiet,
                 );
                 self.count = count_after(self.count, started);

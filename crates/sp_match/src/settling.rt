@@ -2,17 +2,17 @@
 ghost use Rattle.std.specs.Prelude.{◌≡◌, List, [], IsTrue, OnSome, ◌<◌, filter, length, map, take};
 ghost use Rattle.std.specs.List.{All};
 ghost use Rattle.sp_plan.specs.declared.plan.Plan.{Plan};
-ghost use Rattle.sp_plan.specs.Runs as definitions;
 ghost use Rattle.sp_match.specs.inside.Kept.{Kept, all_kept, pairs, started, before, stays, CanUndo};
-ghost use Rattle.sp_match.specs.inside.Good.{Good, Undoes};
-ghost use Rattle.sp_match.specs.inside.Going.{IsIdle, IsSet};
+ghost use Rattle.sp_match.specs.inside.Good.{Good};
+ghost use Rattle.sp_match.specs.inside.Going.{IsIdle};
 ghost use Rattle.sp_match.specs.inside.Effects.{open_runs};
-ghost use Rattle.sp_match.specs.inside.Takers.{IsHeld};
+ghost use Rattle.sp_match.specs.inside.Takers.{AreGrown, IsHeld};
+ghost use Rattle.sp_match.specs.inside.Offer.{IsOffer};
 
 use crate::holdings::Holdings;
+use crate::offer::Offer;
 use crate::run::Run;
 use crate::stock::Stock;
-use sp_plan::law;
 
 /// The runs are as before the event of this number, where so many were there then.
 pub(crate) fn undo(runs: &mut Vec<Run>, count: usize, number: u32)
@@ -69,30 +69,27 @@ fn settle(runs: &mut Vec<Run>, stock: &mut Stock, all_stay: bool)
     }
 }
 
-/// The event of this number was handled, when so many runs were open: the runs that stay go on, and the others
-/// are dropped. Where it did nothing to any run they aren't gone through. What is kept beside them stays fresh
-/// where they go on as they were.
+/// An event was handled, when so many runs were open: the runs that stay go on, and the others are dropped. Where it did
+/// nothing to any run they aren't gone through. What is kept beside them stays fresh where all of them stay.
 pub(crate) fn end_event(
+    offer: &Offer,
     runs: &mut Vec<Run>,
     stock: &mut Stock,
     holdings: &mut Holdings,
     count: usize,
-    number: u32,
     is_quiet: bool,
 )
-    requires quiet { IsTrue is_quiet → All IsIdle (all_kept runs.old.items) }
-    requires held { (q : Plan) × (rs : List definitions.Run) × IsHeld q rs holdings.old }
+    requires offer { IsOffer offer.now }
+    requires good { All (Good offer.now.plan.now) (all_kept runs.old.items) }
+    requires was { (old : List Kept)
+        × AreGrown offer.now.plan.now offer.now.number count is_quiet old (all_kept runs.old.items)
+        × IsHeld offer.now.plan.now (map pairs old) holdings.old }
     ensures runs { map started (all_kept runs.new.items) ≡ open_runs (all_kept runs.old.items) }
     ensures good { (q : Plan) → All (Good q) (all_kept runs.old.items)
         → All (Good q) (all_kept runs.new.items) }
     ensures idle { All IsIdle (all_kept runs.new.items) }
-    ensures held { (q : Plan) (old : List Kept) → IsSet q number old → length old ≡ count
-        → Undoes q number old (take (length old) (all_kept runs.old.items))
-        → (IsTrue is_quiet → all_kept runs.old.items ≡ old) → IsHeld q (map pairs old) holdings.old
-        → IsHeld q (map pairs (all_kept runs.new.items)) holdings.new }
+    ensures held { IsHeld offer.now.plan.now (map pairs (all_kept runs.new.items)) holdings.new }
 {
-    // What a run binds that no held side reads changes nothing of what is kept.
-    law::held_sides_stand_alone();
-    let go_on = holdings.outlive(runs, count, number, is_quiet);
-    settle(runs, stock, go_on);
+    let all_stay = holdings.outlive(offer, runs, count, is_quiet);
+    settle(runs, stock, all_stay);
 }

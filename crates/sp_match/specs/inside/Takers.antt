@@ -1,7 +1,7 @@
 -- What a matcher keeps beside its open runs, and which of them take an event: in bits, of which bit i is that of the run at place i.
-use Rattle.std.specs.Prelude.{◌≡◌, ℕ, ℤ, ◌<◌, ◌≤◌, Bool, true, false, ◌&&◌, List, [], length, map, None, Some, IfSome, slice_index_or}
+use Rattle.std.specs.Prelude.{◌≡◌, ℕ, ℤ, ◌<◌, ◌≤◌, Bool, true, false, ◌&&◌, List, [], length, map, take, None, Some, IfSome, slice_index_or}
 use Rattle.std.specs.Option.{option_map}
-use Rattle.std.specs.List.{All, last_or, list_any}
+use Rattle.std.specs.List.{last_or, list_any}
 use Rattle.sp_base.specs.Numbers.{is_among}
 use Rattle.sp_plan.specs.declared.event.Event.{Event}
 use Rattle.sp_plan.specs.declared.plan.Name.{Name}
@@ -9,11 +9,13 @@ use Rattle.sp_plan.specs.declared.plan.Plan.{Plan}
 use Rattle.sp_plan.specs.Held.{held_columns, held_sides_read}
 use Rattle.sp_plan.specs.Masks.{has}
 use Rattle.sp_plan.specs.Runs.{Run, bound_events, name_holds, takes, wanted}
+use Rattle.sp_plan.specs.Values.{BoundEvents, last_bound}
 use Rattle.sp_match.specs.declared.holdings.Holding.{Holding}
 use Rattle.sp_match.specs.declared.holdings.Holdings.{Holdings}
 use Rattle.sp_match.specs.declared.takers.Takers.{Takers}
 use Rattle.sp_match.specs.inside.Kept.{Kept, but_last, last_under}
-use Rattle.sp_match.specs.inside.Going.{IsIdle}
+use Rattle.sp_match.specs.inside.Good.{Undoes}
+use Rattle.sp_match.specs.inside.Going.{IsIdle, IsSet}
 
 -- the run at a place
 abbrev pub run_in : List Run → ℕ → Run
@@ -55,6 +57,10 @@ is_read q name = list_any (is_read_by name) q.names
 abbrev pub reads_of : List Holding → List Bool
 reads_of hs = map (λ (h : Holding). h.is_read) hs
 
+-- what the held sides of a name's predicate come to for runs that have bound these events
+abbrev pub columns_under : Plan → ℕ → List BoundEvents → List (List ℤ)
+columns_under q name bounds = slice_index_or (map (λ (x : Name). held_columns x.pred bounds) q.names) name []
+
 -- the columns that are kept
 abbrev pub columns_of : List Holding → List (List (List ℤ))
 columns_of hs = map (λ (h : Holding). h.columns.items) hs
@@ -90,7 +96,14 @@ pub record GoesOn (q : Plan) (n : ℕ) (k : Kept) : Type 0 where
   pub idle : IsIdle k
   pub bound : IfSome (last_under n k) (λ name. IsRepeated q name k)
 
--- So do all runs, which are as many as before.
-pub record AllGoOn (q : Plan) (n count : ℕ) (ks : List Kept) : Type 0 where
-  pub size : length ks ≡ count
-  pub runs : All (GoesOn q n) ks
+-- Both runs want the same names, and held sides read the same events of them.
+pub record AreAlike (q : Plan) (r s : Run) : Type 0 where
+  pub wants : wanted q r ≡ wanted q s
+  pub reads : (name : ℕ) → is_read q name ≡ true → last_bound name (bound_events r) ≡ last_bound name (bound_events s)
+
+-- The runs are those after the event of the number n, of which so many were open when it came: these can be made as they were, and are so where nothing was done.
+pub record AreGrown (q : Plan) (n count : ℕ) (is_quiet : Bool) (old new : List Kept) : Type 0 where
+  pub set : IsSet q n old
+  pub size : length old ≡ count
+  pub undoes : Undoes q n old (take count new)
+  pub quiet : is_quiet ≡ true → new ≡ old

@@ -4,11 +4,12 @@ use Rattle.sp_plan.specs.declared.plan.Plan.{Plan}
 use Rattle.sp_plan.specs.Windows.{Numbered}
 use Rattle.sp_match.specs.public.Laws.{Below}
 use Rattle.sp_match.specs.public.Matching.{Matching, runs_of}
-use Rattle.sp_match.specs.inside.Kept.{kept, started}
+use Rattle.sp_match.specs.inside.Kept.{kept, pairs, started}
 use Rattle.sp_match.proofs.RunsAreHeld.{held_on, nothing_told}
 use Rattle.std.proofs.lemmas.List.{length-map}
 use Rattle.sp_match.specs.inside.Good.{Undoes}
 use Rattle.sp_match.specs.inside.Going.{IsReady, IsSet}
+use Rattle.sp_match.specs.inside.Takers.{AreGrown, IsHeld}
 use Rattle.sp_match.specs.inside.Keeping.{IsKept}
 use Rattle.sp_match.specs.inside.Handling.{count_after}
 use Rattle.sp_match.specs.public.Seen.{seen}
@@ -24,6 +25,23 @@ handle_all-requires-clause-ready g c =
     subst (λ (q : Plan). IsReady q c.args.number count ks) (sym c.deref-3.ensures)
     (ready (arc_value c.self.inside.plan) c.args.number count ks c.self.invariant.0 (subst (λ (m : Matching). Below c.args.number (runs_of m)) (sym c.self.view_is) c.requires.below))
 
+pub end_event-requires-clause-was : goal.end_event-requires-clause-was
+end_event-requires-clause-was g c =
+    let q = arc_value c.self.inside.plan in
+    let old = map kept c.self.inside.runs.items in
+    let new = map kept c.handle_all.new.runs.items in
+    let count = c.self.inside.count in
+    let told = nothing_told c.handle_all.new.moves.list.items c.handle_all.new.moves.list.len c.is_empty-is_quiet.result c.is_empty-is_quiet.ensures c.handle_all.new.moves.list.ok.0 in
+    let many : c.len-open.result ≡ length c.self.inside.runs.items = c.len-open.ensures ∙ c.self.inside.runs.ok.0 in
+    let set : IsSet q c.args.number old = (count, ready q c.args.number count old c.self.invariant.0 (subst (λ (m : Matching). Below c.args.number (runs_of m)) (sym c.self.view_is) c.requires.below)) in
+    let grown : AreGrown c.deref-3.result.now c.args.number c.len-open.result c.is_empty-is_quiet.result old new = record {
+      set = subst (λ (p : Plan). IsSet p c.args.number old) (sym c.deref-3.ensures) set;
+      size = length-map c.self.inside.runs.items kept ∙ sym many;
+      undoes = subst (λ (n : ℕ). Undoes c.deref-3.result.now c.args.number old (take n new)) (sym many) c.in-Ok.ensures.undoes;
+      quiet = λ quiet. c.in-Ok.ensures.quiet (told quiet);
+    } in
+    (old, grown, held_on c.deref.result.now c.deref-3.result.now c.deref-2.result.now c.self.inside.runs.items c.takers_of-is_told.new.holdings (c.deref.ensures ∙ sym c.deref-3.ensures) c.deref-2.ensures.value c.takers_of-is_told.ensures.held)
+
 pub invariant_of-self : goal.invariant_of-self
 invariant_of-self g c =
     let q = arc_value c.self.inside.plan in
@@ -35,15 +53,7 @@ invariant_of-self g c =
     let kept_so = subst (λ (n : ℕ). IsKept q n settled) (sym c.count_after-self-inside.ensures)
     (kept_after q c.deref-3.result.now x count old c.in-Ok.started (map kept c.handle_all.new.runs.items) settled (map seen c.handle_all.new.moves.list.items) c.args.self.now after c.deref-3.ensures c.self.view_is c.self.invariant.0
     c.in-Ok.ensures.handled c.end_event.ensures.runs refl (c.end_event.ensures.good c.deref-3.result.now c.in-Ok.ensures.handled.good) c.end_event.ensures.idle) in
-    let told = nothing_told c.handle_all.new.moves.list.items c.handle_all.new.moves.list.len c.is_empty-is_quiet.result c.is_empty-is_quiet.ensures c.handle_all.new.moves.list.ok.0 in
-    let long = length-map c.self.inside.runs.items kept in
-    let set : IsSet q c.args.number old = (count, ready q c.args.number count old c.self.invariant.0 (subst (λ (m : Matching). Below c.args.number (runs_of m)) (sym c.self.view_is) c.requires.below)) in
-    let undoes = subst (λ (p : Plan). Undoes p c.args.number old (take (length old) (map kept c.handle_all.new.runs.items))) c.deref-3.ensures
-    (subst (λ (n : ℕ). Undoes c.deref-3.result.now c.args.number old (take n (map kept c.handle_all.new.runs.items))) (sym long) c.in-Ok.ensures.undoes) in (
-      kept_so,
-      c.end_event.ensures.held q old set (long ∙ sym (c.len-open.ensures ∙ c.self.inside.runs.ok.0)) undoes (λ quiet. c.in-Ok.ensures.quiet (told quiet))
-          (held_on c.deref.result.now q c.deref-2.result.now c.self.inside.runs.items c.takers_of-is_told.new.holdings c.deref.ensures c.deref-2.ensures.value c.takers_of-is_told.ensures.held),
-    )
+    (kept_so, subst (λ (p : Plan). IsHeld p (map pairs settled) c.end_event.new.holdings) c.deref-3.ensures c.end_event.ensures.held)
 
 pub returns-in-Ok : goal.returns-in-Ok
 returns-in-Ok g c =
