@@ -60,6 +60,7 @@ went_none n batch old new same = subst (λ (z : Running). Went n batch old z) (s
   few = λ few. few;
   within = within_itself n batch old;
   tickets = omega arith;
+  finished = omega arith;
 })
 
 pub goes_none : (n : ℕ) (old new : Running) → new ≡ old → Goes n old new
@@ -89,6 +90,7 @@ went_then n batch a b c goes first then = record {
   few = λ few. then.few (first.few few);
   within = within_then n batch a b c first.few first.within then.within;
   tickets = le_trans first.tickets then.tickets;
+  finished = le_trans first.finished then.finished;
 }
 
 -- what a step that is done leads to
@@ -103,65 +105,77 @@ fed_more journal x none =
 pub readings_more : (journal : List Entry) (e : Entry) → readings_entered (journal ++ e ∷ []) ≡ readings_entered journal + cond (is_reading e.step) 1 0
 readings_more journal e = sum_by_push (λ (x : Entry). cond (is_reading x.step) 1 0) journal e
 
--- the next ticket's number never falls
-next_rolled : (m : Machine) (o : Option Version) → m.next_ticket ≤ (rolled m o).next_ticket
-next_rolled m None = omega arith
-next_rolled m (Some v) = omega arith
+-- neither the next ticket's number falls nor the count of windows that are finished
+pub record Rises (m n : Machine) : Type 0 where
+  pub tickets : m.next_ticket ≤ n.next_ticket
+  pub finished : m.finished ≤ n.finished
 
-next_child : (m : Machine) (p : ℕ) (label : List ℕ) (o : Option Version) → m.next_ticket ≤ (child_spawned m p label o).next_ticket
-next_child m p label None = omega arith
-next_child m p label (Some u) = omega arith
+rises_itself : (m : Machine) → Rises m m
+rises_itself m = record { tickets = omega arith; finished = omega arith }
 
-next_spawned : (m : Machine) (parent : Option ℕ) (label : List ℕ) → m.next_ticket ≤ (any_spawned m parent label).next_ticket
-next_spawned m None label = omega arith
-next_spawned m (Some p) label = next_child m p label (version_at m.versions p)
+rises_then : (a b c : Machine) → Rises a b → Rises b c → Rises a c
+rises_then a b c first then = record { tickets = le_trans first.tickets then.tickets; finished = le_trans first.finished then.finished }
 
-next_leased : (q : Plan) (m : Machine) (n : ℕ) (o : Option Version) → m.next_ticket ≤ (leased q m n o).next_ticket
-next_leased q m n None = omega arith
-next_leased q m n (Some v) = omega arith
+rises_rolled : (m : Machine) (o : Option Version) → Rises m (rolled m o)
+rises_rolled m None = rises_itself m
+rises_rolled m (Some v) = record { tickets = omega arith; finished = omega arith }
 
-next_home : (q : Plan) (m : Machine) (n : ℕ) (t : Ticket) (o : Option Version) → m.next_ticket ≤ (home q m n t o).next_ticket
-next_home q m n t None = omega arith
-next_home q m n t (Some v) = omega arith
+rises_child : (m : Machine) (p : ℕ) (label : List ℕ) (o : Option Version) → Rises m (child_spawned m p label o)
+rises_child m p label None = rises_itself m
+rises_child m p label (Some u) = record { tickets = omega arith; finished = omega arith }
 
-next_returned : (q : Plan) (m : Machine) (n : ℕ) (o : Option Ticket) → m.next_ticket ≤ (returned q m n o).next_ticket
-next_returned q m n None = omega arith
-next_returned q m n (Some t) = next_home q m n t (version_at m.versions t.version)
+rises_spawned : (m : Machine) (parent : Option ℕ) (label : List ℕ) → Rises m (any_spawned m parent label)
+rises_spawned m None label = record { tickets = omega arith; finished = omega arith }
+rises_spawned m (Some p) label = rises_child m p label (version_at m.versions p)
 
-next_settled : (q : Plan) (m : Machine) (o : Option Version) → m.next_ticket ≤ (settled q m o).next_ticket
-next_settled q m None = omega arith
-next_settled q m (Some v) = by (is_some (conflict q m v))
+rises_leased : (q : Plan) (m : Machine) (n : ℕ) (o : Option Version) → Rises m (leased q m n o)
+rises_leased q m n None = rises_itself m
+rises_leased q m n (Some v) = record { tickets = omega arith; finished = omega arith }
+
+rises_home : (q : Plan) (m : Machine) (n : ℕ) (t : Ticket) (o : Option Version) → Rises m (home q m n t o)
+rises_home q m n t None = record { tickets = omega arith; finished = omega arith }
+rises_home q m n t (Some v) = record { tickets = omega arith; finished = omega arith }
+
+rises_returned : (q : Plan) (m : Machine) (n : ℕ) (o : Option Ticket) → Rises m (returned q m n o)
+rises_returned q m n None = rises_itself m
+rises_returned q m n (Some t) = rises_home q m n t (version_at m.versions t.version)
+
+rises_settled : (q : Plan) (m : Machine) (o : Option Version) → Rises m (settled q m o)
+rises_settled q m None = rises_itself m
+rises_settled q m (Some v) = by (is_some (conflict q m v))
   where
-    by : (b : Bool) → m.next_ticket ≤ (cond b (rolled m (Some v)) m).next_ticket
-    by true = omega arith
-    by false = omega arith
+    by : (b : Bool) → Rises m (cond b (rolled m (Some v)) m)
+    by true = rises_rolled m (Some v)
+    by false = rises_itself m
 
-next_finished : (q : Plan) (m : Machine) (o : Option Version) → m.next_ticket ≤ (finished_one q m o).next_ticket
-next_finished q m None = omega arith
-next_finished q m (Some v) = next_settled q (popped q m v) (root_in (popped q m v).versions)
+rises_finished : (q : Plan) (m : Machine) (o : Option Version) → Rises m (finished_one q m o)
+rises_finished q m None = rises_itself m
+rises_finished q m (Some v) =
+    rises_then m (popped q m v) (finished_one q m (Some v)) (record { tickets = omega arith; finished = omega arith })
+    (rises_settled q (popped q m v) (root_in (popped q m v).versions))
 
-next_after : (q : Plan) (m : Machine) (x : Step) → m.next_ticket ≤ (effect q m x).next_ticket
-next_after q m (s.Feed e) = omega arith
-next_after q m s.End = omega arith
-next_after q m (s.Spawn parent label) = next_spawned m parent label
-next_after q m (s.Lease id n) = next_leased q m n (version_at m.versions id)
-next_after q m (s.Event n) = omega arith
-next_after q m (s.Return n) = next_returned q m n (ticket_at m.tickets n)
-next_after q m (s.Roll id) = next_rolled m (version_at m.versions id)
-next_after q m s.Finish = next_finished q m (root_in m.versions)
+rises_after : (q : Plan) (m : Machine) (x : Step) → Rises m (effect q m x)
+rises_after q m (s.Feed e) = record { tickets = omega arith; finished = omega arith }
+rises_after q m s.End = record { tickets = omega arith; finished = omega arith }
+rises_after q m (s.Spawn parent label) = rises_spawned m parent label
+rises_after q m (s.Lease id n) = rises_leased q m n (version_at m.versions id)
+rises_after q m (s.Event n) = record { tickets = omega arith; finished = omega arith }
+rises_after q m (s.Return n) = rises_returned q m n (ticket_at m.tickets n)
+rises_after q m (s.Roll id) = rises_rolled m (version_at m.versions id)
+rises_after q m s.Finish = rises_finished q m (root_in m.versions)
 
-pub next_done : (x : Step) (old new : Running) → IsDone x old new → old.machine.next_ticket ≤ new.machine.next_ticket
-next_done x old new done =
-    subst (λ (z : Running). old.machine.next_ticket ≤ z.machine.next_ticket) (sym done.1) (next_after old.plan old.machine x)
+pub rises_done : (x : Step) (old new : Running) → IsDone x old new → Rises old.machine new.machine
+rises_done x old new done = subst (λ (z : Running). Rises old.machine z.machine) (sym done.1) (rises_after old.plan old.machine x)
 
-next_unless : (o : Option Refusal) (m n : Machine) → m.next_ticket ≤ n.next_ticket → m.next_ticket ≤ (unless_refused o m n).next_ticket
-next_unless None m n rises = rises
-next_unless (Some refusal) m n rises = omega arith
+rises_unless : (o : Option Refusal) (m n : Machine) → Rises m n → Rises m (unless_refused o m n)
+rises_unless None m n rises = rises
+rises_unless (Some refusal) m n rises = rises_itself m
 
-next_steps : (q : Plan) (bound : ℕ) (m : Machine) (xs : List Step) → m.next_ticket ≤ (steps q bound m xs).next_ticket
-next_steps q bound m [] = omega arith
-next_steps q bound m (x ∷ xs) =
-    le_trans (next_unless (refusal q bound m x) m (effect q m x) (next_after q m x)) (next_steps q bound (step q bound m x) xs)
+rises_steps : (q : Plan) (bound : ℕ) (m : Machine) (xs : List Step) → Rises m (steps q bound m xs)
+rises_steps q bound m [] = rises_itself m
+rises_steps q bound m (x ∷ xs) =
+    rises_then m (step q bound m x) (steps q bound (step q bound m x) xs) (rises_unless (refusal q bound m x) m (effect q m x) (rises_after q m x))
+    (rises_steps q bound (step q bound m x) xs)
 
 -- the states of an entry whose step is done once
 once_few : (q : Plan) (bound n : ℕ) (m : Machine) (x : Step) → out_count m ≤ n + 1 → out_count (step q bound m x) ≤ n + 1 → (times : ℕ) → times ≤ 1
@@ -230,7 +244,8 @@ went_step n batch x more old new known fits done lease none events ended emitted
       spread = λ spreading. subst (λ (z : Running). Spread z.plan z.bound n z.journal) (sym done.1) (stays.by_other new.machine (once x) lease spreading).spread;
       few = λ few. omega arith;
       within = within_once n batch x old new known done lease less;
-      tickets = next_done x old new done;
+      tickets = (rises_done x old new done).tickets;
+      finished = (rises_done x old new done).finished;
     }
 
 pub goes_step : (n : ℕ) (x : Step) (old new : Running) → Known old → IsDone x old new → is_lease x ≡ false → Goes n old new
@@ -514,6 +529,7 @@ went_homecoming n batch number times old new known is =
     let fewer : out_count new.machine ≤ out_count old.machine =
     subst (λ (z : Running). out_count z.machine ≤ out_count old.machine) (sym is) (known.lawful.out.by_home number times) in
     let entries = home_entries number times in
+    let rises : Rises old.machine new.machine = subst (λ (z : Running). Rises old.machine z.machine) (sym is) (rises_steps old.plan old.bound old.machine (reads_and_return number times)) in
     record {
       plan = ap (λ (z : Running). z.plan) is;
       bound = ap (λ (z : Running). z.bound) is;
@@ -526,8 +542,8 @@ went_homecoming n batch number times old new known is =
       spread = λ spreading. (goes_homecoming n number times old new known is spreading).spread;
       few = λ few. omega arith;
       within = within_homecoming n batch number times old new known is;
-      tickets = subst (λ (z : Running). old.machine.next_ticket ≤ z.machine.next_ticket) (sym is)
-          (next_steps old.plan old.bound old.machine (reads_and_return number times));
+      tickets = rises.tickets;
+      finished = rises.finished;
     }
 
 pub none_emitted_homecoming : (number times : ℕ) (old new : Running) → new ≡ after_return old number times → NoneEmitted old new

@@ -145,6 +145,7 @@ went_kept n batch old new kept spread few within = record {
   few = few;
   within = within;
   tickets = kept.tickets;
+  finished = let same = kept.finished in omega arith;
 }
 
 rooted_kept : (q r : Plan) (m n : Machine) → r ≡ q → n.events ≡ m.events → n.finished ≡ m.finished → n.versions ≡ m.versions → IsRooted q m → IsRooted r n

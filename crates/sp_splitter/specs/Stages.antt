@@ -26,7 +26,8 @@ pub record StaysWithin (n batch : ℕ) (old new : Running) : Type 0 where
   pub asked : AsksAtMost batch old.journal → AsksAtMost batch new.journal
 
 -- A stage, for n instances and a batch: nothing was fed, and matches may have been emitted; the journal is spread; no more tickets are out
--- for live versions than there may be, and were at no time, and none is for more events than a batch; and no ticket's number is given twice.
+-- for live versions than there may be, and were at no time, and none is for more events than a batch; no ticket's number is given twice; and
+-- windows that are finished stay so.
 pub record Went (n batch : ℕ) (old new : Running) : Type 0 where
   pub plan : new.plan ≡ old.plan
   pub bound : new.bound ≡ old.bound
@@ -39,6 +40,7 @@ pub record Went (n batch : ℕ) (old new : Running) : Type 0 where
   pub few : out_count old.machine ≤ n + 1 → out_count new.machine ≤ n + 1
   pub within : StaysWithin n batch old new
   pub tickets : old.machine.next_ticket ≤ new.machine.next_ticket
+  pub finished : old.machine.finished ≤ new.machine.finished
 
 -- No entry that came into the journal makes a child, and none leases.
 pub record SendsNone (old new : Running) : Type 0 where

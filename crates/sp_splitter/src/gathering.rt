@@ -18,7 +18,8 @@ use std::sync::Wait;
 
 // Learns from a piece, where its version is live.
 fn learn_from(predictor: &mut dyn Predictor, core: &Core, piece: &Piece)
-    ensures { IsLearned (taught predictor.old) (taught predictor.new) core.now piece.now }
+    ensures learned { IsLearned (taught predictor.old) (taught predictor.new) core.now piece.now }
+    ensures name { named predictor.new ≡ named predictor.old }
 {
     let Some(_) = core.tree().get(piece.job().version) else {
         return;
@@ -63,6 +64,7 @@ pub(crate) fn gather<L: Naming, R: Wait>(
     ensures by { Collected by.old by.new }
     ensures gathered { OnOk result (Gathered (taught predictor.old) (taught predictor.new)
         core.old core.new by.old by.new) }
+    ensures name { named predictor.new ≡ named predictor.old }
 {
     let mut read = Readings::none();
     for _ in 0..by.waiting() {

@@ -22,6 +22,7 @@ use sp_piece::{Job, Piece};
 use sp_plan::Event;
 use std::alloc::Global;
 use std::collections::VecDeque;
+use std::mem;
 use std::sync::Wait;
 
 /// Owns a core, and takes all its steps but the readings, which instances do. Contracts see its fields, since
@@ -123,12 +124,21 @@ impl Splitter {
         &self.chances
     }
 
+    /// Puts another predictor to work, and hands back the one that was. Nothing else changes: what that one has learned
+    /// goes with it, and the chances stay those of the last turn. Takes no memory.
+    pub fn exchange(&mut self, predictor: Box<dyn Predictor>) -> Box<dyn Predictor>
+        ensures back { result ≡ self.old.predictor }
+        ensures rest { self.new ≡ record self.old { predictor = predictor } }
+    {
+        mem::replace(&mut self.predictor, predictor)
+    }
+
     /// One turn, in this order. Every piece that is home is given back, and learned from. Every version in
     /// conflict is rolled. Windows are finished while the root is done. A root is made where none is live and its
     /// window has begun. Children are made while fewer than `instances + 1` versions are out or ready. Versions
     /// that are picked of the ready ones are leased, until as many tickets are out, and their jobs posted; a job
     /// for which the hub has no room is kept, and one whose version is gone is given back. Answers what each
-    /// window that was finished emits. After want of memory the splitter is only to be read or dropped: the steps
+    /// window that was finished emits. The predictor is the same one, by its name. After want of memory the splitter is only to be read or dropped: the steps
     /// that were done stand in the journal, and some of what they emitted may be lost.
     pub fn turn<L: Naming, R: Wait>(
         &mut self,
@@ -148,6 +158,7 @@ impl Splitter {
         ensures read { ReadOfCollected self.old.core self.new.core by.old by.new }
         ensures rest { (self.new.instances ≡ self.old.instances)
             × (self.new.batch ≡ self.old.batch) }
+        ensures name { named self.new.predictor ≡ named self.old.predictor }
         ensures room { by.new.room ≡ by.old.room }
         ensures open { by.new.closed ≡ false }
         ensures turned { IfOk result (λ finished. Turned (record {

@@ -1,4 +1,5 @@
 use denote.Param.Send.{sendable}
+use Rattle.std.proofs.Common.{refl, ◌∙◌}
 use Rattle.sp_piece.proofs.Crossing.{job_sent, piece_sent}
 use Rattle.sp_splitter.proofs.Gathered.{Brings, brings_all_none, brings_all_then, gathered_none, gathered_then}
 use Rattle.sp_splitter.proofs.gathering.gather.Goals as goal
@@ -16,6 +17,7 @@ pub loop-init : goal.loop-init
 loop-init g c = record {
   brings = brings_all_none c.args.core.now c.args.by.now;
   gathered = gathered_none ((goal.Predictor-dyn g c.args.predictor.now).taught c.args.predictor.now.1) c.args.core.now c.args.by.now;
+  name = refl;
 }
 
 pub returns-in_err-give_back-clause-went : goal.returns-in_err-give_back-clause-went
@@ -53,5 +55,6 @@ loop-preserved g c =
       gathered =
           gathered_then ((of c.args.predictor.now).taught c.args.predictor.now.1) ((of c.loop.predictor.now).taught c.loop.predictor.now.1)
           ((of (c.loop.predictor.now.0, c.learn_from.new.predictor)).taught c.learn_from.new.predictor) c.args.core.now c.loop.core c.give_back.new.core c.args.by.now c.loop.by c.collect.new.by c.in-Some.ensures.0 _ c.in-Some.piece
-          given.0 c.loop.invariant.gathered c.learn_from.ensures given.1 c.in-Some.ensures.1;
+          given.0 c.loop.invariant.gathered c.learn_from.ensures.learned given.1 c.in-Some.ensures.1;
+      name = c.learn_from.ensures.name ∙ c.loop.invariant.name;
     }

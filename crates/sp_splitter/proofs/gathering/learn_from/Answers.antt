@@ -8,8 +8,8 @@ use Rattle.sp_splitter.proofs.Gathered.{lesson_gone, lesson_live, told_of}
 use Rattle.sp_splitter.proofs.ToRoll.{live_held}
 use Rattle.sp_splitter.proofs.gathering.learn_from.Goals as goal
 
-pub returns-in_default : goal.returns-in_default
-returns-in_default g c =
+pub returns-in_default-clause-learned : goal.returns-in_default-clause-learned
+returns-in_default-clause-learned g c =
     let core = c.args.core.now in
     let p = c.args.piece.now in
     let gone =
@@ -22,8 +22,8 @@ returns-in_default g c =
       taught_on = taught_none ((goal.Predictor-dyn g c.args.predictor.now).taught c.args.predictor.now.1);
     }
 
-pub returns : goal.returns
-returns g c =
+pub returns-clause-learned : goal.returns-clause-learned
+returns-clause-learned g c =
     let core = c.args.core.now in
     let p = c.args.piece.now in
     let moves = c.moves.result.now in
@@ -34,5 +34,5 @@ returns g c =
     record {
       lesson = wanted_of moves;
       is = lesson_live (version_at core.machine.versions p.job.version) p (wanted_of moves) live (told_of p moves c.moves.ensures);
-      taught_on = c.learn.ensures;
+      taught_on = c.learn.ensures.taught;
     }
