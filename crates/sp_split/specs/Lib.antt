@@ -3,6 +3,6 @@ pub mod Lending
 pub mod Serving
 pub mod Stages
 pub mod Stopping
-pub mod Crews
+pub mod Seatings
 pub mod Going
 pub mod Prompt

@@ -12,31 +12,31 @@ use std::thread::Threads;
 
 /// The seats of instances. Contracts see them, and how many there is room for.
 #[derive(Drop)]
-pub(crate) struct Crew<L: Naming> {
+pub(crate) struct Seating<L: Naming> {
     seats: Vec<Seat<Piece, L>>,
 }
 
-impl<L: Naming> Model for Crew<L> {
+impl<L: Naming> Model for Seating<L> {
     ghost use Rattle.std.specs.Prelude.{vec_capacity};
-    ghost use Rattle.sp_split.specs.Crews.{Crewed};
+    ghost use Rattle.sp_split.specs.Seatings.{Seated};
 
-    ghost Value = { Crewed };
+    ghost Value = { Seated };
 
     ghost view = { λ c. record { seats = c.seats.items; room = vec_capacity c.seats } };
 }
 
-impl<L: Naming> Crew<L> {
-    pub(crate) fn of(seats: Vec<Seat<Piece, L>>) -> Crew<L>
+impl<L: Naming> Seating<L> {
+    pub(crate) fn of(seats: Vec<Seat<Piece, L>>) -> Seating<L>
         ensures { result ≡ record { seats = seats.items; room = vec_capacity seats } }
     {
-        Crew { seats }
+        Seating { seats }
     }
 
     pub(crate) fn into_seats(self) -> Vec<Seat<Piece, L>>
         ensures seats { result.items ≡ self.seats }
         ensures room { vec_capacity result ≡ self.room }
     {
-        let Crew { seats } = self;
+        let Seating { seats } = self;
         seats
     }
 }
@@ -49,13 +49,13 @@ pub(crate) fn attend_all<L: Naming + Send + Sync, G: Gate, R: Threads + Wait + S
     alloc: Global,
     hub: &Hub<Job, Piece, L>,
     gate: &G,
-    crew: &mut Crew<L>,
+    seating: &mut Seating<L>,
 )
-    requires free { All (λ s. s.holding ≡ None) crew.old.seats }
-    ensures len { length crew.new.seats ≡ length crew.old.seats }
-    ensures room { crew.new.room ≡ crew.old.room }
-    ensures numbers { map (λ s. s.number) crew.new.seats ≡ map (λ s. s.number) crew.old.seats }
-    ensures over { All (λ s. s.over ≡ true) crew.new.seats }
+    requires free { All (λ s. s.holding ≡ None) seating.old.seats }
+    ensures len { length seating.new.seats ≡ length seating.old.seats }
+    ensures room { seating.new.room ≡ seating.old.room }
+    ensures numbers { map (λ s. s.number) seating.new.seats ≡ map (λ s. s.number) seating.old.seats }
+    ensures over { All (λ s. s.over ≡ true) seating.new.seats }
 {
-    work_all(rt, alloc, hub, &mut crew.seats, gate);
+    work_all(rt, alloc, hub, &mut seating.seats, gate);
 }

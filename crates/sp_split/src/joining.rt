@@ -7,7 +7,7 @@ ghost use Rattle.sp_core.specs.Running.{begun};
 ghost use Rattle.sp_split.specs.Prompt.{IsPrompt};
 ghost use Rattle.sp_split.specs.Serving.{Ends, MayServe, Serves, WoundUp, ending};
 
-use crate::attending::{Crew, attend_all};
+use crate::attending::{Seating, attend_all};
 use crate::office::Office;
 use crate::serving::{Desk, Served, serve};
 use crate::{Ended, Memory, Went, law};
@@ -46,16 +46,16 @@ fn part<L: Naming>(seats: Vec<Seat<Piece, L>>) -> (Seat<Piece, L>, Vec<Seat<Piec
 // Runs the instances on threads of their own, and the splitter on this one, until it closes the hub.
 fn beside<L: Naming + Send + Sync, I: Intake, O: Outlet, G: Gate, R: Threads + Wait + Sync>(
     office: &Office<'_, L, G, R>,
-    crew: Crew<L>,
+    seating: Seating<L>,
     desk: Desk<L>,
     ways: Ways<I, O>,
-) -> (Crew<L>, Served<L>, Ways<I, O>)
-    requires free { All (λ s. s.holding ≡ None) crew.seats }
+) -> (Seating<L>, Served<L>, Ways<I, O>)
+    requires free { All (λ s. s.holding ≡ None) seating.seats }
     requires may { MayServe desk.splitter.core desk.splitter.instances desk.splitter.batch
         desk.splitter.kept.items desk.by desk.seat (I.plan ways.intake) (O.plan ways.outlet) }
-    ensures len { length result.0.seats ≡ length crew.seats }
-    ensures room { result.0.room ≡ crew.room }
-    ensures numbers { map (λ s. s.number) result.0.seats ≡ map (λ s. s.number) crew.seats }
+    ensures len { length result.0.seats ≡ length seating.seats }
+    ensures room { result.0.room ≡ seating.room }
+    ensures numbers { map (λ s. s.number) result.0.seats ≡ map (λ s. s.number) seating.seats }
     ensures over { All (λ s. s.over ≡ true) result.0.seats }
     ensures served { Serves (λ events. I.gave ways.intake events result.2.intake)
         (I.ended result.2.intake)
@@ -78,17 +78,17 @@ fn beside<L: Naming + Send + Sync, I: Intake, O: Outlet, G: Gate, R: Threads + W
     } = *office;
     // Where no thread can be made the second branch runs first, and closes the hub. The other way round the
     // instances would wait for jobs, and the splitter would never begin.
-    let (crew, (served, ways)) = thread::join(
+    let (seating, (served, ways)) = thread::join(
         rt,
-        || -> Crew<L>
-            requires { IsSync R.row × All (λ s. s.holding ≡ None) crew.seats }
-            ensures { (length result.seats ≡ length crew.seats) × (result.room ≡ crew.room)
-                × (map (λ s. s.number) result.seats ≡ map (λ s. s.number) crew.seats)
+        || -> Seating<L>
+            requires { IsSync R.row × All (λ s. s.holding ≡ None) seating.seats }
+            ensures { (length result.seats ≡ length seating.seats) × (result.room ≡ seating.room)
+                × (map (λ s. s.number) result.seats ≡ map (λ s. s.number) seating.seats)
                 × All (λ s. s.over ≡ true) result.seats }
         {
-            let mut crew = crew;
-            attend_all(rt, alloc, hub, gate, &mut crew);
-            crew
+            let mut seating = seating;
+            attend_all(rt, alloc, hub, gate, &mut seating);
+            seating
         },
         || -> (Served<L>, Ways<I, O>)
             requires { MayServe desk.splitter.core desk.splitter.instances desk.splitter.batch
@@ -113,7 +113,7 @@ fn beside<L: Naming + Send + Sync, I: Intake, O: Outlet, G: Gate, R: Threads + W
             (served, ways)
         },
     );
-    (crew, served, ways)
+    (seating, served, ways)
 }
 
 // What the hub did, once it is closed and all its seats are back, those of the instances and the splitter's own.
@@ -183,16 +183,16 @@ pub(crate) fn under<
     };
     let (seat, others) = part(seats);
     let desk = Desk { splitter, by, seat };
-    let crew = Crew::of(others);
+    let seating = Seating::of(others);
     let office = Office {
         rt,
         alloc,
         hub: &hub,
         gate,
     };
-    let (crew, served, ways) = beside(&office, crew, desk, ways);
+    let (seating, served, ways) = beside(&office, seating, desk, ways);
     let Served { by, seat, end } = served;
-    let history = wind_up(hub, by, crew.into_seats(), seat);
+    let history = wind_up(hub, by, seating.into_seats(), seat);
     (with_history(end, history), ways)
 }
 

@@ -8,7 +8,7 @@ use Rattle.sp_hub.specs.Calls.{fresh_seat}
 use Rattle.sp_hub.proofs.Seats.{all_free}
 use Rattle.sp_hub.proofs.Told.{behind_first}
 use Rattle.sp_piece.proofs.Crossing.{job_sent, piece_sent}
-use Rattle.sp_split.specs.Crews.{Crewed}
+use Rattle.sp_split.specs.Seatings.{Seated}
 use Rattle.sp_split.specs.Serving.{Ends, WoundUp}
 use Rattle.sp_split.proofs.About.{ends_with, fell_at_once}
 use Rattle.sp_split.proofs.Prompt.{prompt_none}
@@ -41,9 +41,9 @@ part-seat-requires-clause-some g c =
 pub part-seat-requires-clause-free : goal.part-seat-requires-clause-free
 part-seat-requires-clause-free g c = subst (All (λ (s : Sitting). s.holding ≡ None)) (sym c.in-Ok.ensures.seats) (all_free c.args.opened.seats)
 
-pub beside-crew-requires-clause-free : goal.beside-crew-requires-clause-free
-beside-crew-requires-clause-free g c κs within =
-    subst (λ (x : Crewed). All (λ (s : Sitting). s.holding ≡ None) x.seats) (sym c.of-crew.ensures) c.part-seat.ensures.others
+pub beside-seating-requires-clause-free : goal.beside-seating-requires-clause-free
+beside-seating-requires-clause-free g c κs within =
+    subst (λ (x : Seated). All (λ (s : Sitting). s.holding ≡ None) x.seats) (sym c.of-seating.ensures) c.part-seat.ensures.others
 
 pub wind_up-history-requires-clause-whole : goal.wind_up-history-requires-clause-whole
 wind_up-history-requires-clause-whole g c =
@@ -52,8 +52,8 @@ wind_up-history-requires-clause-whole g c =
     let held = c.in-Ok.made.2.ok in
     let fewer = c.part-seat.ensures.len in
     let others = c.part-seat.result.1.ok in
-    let same = c.beside-crew.ensures.len in
-    let crew = ap (λ (x : Crewed). length x.seats) c.of-crew.ensures in
+    let same = c.beside-seating.ensures.len in
+    let seating = ap (λ (x : Seated). length x.seats) c.of-seating.ensures in
     let back = ap length c.into_seats.ensures.seats in
     let kept = c.into_seats.result.ok in
     let seats = ap (λ (h : Extent). h.seats) c.in-Ok.ensures.hub in
@@ -63,10 +63,10 @@ pub wind_up-history-requires-clause-room : goal.wind_up-history-requires-clause-
 wind_up-history-requires-clause-room g c =
     let room = c.part-seat.ensures.room in
     let others = c.part-seat.result.1.ok in
-    let same = c.beside-crew.ensures.len in
-    let kept_room = c.beside-crew.ensures.room in
-    let crew = ap (λ (x : Crewed). length x.seats) c.of-crew.ensures in
-    let crew_room = ap (λ (x : Crewed). x.room) c.of-crew.ensures in
+    let same = c.beside-seating.ensures.len in
+    let kept_room = c.beside-seating.ensures.room in
+    let seating = ap (λ (x : Seated). length x.seats) c.of-seating.ensures in
+    let seating_room = ap (λ (x : Seated). x.room) c.of-seating.ensures in
     let back = ap length c.into_seats.ensures.seats in
     let back_room = c.into_seats.ensures.room in
     let kept = c.into_seats.result.ok in
@@ -80,22 +80,22 @@ wind_up-history-requires-clause-numbers g c =
     let held = c.in-Ok.made.2.ok in
     let fewer = c.part-seat.ensures.len in
     let others = c.part-seat.result.1.ok in
-    let same = c.beside-crew.ensures.len in
-    let crew = ap (λ (x : Crewed). length x.seats) c.of-crew.ensures in
+    let same = c.beside-seating.ensures.len in
+    let seating = ap (λ (x : Seated). length x.seats) c.of-seating.ensures in
     let back = ap length c.into_seats.ensures.seats in
     let kept = c.into_seats.result.ok in
     let count : c.args.opened.seats - 1 ≡ vec_len c.into_seats.result = omega arith in
-    ap numbers c.into_seats.ensures.seats ∙ c.beside-crew.ensures.numbers ∙ ap (λ (x : Crewed). numbers x.seats) c.of-crew.ensures
+    ap numbers c.into_seats.ensures.seats ∙ c.beside-seating.ensures.numbers ∙ ap (λ (x : Seated). numbers x.seats) c.of-seating.ensures
     ∙ ap numbers c.part-seat.ensures.rest ∙ ap (λ (l : List Sitting). numbers (drop 1 l)) c.in-Ok.ensures.seats
     ∙ behind_first c.args.opened.seats ∙ ap (range_with_len 1) count
 
 pub wind_up-history-requires-clause-over : goal.wind_up-history-requires-clause-over
-wind_up-history-requires-clause-over g c = subst (All (λ (s : Sitting). s.over ≡ true)) (sym c.into_seats.ensures.seats) c.beside-crew.ensures.over
+wind_up-history-requires-clause-over g c = subst (All (λ (s : Sitting). s.over ≡ true)) (sym c.into_seats.ensures.seats) c.beside-seating.ensures.over
 
 pub returns-clause-ends : goal.returns-clause-ends
 returns-clause-ends g c =
     let first = c.args.ways.intake in
-    let last = c.beside-crew.result.2.intake in
+    let last = c.beside-seating.result.2.intake in
     let G = λ (events : List Event). g.I.Intake.gave first events last in
     let all = g.I.Intake.ended last in
     let before = g.I.Intake.stops first in
@@ -105,12 +105,12 @@ returns-clause-ends g c =
     let batch = c.args.splitter.batch in
     let start = c.args.splitter.core in
     let old = g.O.Outlet.state c.args.ways.outlet in
-    let new = g.O.Outlet.state c.beside-crew.result.2.outlet in
+    let new = g.O.Outlet.state c.beside-seating.result.2.outlet in
     let history = c.wind_up-history.result in
     let seats : c.in-Ok.made.0.seats ≡ n + 1 = ap (λ (h : Extent). h.seats) c.in-Ok.ensures.hub ∙ c.requires.places.0 in
-    let wound = subst (λ (k : ℕ). WoundUp k (length c.beside-crew.result.1.by.got) history) seats c.wind_up-history.ensures in
+    let wound = subst (λ (k : ℕ). WoundUp k (length c.beside-seating.result.1.by.got) history) seats c.wind_up-history.ensures in
     subst (λ r. Ends G all before behind kept n batch start old new r) (sym c.with_history.ensures)
-    (ends_with G all before behind kept n batch start old new c.beside-crew.result.1.end (length c.beside-crew.result.1.by.got) history c.beside-crew.ensures.served c.requires.instances.0 wound c.returns_follow_readings.ensures)
+    (ends_with G all before behind kept n batch start old new c.beside-seating.result.1.end (length c.beside-seating.result.1.by.got) history c.beside-seating.ensures.served c.requires.instances.0 wound c.returns_follow_readings.ensures)
 
 pub returns-in-Err-clause-prompt : goal.returns-in-Err-clause-prompt
 returns-in-Err-clause-prompt g c = prompt_none (g.I.Intake.asked c.args.ways.intake) c.args.ways.intake c.args.splitter.core.plan (g.O.Outlet.state c.args.ways.outlet) (g.I.Intake.asked_none c.args.ways.intake)

@@ -2,6 +2,6 @@
 use Rattle.std.specs.Prelude.{ℕ, List}
 use Rattle.sp_hub.specs.State.{Sitting}
 
-pub record Crewed : Type 0 where
+pub record Seated : Type 0 where
   pub seats : List Sitting
   pub room : ℕ
