@@ -13,3 +13,5 @@ pub mod Advanced
 pub mod Going
 pub mod Over
 pub mod Prompt
+pub mod Relieved
+pub mod Due

@@ -1,5 +1,7 @@
 pub mod Driving
 pub mod Lending
+pub mod Relay
+pub mod Relieving
 pub mod Serving
 pub mod Stages
 pub mod Stopping

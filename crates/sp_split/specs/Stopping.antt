@@ -15,6 +15,14 @@ why_fed f.Dry = None
 why_fed f.End = Some why.Whole
 why_fed (f.Stop stop) = Some (why.Stopped stop)
 
+-- a run goes on behind a turn, or came to its end or to a stop: it is over neither for a match that was refused nor for want of memory
+abbrev pub IsThrough : Option Why → Type 0
+IsThrough None = Unit {0}
+IsThrough (Some why.Whole) = Unit {0}
+IsThrough (Some (why.Stopped cause)) = Unit {0}
+IsThrough (Some why.Refused) = ⊥
+IsThrough (Some why.Memory) = ⊥
+
 -- why a run is over behind a turn: the outlet failed, or memory ran out, or every closed window is finished and no event will come
 abbrev pub why_over : {T : Type 0} → Fed → Result T OutFault → Bool → Option Why
 why_over fed (Err o.Failed) all = Some why.Refused

@@ -3,6 +3,7 @@
 
 mod alone;
 mod attending;
+mod crew;
 mod driver;
 mod driving;
 mod ended;
@@ -12,12 +13,14 @@ mod joining;
 mod law;
 mod lent;
 mod office;
+mod relay;
 mod running;
 mod serving;
 mod stopping;
 mod turning;
 mod working;
 
+pub use crew::Crew;
 pub use driving::drive;
 pub use ended::{Ended, Went, Why};
 pub use sp_splitter::Splitter;
