@@ -1,6 +1,6 @@
 -- How a run came about, and one that ended before it began.
 use Rattle.std.proofs.Common.{◌≡◌, ℕ, zero, suc, ◌+◌, ◌<◌, Bool, false, List, [], take, Option, refl, sym, subst, ap, ◌∙◌, arith}
-use Rattle.std.specs.Prelude.{Ok, Err}
+use Rattle.std.specs.Prelude.{Ok, Err, IfOk}
 use Rattle.std.specs.declared.result.Result.{Result}
 use Rattle.sp_plan.specs.declared.event.Event.{Event}
 use Rattle.sp_plan.specs.declared.plan.Plan.{Plan}
@@ -15,8 +15,10 @@ use Rattle.sp_ports.specs.Taking.{OutletState}
 use Rattle.sp_ports.specs.declared.stop.Stop.{Stop}
 use Rattle.sp_spread.specs.Journaled.{MakesNoChild}
 use Rattle.sp_spread.specs.Laws.{ReturnsFollowReadings}
-use Rattle.sp_split.specs.Driving.{CameAbout, FellShort, seats_for}
+use Rattle.sp_split.specs.Driving.{CameAbout, FellShort, most_asked, seats_for}
+use Rattle.sp_split.specs.declared.crew.Crew.{Crew}
 use Rattle.sp_split.specs.declared.ended.Went as went
+use Rattle.sp_split.specs.declared.ended.Why.{Why}
 use Rattle.sp_split.specs.Serving.{CameBy, Ends, Serves, WoundUp, ending}
 use Rattle.sp_split.proofs.Taken.{took_none, took_first}
 
@@ -24,6 +26,11 @@ use Rattle.sp_split.proofs.Taken.{took_none, took_first}
 seats_are : (n : ℕ) → 0 < n → seats_for n ≡ n + 1
 seats_are zero some = absurd (omega (arith, some))
 seats_are (suc n) some = refl
+
+-- with instances a lease asks for a batch at most
+pub most_is : (n batch : ℕ) → 0 < n → most_asked n batch ≡ batch
+most_is zero batch some = absurd (omega (arith, some))
+most_is (suc n) batch some = refl
 
 pub came_about : (n : ℕ) (c : Running) (collected : ℕ) (h : History) → 0 < n → CameBy n c collected → WoundUp (n + 1) collected h → ReturnsFollowReadings → CameAbout n c h
 came_about n c collected h some came wound law = record {
@@ -78,13 +85,19 @@ fell_at_once gave ended q s given = record {
 }
 
 -- what was served, with what the hub did
-pub ends_with : {E : Type 0} (gave : List Event → Type 0) (ended : Bool) (before behind : ℕ) (kept : Option Stop) (n batch : ℕ) (c : Running) (old new : OutletState) (end : Result went.Went E) (collected : ℕ) (history : History)
+pub ends_with : {V : Type 0} {T : V → Type 0} {E : Type 0} (gave : List Event → Type 0) (ended : Bool) (before behind : ℕ) (kept : Option Stop) (n batch : ℕ) (c : Running) (old new : OutletState) (end : Result went.Went E) (collected : ℕ) (history : History) (crew : Crew V T)
     → Serves gave ended before behind kept n batch c old new end collected → 0 < n → WoundUp (n + 1) collected history → ReturnsFollowReadings
-    → Ends gave ended before behind kept n batch c old new (ending history end)
-ends_with gave ended before behind kept n batch c old new (Ok w) collected history served some wound law = record {
+    → Ends gave ended before behind kept n batch c old new (ending history crew end)
+ends_with gave ended before behind kept n batch c old new (Ok w) collected history crew served some wound law = record {
   drove = served.drove;
   about = came_about n w.core collected history some served.came wound law;
   asked = served.asked;
   short = tt;
 }
-ends_with gave ended before behind kept n batch c old new (Err e) collected history served some wound law = record { drove = tt; about = tt; asked = tt; short = served.short }
+ends_with gave ended before behind kept n batch c old new (Err e) collected history crew served some wound law = record { drove = tt; about = tt; asked = tt; short = served.short }
+
+-- and with those that are left of its crew
+pub if_ending : {V : Type 0} {T : V → Type 0} {E : Type 0} (P : Crew V T → Why → Running → Type 0) (history : History) (crew : Crew V T) (end : Result went.Went E)
+    → IfOk end (λ w. P crew w.why w.core) → IfOk (ending history crew end) (λ e. P e.crew e.why e.core)
+if_ending P history crew (Ok w) so = so
+if_ending P history crew (Err e) so = tt

@@ -1,14 +1,27 @@
 -- What a turn does to a core, whatever takes it.
-use Rattle.std.proofs.Common.{◌≡◌, ℕ, ◌+◌, ◌≤◌, false, List, length, None, Ok, Err, sym, ◌∙◌, ap, subst, arith}
+use Rattle.std.proofs.Common.{◌≡◌, ℕ, ◌+◌, ◌≤◌, false, List, ◌++◌, length, None, Ok, Err, sym, ◌∙◌, ap, subst, arith}
 use Rattle.std.specs.Prelude.{IfOk, OnOk}
 use Rattle.std.specs.declared.result.Result.{Result}
 use Rattle.sp_base.specs.Limits.{batch_limit}
 use Rattle.sp_hub.specs.State.{Posting, Sitting}
+use Rattle.sp_plan.specs.declared.found.Match.{Match}
 use Rattle.sp_piece.specs.declared.job.Job.{Job}
 use Rattle.sp_core.specs.Running.{Running}
 use Rattle.sp_splitter.specs.Stages.{Goes, IsSpreading, ReadOfCollected, Went}
 use Rattle.sp_splitter.specs.Splitting.{IsBelowKept}
 use Rattle.sp_split.specs.Serving.{CameServing, CanTurn, Filled, IsServing}
+use Rattle.sp_split.specs.Stages.{Advanced}
+
+-- a core that went on so has advanced
+pub advanced_by : (n batch : ℕ) (old new : Running) (ms : List Match) → Went n batch old new → new.machine.emitted ≡ old.machine.emitted ++ ms → Advanced old new ms
+advanced_by n batch old new ms went emitted = record {
+  plan = went.plan;
+  bound = went.bound;
+  events = went.events;
+  ended = went.ended;
+  fed_are = λ are. went.fed_are ∙ are ∙ sym went.events;
+  emitted = emitted;
+}
 
 -- a splitter was fed
 pub serving_fed : (n batch : ℕ) (kept : List Job) (old new : Running) (by : Posting) (seat : Sitting) → Filled old new → IsServing n batch kept old by seat → IsServing n batch kept new by seat

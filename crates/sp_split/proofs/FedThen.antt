@@ -11,5 +11,6 @@ fed_then a b c first second = record {
   more = first.more ++ second.more;
   events = second.events ∙ ap (λ (l : List Event). l ++ second.more) first.events ∙ append_assoc a.machine.events first.more second.more;
   emitted = second.emitted ∙ first.emitted;
+  finished = second.finished ∙ first.finished;
   tickets = second.tickets ∙ first.tickets;
 }

@@ -33,12 +33,12 @@ tree_root c tree root is at = one (machine.root_in c.machine.versions) refl (ap 
 
 module _ (q : Plan) (m : Machine) where
   settled_with : (o : Option machine.Version) → With m (settled q m o) m.tickets
-  settled_with None = record { input = record { events = refl; ended = refl }; emitted = refl; out = refl }
+  settled_with None = record { input = record { events = refl; ended = refl; finished = omega arith }; emitted = refl; out = refl }
   settled_with (Some v) = one (is_some (machine.conflict q m v))
     where
       one : (b : Bool) → With m (cond b (rolled m (Some v)) m) m.tickets
-      one true = record { input = record { events = refl; ended = refl }; emitted = refl; out = refl }
-      one false = record { input = record { events = refl; ended = refl }; emitted = refl; out = refl }
+      one true = record { input = record { events = refl; ended = refl; finished = omega arith }; emitted = refl; out = refl }
+      one false = record { input = record { events = refl; ended = refl; finished = omega arith }; emitted = refl; out = refl }
 
 -- the root's window is finished
 pub finished : (old new : Running) (e : Emitted) → IsDone s.Finish old new → IsEmitted old e → old.machine.tickets ≡ [] → Turned old new (t.Finished e)
@@ -58,7 +58,7 @@ finished old new e done emitted none = one (machine.root_in old.machine.versions
         let w = settled_with q (popped q m v) (machine.root_in (popped q m v).versions) in
         let into : new.machine ≡ finished_one q m (Some v) = ap (λ (c : Running). c.machine) done.1 ∙ after in
         record {
-          on = worked_step old new s.Finish done.1 refl refl (omega arith) (subst (SameInput m) (sym after) (record { events = w.input.events; ended = w.input.ended }));
+          on = worked_step old new s.Finish done.1 refl refl (omega arith) (subst (SameInput m) (sym after) (record { events = w.input.events; ended = w.input.ended; finished = let more = w.input.finished in omega arith }));
           none_out = ap (λ (n : Machine). n.tickets) into ∙ w.out ∙ none;
           emitted = ap (λ (n : Machine). n.emitted) into ∙ w.emitted ∙ ap (λ (l : List Match). m.emitted ++ l) out;
           idle = λ no. cc;

@@ -4,6 +4,7 @@ use Rattle.std.proofs.lemmas.Bool.Decides.{nat_tests}
 use Rattle.std.proofs.lemmas.List.{append-nil}
 use Rattle.std.proofs.lemmas.List.Elements.{All-cons}
 use Rattle.std.proofs.lemmas.Option.{same_Some, none-some}
+use Rattle.std.proofs.Math.Nat.{le_trans}
 use Rattle.sp_base.specs.Limits.{batch_limit}
 use Rattle.sp_plan.specs.declared.found.Match.{Match}
 use Rattle.sp_plan.specs.declared.plan.Plan.{Plan}
@@ -36,7 +37,7 @@ pub record With (m n : Machine) (tickets : List Ticket) : Type 0 where
 
 with_more : (a b c : Machine) (ts us : List Ticket) → With a b ts → With b c us → With a c us
 with_more a b c ts us first second = record {
-  input = record { events = second.input.events ∙ first.input.events; ended = second.input.ended ∙ first.input.ended };
+  input = record { events = second.input.events ∙ first.input.events; ended = second.input.ended ∙ first.input.ended; finished = le_trans first.input.finished second.input.finished };
   emitted = second.emitted ∙ first.emitted;
   out = second.out;
 }
@@ -51,12 +52,12 @@ module _ (q : Plan) (bound n : ℕ) where
         read_if (ticket.number == n) ticket,
         refl,
         record {
-          input = record { events = refl; ended = refl };
+          input = record { events = refl; ended = refl; finished = omega arith };
           emitted = refl;
           out = ap (λ (l : List Ticket). (event_read (record m { tickets = l }) n).tickets) alone;
         },
       )
-      one (Some r) = (ticket, refl, record { input = record { events = refl; ended = refl }; emitted = refl; out = alone })
+      one (Some r) = (ticket, refl, record { input = record { events = refl; ended = refl; finished = omega arith }; emitted = refl; out = alone })
 
   -- the ticket ends
   return_one : (m : Machine) (ticket : Ticket) → m.tickets ≡ ticket ∷ [] → (ticket.number == n) ≡ true → With m (step q bound m (s.Return n)) []
@@ -69,8 +70,8 @@ module _ (q : Plan) (bound n : ℕ) where
       none = ap (without n) alone ∙ ap (λ b. cond {A = List Ticket} (not b) (ticket ∷ []) []) own
 
       back : (o : Option Version) → With m (home q m n ticket o) []
-      back None = record { input = record { events = refl; ended = refl }; emitted = refl; out = none }
-      back (Some v) = record { input = record { events = refl; ended = refl }; emitted = refl; out = none }
+      back None = record { input = record { events = refl; ended = refl; finished = omega arith }; emitted = refl; out = none }
+      back (Some v) = record { input = record { events = refl; ended = refl; finished = omega arith }; emitted = refl; out = none }
 
   pub read_and_returned : (times : ℕ) (m : Machine) (ticket : Ticket) → m.tickets ≡ ticket ∷ [] → (ticket.number == n) ≡ true → With m (steps q bound m (reads_and_return n times)) []
   read_and_returned zero m ticket alone own = return_one m ticket alone own
@@ -127,8 +128,8 @@ own_id (w ∷ vs) id v is = one (own_id vs id v) (w.id == id) refl is
 
 module _ (old new : Running) (root batch : ℕ) (done : IsDone (s.Lease root batch) old new) where
   input_leased : (o : Option Version) → SameInput old.machine (leased old.plan old.machine batch o)
-  input_leased None = record { events = refl; ended = refl }
-  input_leased (Some v) = record { events = refl; ended = refl }
+  input_leased None = record { events = refl; ended = refl; finished = omega arith }
+  input_leased (Some v) = record { events = refl; ended = refl; finished = omega arith }
 
   emitted_leased : (o : Option Version) → (leased old.plan old.machine batch o).emitted ≡ old.machine.emitted
   emitted_leased None = refl

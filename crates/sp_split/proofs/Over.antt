@@ -17,7 +17,7 @@ use Rattle.sp_split.specs.declared.feeding.Fed.{Fed}
 use Rattle.sp_split.specs.declared.feeding.Fed.TheVariants as f
 use Rattle.sp_split.specs.Driving.{Drove, FailedWithin}
 use Rattle.sp_split.specs.Stages.{AllFinished, AdvancedWith, FedOn}
-use Rattle.sp_split.specs.Stopping.{why_fed, why_over}
+use Rattle.sp_split.specs.Stopping.{IsThrough, why_fed, why_over}
 use Rattle.sp_split.specs.Going.{Ran, Going}
 use Rattle.sp_split.proofs.Going.{WasFed, going_fed, ran_worked, took_worked, failed_worked, short_worked, rose_from, drove_refused, drove_short, drove_whole, drove_stopped}
 
@@ -78,6 +78,12 @@ pub put_on : {T : Type 0} (A : Type 0) (fed : Fed) (put : Result T OutFault) (al
 put_on A fed (Ok x) all goes_on a = a
 put_on A fed (Err o.Failed) all goes_on a = absurd (cc goes_on)
 put_on A fed (Err o.Memory) all goes_on a = absurd (cc goes_on)
+
+-- and so has one that came to its end, or to a stop
+pub put_through : {T : Type 0} (A : Type 0) (fed : Fed) (put : Result T OutFault) (all : Bool) → IsThrough (why_over fed put all) → OnOk put A → A
+put_through A fed (Ok x) all is a = a
+put_through A fed (Err o.Failed) all is a = absurd is
+put_through A fed (Err o.Memory) all is a = absurd is
 
 module _ (gave : List Event → Type 0) (whole : Bool) (before behind : ℕ) (kept : Option Stop) (first last : Running) (old new : OutletState) where
   pub going_on : {T : Type 0} (fed : Fed) (put : Result T OutFault) (all : Bool) → None ≡ why_over fed put all → AfterTurn gave first last old new put → Going gave first last old new

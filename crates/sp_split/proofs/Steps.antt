@@ -1,5 +1,6 @@
 -- What steps that feed nothing do to a core that stands alone.
-use Rattle.std.proofs.Common.{◌≡◌, ◌≤◌, false, List, [], ◌∷◌, ◌++◌, refl, sym, ◌∙◌, ap, subst}
+use Rattle.std.proofs.Common.{◌≡◌, ◌≤◌, false, List, [], ◌∷◌, ◌++◌, refl, sym, ◌∙◌, ap, subst, arith}
+use Rattle.std.proofs.Math.Nat.{le_trans}
 use Rattle.std.proofs.lemmas.Grind.{flat_map-append}
 use Rattle.std.proofs.lemmas.List.{append-nil}
 use Rattle.std.proofs.lemmas.List.Elements.{All-nil, All-cons, All-append}
@@ -25,10 +26,11 @@ no_child_once x is = All-cons (λ (e : Entry). makes_child e.step ≡ false) (on
 pub none_fed : (journal more : List Entry) → fed more ≡ [] → fed (journal ++ more) ≡ fed journal
 none_fed journal more none = flat_map-append (λ (e : Entry). fed_by e.step) journal more ∙ ap (λ (l : List Event). fed journal ++ l) none ∙ append-nil (fed journal)
 
--- the machine has the input of another
+-- the machine has the input of another, and no fewer windows are finished
 pub record SameInput (m n : Machine) : Type 0 where
   pub events : n.events ≡ m.events
   pub ended : n.ended ≡ m.ended
+  pub finished : m.finished ≤ n.finished
 
 -- more entries, none of which feeds, makes a version below another or asks for more events than a lease may
 pub worked_by : (old new : Running) (more : List Entry) → new.plan ≡ old.plan → new.bound ≡ old.bound → new.journal ≡ old.journal ++ more → fed more ≡ [] → MakesNoChild more
@@ -44,6 +46,7 @@ worked_by old new more plan bound journal none alone asks same = record {
   };
   events = same.events;
   ended = same.ended;
+  finished = same.finished;
 }
 
 pub asked_once : (x : Step) → asked_by x ≤ batch_limit → AsksAtMost batch_limit (once x ∷ [])
@@ -59,7 +62,7 @@ worked_step old new x is none alone most same =
 pub worked_none : (old new : Running) → new ≡ old → WorkedOn old new
 worked_none old new is =
     worked_by old new [] (ap (λ (c : Running). c.plan) is) (ap (λ (c : Running). c.bound) is) (ap (λ (c : Running). c.journal) is ∙ sym (append-nil old.journal))
-    refl (All-nil (λ (e : Entry). makes_child e.step ≡ false)) (All-nil (λ (e : Entry). asked_by e.step ≤ batch_limit)) (subst (λ (c : Running). SameInput old.machine c.machine) (sym is) (record { events = refl; ended = refl }))
+    refl (All-nil (λ (e : Entry). makes_child e.step ≡ false)) (All-nil (λ (e : Entry). asked_by e.step ≤ batch_limit)) (subst (λ (c : Running). SameInput old.machine c.machine) (sym is) (record { events = refl; ended = refl; finished = omega arith }))
 
 pub went_on : (a b c : Running) → WentOn a b → WentOn b c → WentOn a c
 went_on a b c first second = record {
@@ -75,4 +78,5 @@ worked_more a b c first second = record {
   on = went_on a b c first.on second.on;
   events = second.events ∙ first.events;
   ended = second.ended ∙ first.ended;
+  finished = le_trans first.finished second.finished;
 }

@@ -18,6 +18,7 @@ use Rattle.sp_spread.specs.Journaled.{readings_entered}
 use Rattle.sp_spread.specs.Limiting.{AsksAtMost, NeverMore}
 use Rattle.sp_splitter.specs.Splitting.{IsBelowKept}
 use Rattle.sp_splitter.specs.Stages.{Goes, IsSpreading, StaysWithin}
+use Rattle.sp_split.specs.declared.crew.Crew.{Crew}
 use Rattle.sp_split.specs.declared.ended.Ended as ended_as
 use Rattle.sp_split.specs.declared.ended.Went as went
 use Rattle.sp_split.specs.Driving.{CameAbout, Drove, FellShort}
@@ -107,13 +108,13 @@ pub record MayServe (c : Running) (instances batch : ℕ) (kept : List Job) (by 
   pub outlet_plan : outlet ≡ c.plan
 
 -- A run with n instances, of which no lease asked for more events than so many, ended so, with what its hub did.
-pub record Ends {E : Type 0} (gave : List Event → Type 0) (ended : Bool) (before behind : ℕ) (kept : Option Stop) (n most : ℕ) (c : Running) (old new : OutletState) (end : Result ended_as.Ended E) : Type 0 where
+pub record Ends {V : Type 0} {T : V → Type 0} {E : Type 0} (gave : List Event → Type 0) (ended : Bool) (before behind : ℕ) (kept : Option Stop) (n most : ℕ) (c : Running) (old new : OutletState) (end : Result (ended_as.Ended V T) E) : Type 0 where
   pub drove : IfOk end (λ e. Drove gave ended before behind kept c old new (record { core = e.core; why = e.why }))
   pub about : IfOk end (λ e. CameAbout n e.core e.history)
   pub asked : IfOk end (λ e. AsksAtMost most e.core.journal)
   pub short : OnErr end (FellShort gave ended c.plan old new)
 
--- how a run ended, with what its hub did
-abbrev pub ending : {E : Type 0} → History → Result went.Went E → Result ended_as.Ended E
-ending history (Ok w) = Ok (record { core = w.core; why = w.why; history = history })
-ending history (Err e) = Err e
+-- how a run ended, with what its hub did and those that are left of its crew
+abbrev pub ending : {V : Type 0} {T : V → Type 0} {E : Type 0} → History → Crew V T → Result went.Went E → Result (ended_as.Ended V T) E
+ending history crew (Ok w) = Ok (record { core = w.core; why = w.why; history = history; crew = crew })
+ending history crew (Err e) = Err e

@@ -1,5 +1,5 @@
 -- What the stages of a run do to a core.
-use Rattle.std.specs.Prelude.{◌≡◌, ◌⊎◌, ℕ, Bool, true, false, List, [], ◌∷◌, ◌++◌, Option}
+use Rattle.std.specs.Prelude.{◌≡◌, ◌⊎◌, ◌≤◌, ℕ, Bool, true, false, List, [], ◌∷◌, ◌++◌, Option}
 use Rattle.sp_plan.specs.declared.event.Event.{Event}
 use Rattle.sp_plan.specs.declared.found.Match.{Match}
 use Rattle.sp_plan.specs.Windows.{closed}
@@ -34,6 +34,7 @@ pub record FedOn (old new : Running) : Type 0 where
   pub more : List Event
   pub events : new.machine.events ≡ old.machine.events ++ more
   pub emitted : new.machine.emitted ≡ old.machine.emitted
+  pub finished : new.machine.finished ≡ old.machine.finished
   pub tickets : new.machine.tickets ≡ old.machine.tickets
 
 -- An intake has not ended nor stopped since.
@@ -77,11 +78,12 @@ IsAdvanced old new = (matches : List Match) × Advanced old new matches
 abbrev pub AdvancedWith : Running → Running → (List Match → Type 0) → Type 0
 AdvancedWith old new fact = (matches : List Match) × Advanced old new matches × fact matches
 
--- The core worked, and was not fed.
+-- The core worked, and was not fed. Windows that are finished stay so.
 pub record WorkedOn (old new : Running) : Type 0 where
   pub on : WentOn old new
   pub events : new.machine.events ≡ old.machine.events
   pub ended : new.machine.ended ≡ old.machine.ended
+  pub finished : old.machine.finished ≤ new.machine.finished
 
 -- the matches that a turn emits
 abbrev pub given_out : Turn → List Match

@@ -1,34 +1,40 @@
 // A core on one thread: events are fed, and the root is read, window after window.
-ghost use Rattle.std.specs.Prelude.{◌≡◌, ◌≤◌, IfOk, OnOk, OnErr};
+ghost use Rattle.std.specs.Prelude.{◌≡◌, ◌≤◌, IfOk, OnOk, OnErr, Some};
 ghost use Rattle.sp_base.specs.Limits.{batch_limit};
 ghost use Rattle.sp_core.specs.Running.{begun};
 ghost use Rattle.sp_spread.specs.Journaled.{MakesNoChild};
 ghost use Rattle.sp_spread.specs.Limiting.{AsksAtMost};
 ghost use Rattle.sp_split.specs.Driving.{Drove, FellShort};
 ghost use Rattle.sp_split.specs.Prompt.{IsPrompt};
+ghost use Rattle.sp_split.specs.Relay.{Relayed};
+ghost use Rattle.sp_split.specs.Relieving.{AreDue, Relieved};
 ghost use Rattle.sp_split.specs.Stages.{CameAlone};
+ghost use Rattle.sp_split.specs.Stopping.{IsThrough};
 
 use crate::driver::Driver;
 use crate::feeding::Fed;
+use crate::relay::Team;
 use crate::running::round;
 use crate::working::work_off;
-use crate::{Memory, Went, Why};
-use sp_chance::Predictor;
+use crate::{Crew, Memory, Went, Why};
 use sp_core::{Core, CoreFault, Emitted};
 use sp_plan::Event;
 use sp_ports::{Intake, Outlet};
 use std::alloc::{AllocError, Global};
 
-// A core for which no instance works, and what learns from it.
+// A core for which no instance works, and those that learn from it, one after another.
 #[derive(Drop)]
 struct Lone {
     core: Core,
     batch: u32,
-    predictor: Box<dyn Predictor>,
+    team: Team,
 }
 
 impl Driver for Lone {
+    ghost use Rattle.sp_split.specs.Relieving.{AreDue, Relieved};
     ghost use Rattle.sp_split.specs.Stages.{IsAlone, CameAlone, alone_came};
+
+    type Team = Team;
 
     ghost core = { λ lone. lone.core };
 
@@ -36,11 +42,15 @@ impl Driver for Lone {
 
     ghost batch = { λ lone. lone.batch };
 
-    ghost ready = { λ lone. IsAlone lone.core };
+    ghost team = { λ lone. lone.team };
+
+    ghost relieved = { λ old new. Relieved (λ one. (Predictor-box one).named one.value) old new };
+
+    ghost ready = { λ lone. IsAlone lone.core × AreDue lone.team.relay lone.core.machine.finished };
 
     ghost came = { λ lone. CameAlone lone.core };
 
-    ghost ready_came = { λ lone ready. alone_came lone.core ready };
+    ghost ready_came = { λ lone ready. alone_came lone.core ready.0 };
 
     fn core(&self) -> &Core {
         &self.core
@@ -65,7 +75,7 @@ impl Driver for Lone {
     }
 
     fn work(&mut self, alloc: Global) -> Result<Vec<Emitted>, Memory> {
-        work_off(alloc, &mut self.core, &mut *self.predictor)
+        work_off(alloc, &mut self.core, &mut self.team)
     }
 }
 
@@ -77,6 +87,7 @@ fn run_alone<I: Intake, O: Outlet>(
     outlet: &mut O,
 ) -> Result<Why, Memory>
     requires fresh { lone.old.core ≡ begun lone.old.core.plan lone.old.core.bound }
+    requires due { AreDue lone.old.team.relay lone.old.core.machine.finished }
     requires intake_plan { I.plan intake.old ≡ lone.old.core.plan }
     requires outlet_plan { O.plan outlet.old ≡ lone.old.core.plan }
     ensures ended { IfOk result (λ why. Drove (λ events. I.gave intake.old events intake.new)
@@ -85,6 +96,9 @@ fn run_alone<I: Intake, O: Outlet>(
         lone.old.core (O.state outlet.old) (O.state outlet.new)
         (record { core = lone.new.core; why = why })) }
     ensures alone { CameAlone lone.new.core }
+    ensures relieved { OnOk result (Relieved (λ one. named one) lone.old.team lone.new.team) }
+    ensures due { IfOk result (λ why. IsThrough (Some why)
+        → AreDue lone.new.team.relay lone.new.core.machine.finished) }
     ensures short { OnErr result
         (FellShort (λ events. I.gave intake.old events intake.new) (I.ended intake.new)
         lone.old.core.plan (O.state outlet.old) (O.state outlet.new)) }
@@ -115,27 +129,31 @@ fn run_alone<I: Intake, O: Outlet>(
 /// ends, where the intake asked the outside for more last, the outlet had taken all matches of the windows that the
 /// events given before close.
 ///
+/// The predictors take one another's place, each right behind the finish that makes it due.
+///
 /// Besides, and no clause says so: at most `batch` events, 1 to 1,024, are fed before the windows that they closed
-/// are finished, and the predictor learns from what was read.
+/// are finished, and the predictor in work learns from what was read.
 pub(crate) fn drive_alone<I: Intake, O: Outlet>(
     alloc: Global,
     core: Core,
     batch: u32,
-    predictor: Box<dyn Predictor>,
+    crew: Crew,
     intake: &mut I,
     outlet: &mut O,
-) -> Result<Went, Memory>
+) -> Result<(Went, Crew), Memory>
     requires fresh { core ≡ begun core.plan core.bound }
     requires some { 1 ≤ batch }
     requires most { batch ≤ batch_limit }
     requires intake_plan { I.plan intake.old ≡ core.plan }
     requires outlet_plan { O.plan outlet.old ≡ core.plan }
-    ensures ended { IfOk result (Drove (λ events. I.gave intake.old events intake.new)
+    ensures ended { IfOk result (λ end. Drove (λ events. I.gave intake.old events intake.new)
         (I.ended intake.new)
         (I.stops intake.old) (I.stops intake.new) (I.cause intake.new)
-        core (O.state outlet.old) (O.state outlet.new)) }
-    ensures alone { IfOk result (λ end. MakesNoChild end.core.journal) }
-    ensures asked { IfOk result (λ end. AsksAtMost batch_limit end.core.journal) }
+        core (O.state outlet.old) (O.state outlet.new) end.0) }
+    ensures alone { IfOk result (λ end. MakesNoChild end.0.core.journal) }
+    ensures asked { IfOk result (λ end. AsksAtMost batch_limit end.0.core.journal) }
+    ensures crew { IfOk result (λ end. Relayed (λ one. named one) crew end.1 end.0.why
+        end.0.core.machine.finished) }
     ensures short { OnErr result
         (FellShort (λ events. I.gave intake.old events intake.new) (I.ended intake.new)
         core.plan (O.state outlet.old) (O.state outlet.new)) }
@@ -149,11 +167,9 @@ pub(crate) fn drive_alone<I: Intake, O: Outlet>(
     let mut lone = Lone {
         core,
         batch,
-        predictor,
+        team: Team::of(crew),
     };
     let why = run_alone(alloc, &mut lone, intake, outlet)?;
-    Ok(Went {
-        core: lone.core,
-        why,
-    })
+    let Lone { core, team, .. } = lone;
+    Ok((Went { core, why }, team.into_crew()))
 }

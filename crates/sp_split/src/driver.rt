@@ -21,6 +21,15 @@ pub(crate) trait Driver {
     /// How many events it is fed at most between two turns.
     ghost batch: { Self → ℕ };
 
+    /// Its predictors.
+    type Team;
+
+    /// The predictor in work, and those that follow it.
+    ghost team: { Self → Self.Team };
+
+    /// What may have become of predictors while it worked.
+    ghost relieved: { Self.Team → Self.Team → Type 0 };
+
     /// Where it may be fed, and work.
     ghost ready: { Self → Type 0 };
 
@@ -52,7 +61,7 @@ pub(crate) trait Driver {
         ensures unended { (core self.new).machine.ended ≡ false }
         ensures ready { ready self.new }
         ensures same { (instances self.new ≡ instances self.old)
-            × (batch self.new ≡ batch self.old) };
+            × (batch self.new ≡ batch self.old) × (team self.new ≡ team self.old) };
 
     /// Input has ended, and the core is told.
     fn end(&mut self)
@@ -63,12 +72,13 @@ pub(crate) trait Driver {
         ensures ended { (core self.new).machine.ended ≡ true }
         ensures ready { ready self.new }
         ensures same { (instances self.new ≡ instances self.old)
-            × (batch self.new ≡ batch self.old) };
+            × (batch self.new ≡ batch self.old) × (team self.new ≡ team self.old) };
 
     /// Works on what was fed, as far as can be done by now; answers what each window that is finished emits, in order.
     /// After want of memory it is only to be looked at, and some of what was emitted may be lost.
     fn work(&mut self, alloc: Global) -> Result<Vec<Emitted>, Memory>
         requires ready { ready self.old }
+        ensures relieved { relieved (team self.old) (team self.new) }
         ensures done { IfOk result (λ finished.
             Advanced (core self.old) (core self.new) (matches_of finished.items)) }
         ensures short { OnErr result (IsAdvanced (core self.old) (core self.new)) }

@@ -5,14 +5,17 @@ ghost use Rattle.sp_core.specs.Running.{begun};
 ghost use Rattle.sp_spread.specs.Limiting.{AsksAtMost};
 ghost use Rattle.sp_split.specs.Driving.{CameAbout, Drove, FellShort, most_asked};
 ghost use Rattle.sp_split.specs.Prompt.{IsPrompt};
+ghost use Rattle.sp_split.specs.Relay.{Relayed};
+ghost use Rattle.sp_split.specs.Relieving.{crew_of};
 ghost use Rattle.sp_split.specs.Serving.{Ends};
 
 use crate::alone::drive_alone;
 use crate::joining::{Ways, under};
 use crate::lent::{LentIntake, LentOutlet};
-use crate::{Ended, Memory, Went};
+use crate::relay::Relay;
+use crate::serving::Crewed;
+use crate::{Crew, Ended, Memory};
 use sp_base::Listed;
-use sp_chance::Predictor;
 use sp_core::Core;
 use sp_hub::{History, Opened};
 use sp_instance::Gate;
@@ -31,18 +34,22 @@ use std::thread::Threads;
 /// finished for the first two, and all their matches were taken. After want of memory the outlet took the first
 /// matches of what the events given come to. However it ends, where the intake asked the outside for more last, the
 /// outlet had taken all matches of the windows that the events given before close. The history of the hub names the
-/// seats of the instances, which are those from 1 on, as told at the end that no job will come.
+/// seats of the instances, which are those from 1 on, as told at the end that no job will come. For each `every` windows
+/// that are finished the next of the crew takes the place of the one in work, which is dropped, until none is left; the
+/// last one works on. Those that are left come back, by their names and in their order; the ones that have not worked are
+/// as they were.
 ///
 /// Besides, and no clause says so: an instance has a thread of its own where one can be made, and does each job inside
-/// the gate; at most `batch` events, 1 to 1,024, are fed between two turns; and it is this predictor that is asked and
-/// taught.
+/// the gate; at most `batch` events, 1 to 1,024, are fed between two turns; it is the predictor in work that is asked and
+/// taught; and the next one takes its place at the end of the turn that finished the window or, without an instance,
+/// right behind the finish.
 pub fn drive<I: Intake, O: Outlet, G: Gate, R: Threads + Wait + Sync>(
     rt: &R,
     alloc: Global,
     core: Core,
     instances: u32,
     batch: u32,
-    predictor: Box<dyn Predictor>,
+    crew: Crew,
     intake: &mut I,
     outlet: &mut O,
     gate: &G,
@@ -60,6 +67,8 @@ pub fn drive<I: Intake, O: Outlet, G: Gate, R: Threads + Wait + Sync>(
         (record { core = end.core; why = end.why })) }
     ensures about { IfOk result (λ end. CameAbout instances end.core end.history) }
     ensures asked { IfOk result (λ end. AsksAtMost (most_asked instances batch) end.core.journal) }
+    ensures crew { IfOk result (λ end. Relayed (λ one. named one) crew end.crew end.why
+        end.core.machine.finished) }
     ensures short { OnErr result
         (FellShort (λ events. I.gave intake.old events intake.new) (I.ended intake.new)
         core.plan (O.state outlet.old) (O.state outlet.new)) }
@@ -71,10 +80,17 @@ pub fn drive<I: Intake, O: Outlet, G: Gate, R: Threads + Wait + Sync>(
         × (O.token outlet.new ≡ O.token outlet.old) }
 {
     if instances == 0 {
-        return drive_lone(alloc, core, batch, predictor, intake, outlet);
+        return drive_lone(alloc, core, batch, crew, intake, outlet);
     }
-    let splitter = Splitter::new(alloc, core, instances, batch, predictor)?;
-    drive_shared(rt, alloc, splitter, intake, outlet, gate)
+    let Crew { first, rest, every } = crew;
+    let splitter = Splitter::new(alloc, core, instances, batch, first)?;
+    let relay = Relay {
+        rest,
+        every,
+        gone: 0,
+    };
+    let crewed = Crewed { splitter, relay };
+    drive_shared(rt, alloc, crewed, intake, outlet, gate)
 }
 
 // Without an instance there is no hub.
@@ -83,7 +99,7 @@ fn drive_lone<I: Intake, O: Outlet>(
     alloc: Global,
     core: Core,
     batch: u32,
-    predictor: Box<dyn Predictor>,
+    crew: Crew,
     intake: &mut I,
     outlet: &mut O,
 ) -> Result<Ended, Memory>
@@ -95,6 +111,8 @@ fn drive_lone<I: Intake, O: Outlet>(
     ensures ends { Ends (λ events. I.gave intake.old events intake.new) (I.ended intake.new)
         (I.stops intake.old) (I.stops intake.new) (I.cause intake.new)
         0 batch_limit core (O.state outlet.old) (O.state outlet.new) result }
+    ensures crew { IfOk result (λ end. Relayed (λ one. named one) crew end.crew end.why
+        end.core.machine.finished) }
     ensures prompt { IsPrompt (I.asked intake.old) intake.new core.plan (O.state outlet.old)
         (O.state outlet.new) }
     ensures same { (I.plan intake.new ≡ I.plan intake.old)
@@ -102,9 +120,14 @@ fn drive_lone<I: Intake, O: Outlet>(
     ensures same_out { (O.plan outlet.new ≡ O.plan outlet.old)
         × (O.token outlet.new ≡ O.token outlet.old) }
 {
-    let Went { core, why } = drive_alone(alloc, core, batch, predictor, intake, outlet)?;
+    let (went, crew) = drive_alone(alloc, core, batch, crew, intake, outlet)?;
     let history = no_history(alloc);
-    Ok(Ended { core, why, history })
+    Ok(Ended {
+        core: went.core,
+        why: went.why,
+        history,
+        crew,
+    })
 }
 
 // What no hub did.
@@ -123,35 +146,40 @@ fn no_history(alloc: Global) -> History
 fn drive_shared<I: Intake, O: Outlet, G: Gate, R: Threads + Wait + Sync>(
     rt: &R,
     alloc: Global,
-    splitter: Splitter,
+    crewed: Crewed,
     intake: &mut I,
     outlet: &mut O,
     gate: &G,
 ) -> Result<Ended, Memory>
-    requires fresh { splitter.core ≡ begun splitter.core.plan splitter.core.bound }
-    requires instances { (0 < splitter.instances) × (splitter.instances ≤ 16) }
-    requires batch { (1 ≤ splitter.batch) × (splitter.batch ≤ batch_limit) }
-    requires kept { splitter.kept.items ≡ [] }
-    requires intake_plan { I.plan intake.old ≡ splitter.core.plan }
-    requires outlet_plan { O.plan outlet.old ≡ splitter.core.plan }
+    requires fresh { crewed.splitter.core
+        ≡ begun crewed.splitter.core.plan crewed.splitter.core.bound }
+    requires instances { (0 < crewed.splitter.instances) × (crewed.splitter.instances ≤ 16) }
+    requires batch { (1 ≤ crewed.splitter.batch) × (crewed.splitter.batch ≤ batch_limit) }
+    requires kept { crewed.splitter.kept.items ≡ [] }
+    requires none { crewed.relay.gone ≡ 0 }
+    requires intake_plan { I.plan intake.old ≡ crewed.splitter.core.plan }
+    requires outlet_plan { O.plan outlet.old ≡ crewed.splitter.core.plan }
     ensures ends { Ends (λ events. I.gave intake.old events intake.new) (I.ended intake.new)
         (I.stops intake.old) (I.stops intake.new) (I.cause intake.new)
-        splitter.instances splitter.batch splitter.core
+        crewed.splitter.instances crewed.splitter.batch crewed.splitter.core
         (O.state outlet.old) (O.state outlet.new) result }
-    ensures prompt { IsPrompt (I.asked intake.old) intake.new splitter.core.plan
+    ensures crew { IfOk result (λ end. Relayed (λ one. named one)
+        (crew_of (record { first = crewed.splitter.predictor; relay = crewed.relay })) end.crew
+        end.why end.core.machine.finished) }
+    ensures prompt { IsPrompt (I.asked intake.old) intake.new crewed.splitter.core.plan
         (O.state outlet.old) (O.state outlet.new) }
     ensures same { (I.plan intake.new ≡ I.plan intake.old)
         × (I.token intake.new ≡ I.token intake.old) }
     ensures same_out { (O.plan outlet.new ≡ O.plan outlet.old)
         × (O.token outlet.new ≡ O.token outlet.old) }
 {
-    let places = splitter.instances + 1;
+    let places = crewed.splitter.instances + 1;
     let opened = Opened::new(alloc, places, places)?;
     let lent = Ways {
         intake: LentIntake { inner: intake },
         outlet: LentOutlet { inner: outlet },
     };
-    let (ended, back) = under::<Brand, _, _, _, _>(rt, alloc, opened, splitter, gate, lent);
+    let (ended, back) = under::<Brand, _, _, _, _>(rt, alloc, opened, crewed, gate, lent);
     // The references that come back are used, which ties them to those that were lent.
     let (_intake, _outlet) = (back.intake.inner, back.outlet.inner);
     ended

@@ -1,3 +1,4 @@
+use crate::Crew;
 use sp_core::Core;
 use sp_hub::History;
 use sp_ports::Stop;
@@ -30,4 +31,6 @@ pub struct Ended {
     pub why: Why,
     /// What the hub did, nothing where there was none.
     pub history: History,
+    /// The predictors that are left: the one in work, and those that have not worked.
+    pub crew: Crew,
 }

@@ -47,7 +47,8 @@ fn take_in<D: Driver>(alloc: Global, driver: &mut D, answer: Next) -> Result<Fed
     ensures unended { OnErr result ((D.core driver.new).machine.ended ≡ false) }
     ensures ready { D.ready driver.new }
     ensures terms { (D.instances driver.new ≡ D.instances driver.old)
-        × (D.batch driver.new ≡ D.batch driver.old) }
+        × (D.batch driver.new ≡ D.batch driver.old)
+        × (D.team driver.new ≡ D.team driver.old) }
 {
     match answer {
         Next::Event(event) => {
@@ -94,7 +95,8 @@ fn feed_next<D: Driver, I: Intake>(
         ≤ length (D.core driver.old).machine.events + 1 }
     ensures ready { D.ready driver.new }
     ensures terms { (D.instances driver.new ≡ D.instances driver.old)
-        × (D.batch driver.new ≡ D.batch driver.old) }
+        × (D.batch driver.new ≡ D.batch driver.old)
+        × (D.team driver.new ≡ D.team driver.old) }
     ensures same { (I.plan intake.new ≡ I.plan intake.old)
         × (I.token intake.new ≡ I.token intake.old) }
 {
@@ -137,7 +139,8 @@ fn feed_batch<D: Driver, I: Intake>(
         ≤ length (D.core driver.old).machine.events + D.batch driver.old }
     ensures ready { D.ready driver.new }
     ensures terms { (D.instances driver.new ≡ D.instances driver.old)
-        × (D.batch driver.new ≡ D.batch driver.old) }
+        × (D.batch driver.new ≡ D.batch driver.old)
+        × (D.team driver.new ≡ D.team driver.old) }
     ensures same { (I.plan intake.new ≡ I.plan intake.old)
         × (I.token intake.new ≡ I.token intake.old) }
 {
@@ -186,7 +189,8 @@ pub(crate) fn feed<D: Driver, I: Intake>(
         ≤ length (D.core driver.old).machine.events + D.batch driver.old }
     ensures ready { D.ready driver.new }
     ensures terms { (D.instances driver.new ≡ D.instances driver.old)
-        × (D.batch driver.new ≡ D.batch driver.old) }
+        × (D.batch driver.new ≡ D.batch driver.old)
+        × (D.team driver.new ≡ D.team driver.old) }
     ensures same { (I.plan intake.new ≡ I.plan intake.old)
         × (I.token intake.new ≡ I.token intake.old) }
 {

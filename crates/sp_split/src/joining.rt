@@ -1,21 +1,23 @@
 // A splitter and its instances side by side, at a hub of their own.
-ghost use Rattle.std.specs.Prelude.{◌≡◌, ◌≤◌, ◌<◌, ◌+◌, [], true, None, List, drop, length, map, vec_len, vec_capacity};
+ghost use Rattle.std.specs.Prelude.{◌≡◌, ◌≤◌, ◌<◌, ◌+◌, [], true, None, IfOk, List, drop, length, map, vec_len, vec_capacity};
 ghost use Rattle.std.specs.List.{All, range_with_len};
 ghost use Rattle.std.specs.Thread.{IsSync};
 ghost use Rattle.sp_base.specs.Limits.{batch_limit};
 ghost use Rattle.sp_core.specs.Running.{begun};
 ghost use Rattle.sp_split.specs.Prompt.{IsPrompt};
+ghost use Rattle.sp_split.specs.Relay.{Relayed};
+ghost use Rattle.sp_split.specs.Relieving.{crew_of};
 ghost use Rattle.sp_split.specs.Serving.{Ends, MayServe, Serves, WoundUp, ending};
 
 use crate::attending::{Seating, attend_all};
 use crate::office::Office;
-use crate::serving::{Desk, Served, serve};
-use crate::{Ended, Memory, Went, law};
+use crate::relay::Relay;
+use crate::serving::{Crewed, Desk, Served, serve};
+use crate::{Crew, Ended, Memory, Went, law};
 use sp_hub::{History, Hub, Naming, Opened, Poster, Seat};
 use sp_instance::Gate;
 use sp_piece::{Job, Piece};
 use sp_ports::{Intake, Outlet};
-use sp_splitter::Splitter;
 use std::alloc::{AllocError, Global};
 use std::sync::Wait;
 use std::thread;
@@ -48,11 +50,13 @@ fn beside<L: Naming + Send + Sync, I: Intake, O: Outlet, G: Gate, R: Threads + W
     office: &Office<'_, L, G, R>,
     seating: Seating<L>,
     desk: Desk<L>,
+    relay: Relay,
     ways: Ways<I, O>,
 ) -> (Seating<L>, Served<L>, Ways<I, O>)
     requires free { All (λ s. s.holding ≡ None) seating.seats }
     requires may { MayServe desk.splitter.core desk.splitter.instances desk.splitter.batch
         desk.splitter.kept.items desk.by desk.seat (I.plan ways.intake) (O.plan ways.outlet) }
+    requires none { relay.gone ≡ 0 }
     ensures len { length result.0.seats ≡ length seating.seats }
     ensures room { result.0.room ≡ seating.room }
     ensures numbers { map (λ s. s.number) result.0.seats ≡ map (λ s. s.number) seating.seats }
@@ -62,6 +66,9 @@ fn beside<L: Naming + Send + Sync, I: Intake, O: Outlet, G: Gate, R: Threads + W
         (I.stops ways.intake) (I.stops result.2.intake) (I.cause result.2.intake)
         desk.splitter.instances desk.splitter.batch desk.splitter.core
         (O.state ways.outlet) (O.state result.2.outlet) result.1.end (length result.1.by.got) }
+    ensures crew { IfOk result.1.end (λ end. Relayed (λ one. named one)
+        (crew_of (record { first = desk.splitter.predictor; relay = relay })) result.1.crew
+        end.why end.core.machine.finished) }
     ensures closed { result.1.by.closed ≡ true }
     ensures prompt { IsPrompt (I.asked ways.intake) result.2.intake desk.splitter.core.plan
         (O.state ways.outlet) (O.state result.2.outlet) }
@@ -91,8 +98,8 @@ fn beside<L: Naming + Send + Sync, I: Intake, O: Outlet, G: Gate, R: Threads + W
             seating
         },
         || -> (Served<L>, Ways<I, O>)
-            requires { MayServe desk.splitter.core desk.splitter.instances desk.splitter.batch
-                desk.splitter.kept.items desk.by desk.seat
+            requires { (relay.gone ≡ 0) × MayServe desk.splitter.core desk.splitter.instances
+                desk.splitter.batch desk.splitter.kept.items desk.by desk.seat
                 (I.plan ways.intake) (O.plan ways.outlet) }
             ensures served { Serves (λ events. I.gave ways.intake events result.1.intake)
                 (I.ended result.1.intake)
@@ -100,6 +107,9 @@ fn beside<L: Naming + Send + Sync, I: Intake, O: Outlet, G: Gate, R: Threads + W
                 desk.splitter.instances desk.splitter.batch desk.splitter.core
                 (O.state ways.outlet) (O.state result.1.outlet) result.0.end
                 (length result.0.by.got) }
+            ensures crew { IfOk result.0.end (λ end. Relayed (λ one. named one)
+                (crew_of (record { first = desk.splitter.predictor; relay = relay }))
+                result.0.crew end.why end.core.machine.finished) }
             ensures closed { result.0.by.closed ≡ true }
             ensures prompt { IsPrompt (I.asked ways.intake) result.1.intake
                 desk.splitter.core.plan (O.state ways.outlet) (O.state result.1.outlet) }
@@ -109,7 +119,7 @@ fn beside<L: Naming + Send + Sync, I: Intake, O: Outlet, G: Gate, R: Threads + W
                 × (O.token result.1.outlet ≡ O.token ways.outlet) }
         {
             let mut ways = ways;
-            let served = serve(office, desk, &mut ways.intake, &mut ways.outlet);
+            let served = serve(office, desk, relay, &mut ways.intake, &mut ways.outlet);
             (served, ways)
         },
     );
@@ -150,26 +160,31 @@ pub(crate) fn under<
     rt: &R,
     alloc: Global,
     opened: Opened<Piece>,
-    splitter: Splitter,
+    crewed: Crewed,
     gate: &G,
     ways: Ways<I, O>,
 ) -> (Result<Ended, Memory>, Ways<I, O>)
     requires name { (opened.name ≡ L.name) × (opened.parts ≡ L.parts)
         × (opened.table ≡ L.table) }
-    requires places { (opened.seats ≡ splitter.instances + 1)
-        × (opened.room ≡ splitter.instances + 1) }
-    requires fresh { splitter.core ≡ begun splitter.core.plan splitter.core.bound }
-    requires instances { (0 < splitter.instances) × (splitter.instances ≤ 16) }
-    requires batch { (1 ≤ splitter.batch) × (splitter.batch ≤ batch_limit) }
-    requires kept { splitter.kept.items ≡ [] }
-    requires intake_plan { I.plan ways.intake ≡ splitter.core.plan }
-    requires outlet_plan { O.plan ways.outlet ≡ splitter.core.plan }
+    requires places { (opened.seats ≡ crewed.splitter.instances + 1)
+        × (opened.room ≡ crewed.splitter.instances + 1) }
+    requires fresh { crewed.splitter.core
+        ≡ begun crewed.splitter.core.plan crewed.splitter.core.bound }
+    requires instances { (0 < crewed.splitter.instances) × (crewed.splitter.instances ≤ 16) }
+    requires batch { (1 ≤ crewed.splitter.batch) × (crewed.splitter.batch ≤ batch_limit) }
+    requires kept { crewed.splitter.kept.items ≡ [] }
+    requires none { crewed.relay.gone ≡ 0 }
+    requires intake_plan { I.plan ways.intake ≡ crewed.splitter.core.plan }
+    requires outlet_plan { O.plan ways.outlet ≡ crewed.splitter.core.plan }
     ensures ends { Ends (λ events. I.gave ways.intake events result.1.intake)
         (I.ended result.1.intake)
         (I.stops ways.intake) (I.stops result.1.intake) (I.cause result.1.intake)
-        splitter.instances splitter.batch splitter.core
+        crewed.splitter.instances crewed.splitter.batch crewed.splitter.core
         (O.state ways.outlet) (O.state result.1.outlet) result.0 }
-    ensures prompt { IsPrompt (I.asked ways.intake) result.1.intake splitter.core.plan
+    ensures crew { IfOk result.0 (λ end. Relayed (λ one. named one)
+        (crew_of (record { first = crewed.splitter.predictor; relay = crewed.relay })) end.crew
+        end.why end.core.machine.finished) }
+    ensures prompt { IsPrompt (I.asked ways.intake) result.1.intake crewed.splitter.core.plan
         (O.state ways.outlet) (O.state result.1.outlet) }
     ensures same { (I.plan result.1.intake ≡ I.plan ways.intake)
         × (I.token result.1.intake ≡ I.token ways.intake) }
@@ -182,6 +197,7 @@ pub(crate) fn under<
         Err(AllocError) => return (Err(AllocError), ways),
     };
     let (seat, others) = part(seats);
+    let Crewed { splitter, relay } = crewed;
     let desk = Desk { splitter, by, seat };
     let seating = Seating::of(others);
     let office = Office {
@@ -190,16 +206,26 @@ pub(crate) fn under<
         hub: &hub,
         gate,
     };
-    let (seating, served, ways) = beside(&office, seating, desk, ways);
-    let Served { by, seat, end } = served;
+    let (seating, served, ways) = beside(&office, seating, desk, relay, ways);
+    let Served {
+        by,
+        seat,
+        crew,
+        end,
+    } = served;
     let history = wind_up(hub, by, seating.into_seats(), seat);
-    (with_history(end, history), ways)
+    (with_history(end, history, crew), ways)
 }
 
-// How it ended, with what the hub did.
-fn with_history(end: Result<Went, Memory>, history: History) -> Result<Ended, Memory>
-    ensures { result ≡ ending history end }
+// How it ended, with what the hub did, and those that are left of the crew.
+fn with_history(end: Result<Went, Memory>, history: History, crew: Crew) -> Result<Ended, Memory>
+    ensures { result ≡ ending history crew end }
 {
     let Went { core, why } = end?;
-    Ok(Ended { core, why, history })
+    Ok(Ended {
+        core,
+        why,
+        history,
+        crew,
+    })
 }

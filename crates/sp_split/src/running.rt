@@ -8,6 +8,7 @@ ghost use Rattle.sp_split.specs.Driving.{Drove, FailedWithin, FellShort};
 ghost use Rattle.sp_split.specs.Going.{IsGoing};
 ghost use Rattle.sp_split.specs.Prompt.{IsPrompt};
 ghost use Rattle.sp_split.specs.Stages.{AdvancedWith};
+ghost use Rattle.sp_split.specs.Stopping.{IsThrough};
 
 use crate::driver::Driver;
 use crate::feeding::{Fed, all_finished, feed};
@@ -41,6 +42,7 @@ fn work_and_put<D: Driver, O: Outlet>(
     ensures no_fault { result ≢ Err o.Failed
         → (O.state outlet.new).faults ≡ (O.state outlet.old).faults }
     ensures ready { OnOk result (D.ready driver.new) }
+    ensures relieved { D.relieved (D.team driver.old) (D.team driver.new) }
     ensures came { D.came driver.new }
     ensures terms { (D.instances driver.new ≡ D.instances driver.old)
         × (D.batch driver.new ≡ D.batch driver.old) }
@@ -104,7 +106,8 @@ pub(crate) fn round<D: Driver, I: Intake, O: Outlet>(
         → IsPrompt (I.asked from) intake.new first.plan old (O.state outlet.new) }
     ensures few { length (D.core driver.new).machine.events
         ≤ length (D.core driver.old).machine.events + D.batch driver.old }
-    ensures ready { IfOk result (λ round. round.over ≡ None → D.ready driver.new) }
+    ensures ready { IfOk result (λ round. IsThrough round.over → D.ready driver.new) }
+    ensures relieved { OnOk result (D.relieved (D.team driver.old) (D.team driver.new)) }
     ensures came { D.came driver.new }
     ensures terms { (D.instances driver.new ≡ D.instances driver.old)
         × (D.batch driver.new ≡ D.batch driver.old) }

@@ -1,17 +1,21 @@
 // A splitter serves its instances, between an intake and an outlet.
-ghost use Rattle.std.specs.Prelude.{◌≡◌, ◌≤◌, ◌+◌, ◌↔◌, ◌++◌, ◌∷◌, [], None, true, false, length, IfOk, IsTrue, OnOk, OnErr};
+ghost use Rattle.std.specs.Prelude.{◌≡◌, ◌≤◌, ◌+◌, ◌↔◌, ◌++◌, ◌∷◌, [], None, Some, true, false, length, IfOk, IsTrue, OnOk, OnErr};
 ghost use Rattle.sp_ports.specs.Giving.{AreGood};
 ghost use Rattle.sp_core.specs.Running.{begun};
 ghost use Rattle.sp_split.specs.Driving.{Drove, FellShort};
 ghost use Rattle.sp_split.specs.Prompt.{IsPrompt};
+ghost use Rattle.sp_split.specs.Relay.{Relayed};
+ghost use Rattle.sp_split.specs.Relieving.{AreDue, AreWithin, Relieved, crew_of};
+ghost use Rattle.sp_split.specs.Stopping.{IsThrough};
 ghost use Rattle.sp_instance.specs.Seats.{PutAll};
 ghost use Rattle.sp_split.specs.Serving.{CameServing, CanTurn, Filled, IsToWait, Serves};
 
 use crate::driver::Driver;
 use crate::feeding::{Fed, all_finished};
 use crate::office::Office;
+use crate::relay::{Relay, Team};
 use crate::running::round;
-use crate::{Memory, Went, Why};
+use crate::{Crew, Memory, Went, Why};
 use sp_core::{Core, CoreFault, Emitted};
 use sp_hub::{Hub, Naming, Poster, Seat};
 use sp_instance::{Gate, work_some};
@@ -21,6 +25,13 @@ use sp_ports::{Intake, Outlet};
 use sp_splitter::Splitter;
 use std::alloc::{AllocError, Global};
 use std::sync::Wait;
+
+/// A splitter, and the predictors that are to take the place of its own.
+#[derive(Drop)]
+pub(crate) struct Crewed {
+    pub(crate) splitter: Splitter,
+    pub(crate) relay: Relay,
+}
 
 /// A splitter with what it has at its hub: the poster, and a seat of its own.
 #[derive(Drop)]
@@ -36,6 +47,8 @@ pub(crate) struct Served<L: Naming> {
     /// The poster, which has closed the hub.
     pub(crate) by: Poster<Piece, L>,
     pub(crate) seat: Seat<Piece, L>,
+    /// The predictors that are left.
+    pub(crate) crew: Crew,
     /// How it ended. `Err` is want of memory while the core was fed: an event may be lost.
     pub(crate) end: Result<Went, Memory>,
 }
@@ -102,16 +115,35 @@ fn tell_end(splitter: &mut Splitter)
     }
 }
 
-// A splitter that works at its desk, with instances at the same hub.
+// Puts those to work that are due, one after another: a turn may have finished several windows. The ones that worked are
+// dropped.
+fn relieve(splitter: &mut Splitter, relay: &mut Relay)
+    requires { AreWithin relay.old splitter.old.core.machine.finished }
+    ensures relieved { Relieved (λ one. named one)
+        (record { first = splitter.old.predictor; relay = relay.old })
+        (record { first = splitter.new.predictor; relay = relay.new }) }
+    ensures due { AreDue relay.new splitter.new.core.machine.finished }
+    ensures rest { splitter.new ≡ record splitter.old { predictor = splitter.new.predictor } }
+{
+    while let Some(next) = relay.next(splitter.core().finished()) {
+        drop(splitter.exchange(next));
+    }
+}
+
+// A splitter that works at its desk, with instances at the same hub, and the predictors that follow its own.
 #[derive(Drop)]
 struct Serving<'a, L: Naming, R: Wait> {
     rt: &'a R,
     hub: &'a Hub<Job, Piece, L>,
     desk: Desk<L>,
+    relay: Relay,
 }
 
 impl<'a, L: Naming, R: Wait> Driver for Serving<'a, L, R> {
+    ghost use Rattle.sp_split.specs.Relieving.{AreDue, Relieved};
     ghost use Rattle.sp_split.specs.Serving.{IsServing, CameServing, serving_came};
+
+    type Team = Team;
 
     ghost core = { λ it. it.desk.splitter.core };
 
@@ -119,11 +151,16 @@ impl<'a, L: Naming, R: Wait> Driver for Serving<'a, L, R> {
 
     ghost batch = { λ it. it.desk.splitter.batch };
 
-    ghost ready = { λ it. IsServing it.desk.splitter.instances it.desk.splitter.batch it.desk.splitter.kept.items it.desk.splitter.core it.desk.by it.desk.seat };
+    ghost team = { λ it. record { first = it.desk.splitter.predictor; relay = it.relay } };
+
+    ghost relieved = { λ old new. Relieved (λ one. (Predictor-box one).named one.value) old new };
+
+    ghost ready = { λ it. IsServing it.desk.splitter.instances it.desk.splitter.batch it.desk.splitter.kept.items it.desk.splitter.core it.desk.by it.desk.seat
+        × AreDue it.relay it.desk.splitter.core.machine.finished };
 
     ghost came = { λ it. CameServing it.desk.splitter.instances it.desk.splitter.batch it.desk.splitter.core it.desk.by };
 
-    ghost ready_came = { λ it ready. serving_came it.desk.splitter.instances it.desk.splitter.batch it.desk.splitter.kept.items it.desk.splitter.core it.desk.by it.desk.seat ready };
+    ghost ready_came = { λ it ready. serving_came it.desk.splitter.instances it.desk.splitter.batch it.desk.splitter.kept.items it.desk.splitter.core it.desk.by it.desk.seat ready.0 };
 
     fn core(&self) -> &Core {
         self.desk.splitter.core()
@@ -143,7 +180,9 @@ impl<'a, L: Naming, R: Wait> Driver for Serving<'a, L, R> {
 
     fn work(&mut self, alloc: Global) -> Result<Vec<Emitted>, Memory> {
         let desk = &mut self.desk;
-        desk.splitter.turn(self.rt, alloc, self.hub, &mut desk.by)
+        let finished = desk.splitter.turn(self.rt, alloc, self.hub, &mut desk.by)?;
+        relieve(&mut desk.splitter, &mut self.relay);
+        Ok(finished)
     }
 }
 
@@ -160,6 +199,7 @@ fn serve_on<I: Intake, O: Outlet, L: Naming, G: Gate, R: Wait>(
         serving.old.desk.splitter.kept.items
         serving.old.desk.splitter.core.machine.next_ticket serving.old.desk.by }
     requires free { serving.old.desk.seat.holding ≡ None }
+    requires due { AreDue serving.old.relay serving.old.desk.splitter.core.machine.finished }
     requires intake_plan { I.plan intake.old ≡ serving.old.desk.splitter.core.plan }
     requires outlet_plan { O.plan outlet.old ≡ serving.old.desk.splitter.core.plan }
     ensures ended { IfOk result (λ why. Drove (λ events. I.gave intake.old events intake.new)
@@ -169,6 +209,11 @@ fn serve_on<I: Intake, O: Outlet, L: Naming, G: Gate, R: Wait>(
         (record { core = serving.new.desk.splitter.core; why = why })) }
     ensures came { CameServing serving.old.desk.splitter.instances
         serving.old.desk.splitter.batch serving.new.desk.splitter.core serving.new.desk.by }
+    ensures relieved { OnOk result (Relieved (λ one. named one)
+        (record { first = serving.old.desk.splitter.predictor; relay = serving.old.relay })
+        (record { first = serving.new.desk.splitter.predictor; relay = serving.new.relay })) }
+    ensures due { IfOk result (λ why. IsThrough (Some why)
+        → AreDue serving.new.relay serving.new.desk.splitter.core.machine.finished) }
     ensures short { OnErr result
         (FellShort (λ events. I.gave intake.old events intake.new) (I.ended intake.new)
         serving.old.desk.splitter.core.plan (O.state outlet.old) (O.state outlet.new)) }
@@ -199,17 +244,19 @@ fn shut<L: Naming, G: Gate, R: Wait>(office: &Office<'_, L, G, R>, desk: &mut De
     ensures closed { desk.new.by.closed ≡ true }
     ensures got { desk.new.by.got ≡ desk.old.by.got }
     ensures core { desk.new.splitter.core ≡ desk.old.splitter.core }
+    ensures predictor { desk.new.splitter.predictor ≡ desk.old.splitter.predictor }
 {
     office.hub.close(office.rt, &mut desk.by);
 }
 
 /// Runs a splitter whose core has done no step, from an intake to an outlet, until the intake gives no more and every
 /// closed window is finished, or a match is refused, or memory runs out. Turn after turn events are fed, a turn is
-/// taken, the matches of the windows that it finished are put, and then the splitter does jobs that are still listed.
-/// Behind the last turn it closes its hub.
+/// taken, predictors that are due go to work, the matches of the windows that it finished are put, and then the splitter
+/// does jobs that are still listed. Behind the last turn it closes its hub.
 pub(crate) fn serve<I: Intake, O: Outlet, L: Naming, G: Gate, R: Wait>(
     office: &Office<'_, L, G, R>,
     desk: Desk<L>,
+    relay: Relay,
     intake: &mut I,
     outlet: &mut O,
 ) -> Served<L>
@@ -217,12 +264,16 @@ pub(crate) fn serve<I: Intake, O: Outlet, L: Naming, G: Gate, R: Wait>(
     requires can { CanTurn desk.splitter.instances desk.splitter.batch desk.splitter.kept.items
         desk.splitter.core.machine.next_ticket desk.by }
     requires free { desk.seat.holding ≡ None }
+    requires none { relay.gone ≡ 0 }
     requires intake_plan { I.plan intake.old ≡ desk.splitter.core.plan }
     requires outlet_plan { O.plan outlet.old ≡ desk.splitter.core.plan }
     ensures served { Serves (λ events. I.gave intake.old events intake.new) (I.ended intake.new)
         (I.stops intake.old) (I.stops intake.new) (I.cause intake.new)
         desk.splitter.instances desk.splitter.batch desk.splitter.core (O.state outlet.old)
         (O.state outlet.new) result.end (length result.by.got) }
+    ensures crew { IfOk result.end (λ end. Relayed (λ one. named one)
+        (crew_of (record { first = desk.splitter.predictor; relay = relay })) result.crew
+        end.why end.core.machine.finished) }
     ensures closed { result.by.closed ≡ true }
     ensures prompt { IsPrompt (I.asked intake.old) intake.new desk.splitter.core.plan
         (O.state outlet.old) (O.state outlet.new) }
@@ -235,17 +286,34 @@ pub(crate) fn serve<I: Intake, O: Outlet, L: Naming, G: Gate, R: Wait>(
         rt: office.rt,
         hub: office.hub,
         desk,
+        relay,
     };
     let why = serve_on(office, &mut serving, intake, outlet);
-    let Serving { mut desk, .. } = serving;
+    let Serving {
+        mut desk,
+        relay,
+        ..
+    } = serving;
     shut(office, &mut desk);
     let Desk { splitter, by, seat } = desk;
+    let Splitter {
+        core,
+        predictor,
+        ..
+    } = splitter;
+    let team = Team {
+        first: predictor,
+        relay,
+    };
+    let crew = team.into_crew();
     let end = match why {
-        Ok(why) => Ok(Went {
-            core: splitter.core,
-            why,
-        }),
+        Ok(why) => Ok(Went { core, why }),
         Err(AllocError) => Err(AllocError),
     };
-    Served { by, seat, end }
+    Served {
+        by,
+        seat,
+        crew,
+        end,
+    }
 }

@@ -83,6 +83,7 @@ fn read_on(
     requires undone { IsSome (refused core.old s.Finish) }
     ensures turned { IfOk result (Turned core.old core.new) }
     ensures err { OnErr result (CutOff core.old core.new) }
+    ensures name { named predictor.new ≡ named predictor.old }
 {
     law::steps_lead_to(core);
     law::closed_come_first();
@@ -104,7 +105,7 @@ fn read_on(
 }
 
 /// One turn of the root: it is finished where it is done, and else reads on; where there is none, the next
-/// window's is made.
+/// window's is made. The predictor is the same one, by its name.
 pub(crate) fn take_turn(
     alloc: Global,
     core: &mut Core,
@@ -113,6 +114,7 @@ pub(crate) fn take_turn(
     requires none_out { core.old.machine.tickets ≡ [] }
     ensures turned { IfOk result (Turned core.old core.new) }
     ensures err { OnErr result (CutOff core.old core.new) }
+    ensures name { named predictor.new ≡ named predictor.old }
 {
     let Some(root) = core.tree().root() else {
         return begin(alloc, core);

@@ -44,7 +44,7 @@ returns-in_default g c =
       is = goes_fed g.I.Intake.ended g.I.Intake.stops g.I.Intake.cause c.args.intake.now c.loop.intake c.feed_next.new.intake c.in_ok-ended.ended last.machine.ended c.loop.invariant.goes_on c.in_ok-ended.ensures.is;
       few = let one = c.feed_next.ensures.few in let before = c.loop.invariant.few in let below = c.loop-test.true in let most = c.batch-end.ensures in omega (arith, one, before, below, most);
       ready = c.feed_next.ensures.ready;
-      terms = (c.feed_next.ensures.terms.0 ∙ c.loop.invariant.instances, c.feed_next.ensures.terms.1 ∙ c.loop.invariant.batch);
+      terms = (c.feed_next.ensures.terms.0 ∙ c.loop.invariant.instances, c.feed_next.ensures.terms.1 ∙ c.loop.invariant.batch, c.feed_next.ensures.terms.2 ∙ c.loop.invariant.team);
       same = (c.feed_next.ensures.same.0 ∙ c.loop.invariant.plan, c.feed_next.ensures.same.1 ∙ c.loop.invariant.token);
     }
 
@@ -67,6 +67,7 @@ loop-preserved g c =
       ready = c.feed_next.ensures.ready;
       instances = c.feed_next.ensures.terms.0 ∙ c.loop.invariant.instances;
       batch = c.feed_next.ensures.terms.1 ∙ c.loop.invariant.batch;
+      team = c.feed_next.ensures.terms.2 ∙ c.loop.invariant.team;
       plan = c.feed_next.ensures.same.0 ∙ c.loop.invariant.plan;
       token = c.feed_next.ensures.same.1 ∙ c.loop.invariant.token;
     }

@@ -14,6 +14,7 @@ invariant-loop g l = record {
   ready : g.D.Driver.ready l.driver;
   instances : g.D.Driver.instances l.driver ≡ g.D.Driver.instances l.initial.driver;
   batch : g.D.Driver.batch l.driver ≡ g.D.Driver.batch l.initial.driver;
+  team : g.D.Driver.team l.driver ≡ g.D.Driver.team l.initial.driver;
   plan : g.I.Intake.plan l.intake ≡ g.I.Intake.plan l.initial.intake;
   token : g.I.Intake.token l.intake ≡ g.I.Intake.token l.initial.intake;
 }

@@ -8,9 +8,12 @@ use Rattle.sp_hub.specs.Calls.{fresh_seat}
 use Rattle.sp_hub.proofs.Seats.{all_free}
 use Rattle.sp_hub.proofs.Told.{behind_first}
 use Rattle.sp_piece.proofs.Crossing.{job_sent, piece_sent}
+use Rattle.std.specs.Prelude.{IfOk}
+use Rattle.sp_split.specs.Relay.{Relayed}
+use Rattle.sp_split.specs.Relieving.{crew_of}
 use Rattle.sp_split.specs.Seatings.{Seated}
 use Rattle.sp_split.specs.Serving.{Ends, WoundUp}
-use Rattle.sp_split.proofs.About.{ends_with, fell_at_once}
+use Rattle.sp_split.proofs.About.{ends_with, fell_at_once, if_ending}
 use Rattle.sp_split.proofs.Prompt.{prompt_none}
 use Rattle.sp_split.proofs.joining.under.Goals as goal
 
@@ -27,7 +30,7 @@ returns-in-Err-clause-ends g c =
       drove = tt;
       about = tt;
       asked = tt;
-      short = fell_at_once (λ (events : List Event). g.I.Intake.gave intake events intake) (g.I.Intake.ended intake) c.args.splitter.core.plan (g.O.Outlet.state c.args.ways.outlet) (g.I.Intake.gave_none intake);
+      short = fell_at_once (λ (events : List Event). g.I.Intake.gave intake events intake) (g.I.Intake.ended intake) c.args.crewed.splitter.core.plan (g.O.Outlet.state c.args.ways.outlet) (g.I.Intake.gave_none intake);
     }
 
 pub part-seat-requires-clause-some : goal.part-seat-requires-clause-some
@@ -101,16 +104,23 @@ returns-clause-ends g c =
     let before = g.I.Intake.stops first in
     let behind = g.I.Intake.stops last in
     let kept = g.I.Intake.cause last in
-    let n = c.args.splitter.instances in
-    let batch = c.args.splitter.batch in
-    let start = c.args.splitter.core in
+    let n = c.args.crewed.splitter.instances in
+    let batch = c.args.crewed.splitter.batch in
+    let start = c.args.crewed.splitter.core in
     let old = g.O.Outlet.state c.args.ways.outlet in
     let new = g.O.Outlet.state c.beside-seating.result.2.outlet in
     let history = c.wind_up-history.result in
     let seats : c.in-Ok.made.0.seats ≡ n + 1 = ap (λ (h : Extent). h.seats) c.in-Ok.ensures.hub ∙ c.requires.places.0 in
     let wound = subst (λ (k : ℕ). WoundUp k (length c.beside-seating.result.1.by.got) history) seats c.wind_up-history.ensures in
     subst (λ r. Ends G all before behind kept n batch start old new r) (sym c.with_history.ensures)
-    (ends_with G all before behind kept n batch start old new c.beside-seating.result.1.end (length c.beside-seating.result.1.by.got) history c.beside-seating.ensures.served c.requires.instances.0 wound c.returns_follow_readings.ensures)
+    (ends_with G all before behind kept n batch start old new c.beside-seating.result.1.end (length c.beside-seating.result.1.by.got) history c.beside-seating.result.1.crew c.beside-seating.ensures.served c.requires.instances.0 wound c.returns_follow_readings.ensures)
 
 pub returns-in-Err-clause-prompt : goal.returns-in-Err-clause-prompt
-returns-in-Err-clause-prompt g c = prompt_none (g.I.Intake.asked c.args.ways.intake) c.args.ways.intake c.args.splitter.core.plan (g.O.Outlet.state c.args.ways.outlet) (g.I.Intake.asked_none c.args.ways.intake)
+returns-in-Err-clause-prompt g c = prompt_none (g.I.Intake.asked c.args.ways.intake) c.args.ways.intake c.args.crewed.splitter.core.plan (g.O.Outlet.state c.args.ways.outlet) (g.I.Intake.asked_none c.args.ways.intake)
+
+pub returns-clause-crew : goal.returns-clause-crew
+returns-clause-crew g c =
+    let first = crew_of (record { first = c.args.crewed.splitter.predictor; relay = c.args.crewed.relay }) in
+    subst (λ r. IfOk r (λ e. Relayed (λ one. (goal.Predictor-dyn g (one.vtable, one.value)).named one.value) first e.crew e.why e.core.machine.finished)) (sym c.with_history.ensures)
+    (if_ending (λ crew why core. Relayed (λ one. (goal.Predictor-dyn g (one.vtable, one.value)).named one.value) first crew why core.machine.finished) c.wind_up-history.result c.beside-seating.result.1.crew
+    c.beside-seating.result.1.end c.beside-seating.ensures.crew)

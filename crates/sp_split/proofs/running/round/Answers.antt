@@ -8,7 +8,8 @@ use Rattle.sp_ports.specs.Giving.{AreGood}
 use Rattle.sp_core.specs.Running.{Running}
 use Rattle.sp_split.specs.Stages.{AllFinished}
 use Rattle.sp_split.proofs.Going.{fed_later, fell_short, was_fed}
-use Rattle.sp_split.proofs.Over.{drove_over, ended_any, fed_turn, going_on}
+use Rattle.sp_split.specs.Stopping.{IsThrough}
+use Rattle.sp_split.proofs.Over.{drove_over, ended_any, fed_turn, going_on, put_through}
 use Rattle.sp_split.proofs.Prompt.{behind_on, behind_round, grew_still, if_some, prompt_on, took_all}
 use Rattle.sp_split.proofs.Turns.{on_any}
 use Rattle.sp_split.proofs.running.round.Goals as goal
@@ -35,6 +36,9 @@ returns-in_err-fed-clause-prompt g c = λ from first old going.
     prompt_on (g.I.Intake.asked from) c.feed.new.intake first.plan later old s
     (behind_on g.I.Intake.asked from c.args.intake.now c.feed.new.intake first.plan before.machine.events later (AllFinished before × (before.machine.ended ≡ _)) old s s
     going.behind lost.2 (took_all first before old s (subst (λ (r : Running). Reached r.plan r.bound r.machine) c.core.ensures c.steps_lead_to.ensures.reached) going.going.run.plan going.going.took) (grew_still s))
+
+pub returns-in_err-fed-clause-came : goal.returns-in_err-fed-clause-came
+returns-in_err-fed-clause-came g c = g.D.Driver.ready_came c.feed.new.driver c.feed.ensures.ready
 
 pub returns-clause-goes : goal.returns-clause-goes
 returns-clause-goes g c = λ goes_on from first old going.
@@ -77,6 +81,14 @@ returns-clause-ended g c = if_some _ c.why_over-over.result (λ why so from firs
     put own.done own.failed own.short own.rose own.no_fault in
     drove_over G whole (g.I.Intake.stops from) (g.I.Intake.stops c.feed.new.intake) (g.I.Intake.cause c.feed.new.intake) first last old new fed put c.all_finished-all.result why (so ∙ c.why_over-over.ensures) (was_fed g.I.Intake.ended g.I.Intake.stops g.I.Intake.cause from c.feed.new.intake fed last.machine.ended is)
     (on_any _ put (subst (λ (r : Running). c.all_finished-all.result ≡ true → AllFinished r) c.core-2.ensures c.all_finished-all.ensures.0)) turned)
+
+pub returns-clause-ready : goal.returns-clause-ready
+returns-clause-ready g c = λ is.
+    put_through _ c.in_ok-fed.fed c.work_and_put-put.result c.all_finished-all.result (subst IsThrough c.why_over-over.ensures is) c.work_and_put-put.ensures.ready
+
+pub returns-clause-relieved : goal.returns-clause-relieved
+returns-clause-relieved g c =
+    subst (λ team. g.D.Driver.relieved team (g.D.Driver.team c.work_and_put-put.new.driver)) c.feed.ensures.terms.2 c.work_and_put-put.ensures.relieved
 
 pub returns-clause-prompt : goal.returns-clause-prompt
 returns-clause-prompt g c = λ from first old going.
