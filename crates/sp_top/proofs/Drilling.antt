@@ -55,11 +55,11 @@ quiet (inl rose) = omega (arith, rose)
 quiet (inr full) = omega (arith, full)
 
 -- where there is an end and a run was done, it is such a one
-pub end_of : (Is : Ended → Type 0) (s : Status) (o : Option Ended) (e : Ended) → s ≡ Done → o ≡ Some e → WhereDone Is s o → Is e
-end_of Is s o e done some report = subst (λ (x : Option Ended). WhereDone Is Done x) some (subst (λ (t : Status). WhereDone Is t o) done report) refl
+pub end_of : {V : Type 0} {T : V → Type 0} → (Is : Ended V T → Type 0) (s : Status) (o : Option (Ended V T)) (e : Ended V T) → s ≡ Done → o ≡ Some e → WhereDone Is s o → Is e
+end_of {V} {T} Is s o e done some report = subst (λ (x : Option (Ended V T)). WhereDone Is Done x) some (subst (λ (t : Status). WhereDone Is t o) done report) refl
 
 -- an end stays what it is where the status stays unless it was done
-pub stays_reported : (Is : Ended → Type 0) (s later : Status) (o : Option Ended) → (s ≡ Done) ⊎ (s ≡ Memory) → (s ≢ Done → later ≡ s) → WhereDone Is s o → WhereDone Is later o
+pub stays_reported : {V : Type 0} {T : V → Type 0} → (Is : Ended V T → Type 0) (s later : Status) (o : Option (Ended V T)) → (s ≡ Done) ⊎ (s ≡ Memory) → (s ≢ Done → later ≡ s) → WhereDone Is s o → WhereDone Is later o
 stays_reported Is s later None either other report = λ is. report (sym (other report) ∙ is)
 stays_reported Is s later (Some e) (inl done) other report = λ _. report done
 stays_reported Is s later (Some e) (inr memory) other report = let same = other (λ is. cc) in λ is. absurd (cc)
@@ -76,7 +76,7 @@ module _ (stay : RowsStay) (has : DrillQueryHasPlan) (rows : GeneratedRowsAreRea
       (ran_done stay (IsPlanRun q) old new q (generated events seed) (windows_text q) (λ b e o own. own) reads no_read no_write used_up (ending s) ran)
 
   -- and the run over them is that of the drill
-  pub rows_reported : (speed : Speed) (ended : Option Ended) → WhereDone (ReportsPlan q speed old.input.left new.input.left) s ended → WhereDone (ReportsDrill events seed speed) s ended
+  pub rows_reported : {V : Type 0} {T : V → Type 0} → (speed : Speed) (ended : Option (Ended V T)) → WhereDone (ReportsPlan q speed old.input.left new.input.left) s ended → WhereDone (ReportsDrill events seed speed) s ended
   rows_reported speed None report = report
   rows_reported speed (Some e) report = λ done.
       let own = report done in
@@ -126,7 +126,7 @@ module _ (q : Plan) (is : IsPlanFor drill_query q) (events seed : ℕ) (input : 
 
 module _ (has : DrillQueryHasPlan) (rows : GeneratedRowsAreRead) (events seed : ℕ) (few : events ≤ event_limit) (speed : Speed) where
   -- a drill's run can be summed up
-  pub can_sum : (s : Status) (ended : Option Ended) → WhereDone (ReportsDrill events seed speed) s ended → WhereDone CanSum s ended
+  pub can_sum : {V : Type 0} {T : V → Type 0} → (s : Status) (ended : Option (Ended V T)) → WhereDone (ReportsDrill events seed speed) s ended → WhereDone CanSum s ended
   can_sum s None report = report
   can_sum s (Some e) report = λ done.
       let own = report done in
@@ -134,13 +134,13 @@ module _ (has : DrillQueryHasPlan) (rows : GeneratedRowsAreRead) (events seed : 
       let same = ap length own.1.events in
       (omega arith, own.1.finished)
 
-  module _ (s : Status) (ended : Option Ended) (either : (s ≡ Done) ⊎ (s ≡ Memory)) (report : WhereDone (ReportsDrill events seed speed) s ended) (old new : SinkState) (later : Status)
+  module _ {V : Type 0} {T : V → Type 0} (s : Status) (ended : Option (Ended V T)) (either : (s ≡ Done) ⊎ (s ≡ Memory)) (report : WhereDone (ReportsDrill events seed speed) s ended) (old new : SinkState) (later : Status)
       (sums : SumsUp s ended old new later) where
     -- and what is written then is the drill's text
     pub drill_made : (input : SourceState) → Made (λ bytes ended. DrillOutcome events seed) (outside input old) (outside input new) (ending later)
     drill_made input = by either ended report sums
       where
-        by : (s ≡ Done) ⊎ (s ≡ Memory) → (o : Option Ended) → WhereDone (ReportsDrill events seed speed) s o → SumsUp s o old new later
+        by : (s ≡ Done) ⊎ (s ≡ Memory) → (o : Option (Ended V T)) → WhereDone (ReportsDrill events seed speed) s o → SumsUp s o old new later
             → Made (λ bytes ended. DrillOutcome events seed) (outside input old) (outside input new) (ending later)
         by (inl done) None report sums = absurd (report done)
         by (inl done) (Some e) report sums =

@@ -1,5 +1,6 @@
 mod Answered
 mod Chosen
+mod Apart
 mod Drilling
 mod Driven
 mod Reporting

@@ -31,13 +31,12 @@ use Rattle.sp_split.specs.declared.ended.Why.{Why}
 use Rattle.sp_split.specs.declared.ended.Why.TheVariants as why
 use Rattle.sp_split.specs.Driving.{Drove, CameAbout, most_asked}
 use Rattle.sp_spread.specs.Limiting.{AsksAtMost}
-use Rattle.sp_cli.specs.Commands.{Command, Speed, QuerySource, run, drill}
-use Rattle.sp_commands.specs.Commands.{place_of, IsCommand, IsCall, IsNoCall, IsReported}
+use Rattle.sp_cli.specs.Commands.{Speed, QuerySource, run, drill}
+use Rattle.sp_commands.specs.Commands.{place_of, IsCall}
 use Rattle.sp_commands.specs.Ends.{status_of, status_of_refusal}
 use Rattle.sp_top.specs.RunEnds.{status_of_end}
 use Rattle.sp_top.specs.Report.{of_run, of_drill, Reported, ReportsPlan, ReportsPlace, ReportsDrill, WhereDone, Reporting}
 use Rattle.sp_top.proofs.Driven.{whole_end, if_some}
-use Rattle.sp_commands.proofs.OneCommand.{one_command}
 use Rattle.sp_commands.proofs.Running.{only_ended}
 
 -- ---- once the input has ended each window is closed
@@ -88,8 +87,8 @@ only_end (Failed (Row code row column)) is = cc
 only_end (Failed (Limit limit)) is = cc
 only_end Open is = cc
 
-module _ (c : Running) (origin : SourceState) (first last : Standing) (reads : ReadsFrom c.plan origin first) (stops_before stops_behind : ℕ)
-    (before after : OutletState) (speed : Speed) (end : Ended)
+module _ {V : Type 0} {T : V → Type 0} (c : Running) (origin : SourceState) (first last : Standing) (reads : ReadsFrom c.plan origin first) (stops_before stops_behind : ℕ)
+    (before after : OutletState) (speed : Speed) (end : Ended V T)
     (drove : Drove (λ events. Gives first events last) (is_whole (stop_in last.state)) stops_before stops_behind (stop_in last.state) c before after (record { core = end.core; why = end.why }))
     (bound : c.bound ≡ speed.live) (replays : replay end.core.plan end.core.bound end.core.journal ≡ end.core.machine) (about : CameAbout speed.instances end.core end.history)
     (asked : AsksAtMost (most_asked speed.instances speed.batch) end.core.journal) where
@@ -130,13 +129,13 @@ module _ (c : Running) (origin : SourceState) (first last : Standing) (reads : R
   reports_plan = reported_by end.why refl
 
 -- a run of a plan is one of the same plan, over the same bytes
-pub as_report : (q p : Plan) → p ≡ q → (speed : Speed) (old new left : Told) → new ≡ left → (status : Status) (ended : Option Ended)
+pub as_report : {V : Type 0} {T : V → Type 0} → (q p : Plan) → p ≡ q → (speed : Speed) (old new left : Told) → new ≡ left → (status : Status) (ended : Option (Ended V T))
     → WhereDone (ReportsPlan p speed old new) status ended → WhereDone (ReportsPlan q speed old left) status ended
 as_report q p same speed old new left source status ended report = rw (sym source, sym same) report
 
 -- ---- a run of the query that stands there
 
-pub of_place : (held : ToldFiles) (place : Place) (speed : Speed) (old new : Told) (q : Plan) → IsPlanAt held place q → (status : Status) (ended : Option Ended)
+pub of_place : {V : Type 0} {T : V → Type 0} → (held : ToldFiles) (place : Place) (speed : Speed) (old new : Told) (q : Plan) → IsPlanAt held place q → (status : Status) (ended : Option (Ended V T))
     → WhereDone (ReportsPlan q speed old new) status ended → WhereDone (ReportsPlace held place speed old new) status ended
 of_place held place speed old new q plan status None report = report
 of_place held place speed old new q plan status (Some e) report = λ done.
@@ -152,9 +151,9 @@ refused_undone (r.Query code at) is = cc
 
 -- ---- a call
 
-module _ (predictors words : List (List ℕ)) (held : ToldFiles) (old new : Told) where
+module _ {V : Type 0} {T : V → Type 0} (predictors words : List (List ℕ)) (held : ToldFiles) (old new : Told) where
   -- words that are a run
-  pub reports_run : (query : QuerySource) (speed : Speed) → IsCall predictors words (run query speed) → (place : Place) → place ≡ place_of query → (status : Status) (ended : Option Ended)
+  pub reports_run : (query : QuerySource) (speed : Speed) → IsCall predictors words (run query speed) → (place : Place) → place ≡ place_of query → (status : Status) (ended : Option (Ended V T))
       → WhereDone (ReportsPlace held place speed old new) status ended → Reporting predictors words held old new status ended
   reports_run query speed call place at status None report = λ _ _ _. report
   reports_run query speed call place at status (Some e) report = λ done.
@@ -162,32 +161,20 @@ module _ (predictors words : List (List ℕ)) (held : ToldFiles) (old new : Told
       of_run query speed own.1 call (subst (λ (p : Place). IsPlanAt held p e.core.plan) at own.0) own.2 own.3
 
   -- words that are a drill
-  pub reports_drill : (events seed : ℕ) (speed : Speed) → IsCall predictors words (drill events seed speed) → (status : Status) (ended : Option Ended)
+  pub reports_drill : (events seed : ℕ) (speed : Speed) → IsCall predictors words (drill events seed speed) → (status : Status) (ended : Option (Ended V T))
       → WhereDone (ReportsDrill events seed speed) status ended → Reporting predictors words held old new status ended
   reports_drill events seed speed call status None report = λ _ _ _. report
   reports_drill events seed speed call status (Some e) report = λ done. let own = report done in of_drill events seed speed call own.0 own.1
 
-  -- words that are no call
-  pub reports_none : IsNoCall predictors words → (status : Status) → Reporting predictors words held old new status None
-  reports_none none status command reported call = absurd (none command call)
-
-  -- words that are another command
-  pub reports_other : (command : Command) → IsCommand words command → (IsReported command → ⊥) → (status : Status) → Reporting predictors words held old new status None
-  reports_other command is other status asked reported call = absurd (other (subst IsReported (one_command words asked command call.0 is) reported))
-
-  -- words for which there was no memory
-  pub reports_no_memory : Reporting predictors words held old new Memory None
-  reports_no_memory command reported call is = cc is
-
   -- what is reported once the line of the status was told
-  pub told : (status line : Status) (ended report : Option Ended) (result : ℕ) → (line ≡ status) ⊎ (line ≡ Memory) → Reporting predictors words held old new status ended
+  pub told : (status line : Status) (ended report : Option (Ended V T)) (result : ℕ) → (line ≡ status) ⊎ (line ≡ Memory) → Reporting predictors words held old new status ended
       → (line ≡ Done → report ≡ ended) → (line ≢ Done → report ≡ None) → result ≡ number_of line → Reported predictors words held old new result report
   told status line ended report result of_line reporting done other is = by line refl
     where
       none : line ≢ Done → (result ≡ 0 → ⊥) → Reported predictors words held old new result report
       none undone nonzero = subst (Reported predictors words held old new result) (sym (other undone)) (λ _ _ _. nonzero)
 
-      some : line ≡ Done → (o : Option Ended) → Reporting predictors words held old new Done o → Reported predictors words held old new result o
+      some : line ≡ Done → (o : Option (Ended V T)) → Reporting predictors words held old new Done o → Reported predictors words held old new result o
       some own None given = λ command reported call _. given command reported call refl
       some own (Some e) given = (is ∙ ap number_of own, given refl)
 

@@ -19,55 +19,57 @@ use Rattle.sp_gen.specs.Generated.{generated}
 use Rattle.sp_drill.specs.Query.{drill_query}
 use Rattle.sp_commands.specs.Commands.{place_of, IsCall, IsReported}
 
--- A run of this speed over the whole input, which had these bytes, ended so.
-pub record Reports (speed : Speed) (bytes : List ℕ) (e : Ended) : Type 0 where
-  pub whole : e.why ≡ why.Whole
-  pub bound : e.core.bound ≡ speed.live
-  -- all windows of the events that the bytes give are finished
-  pub events : e.core.machine.events ≡ (read e.core.plan bytes true).events
-  pub ended : e.core.machine.ended ≡ true
-  pub finished : e.core.machine.finished ≡ length (windows e.core.plan e.core.machine.events true)
-  -- the journal tells how it came to that: these events were fed, and its steps, taken again, lead to the same state
-  pub feeds : fed e.core.journal ≡ e.core.machine.events
-  pub replays : replay e.core.plan e.core.bound e.core.journal ≡ e.core.machine
-  -- and the entries of the hub which instances had a part in it
-  pub about : CameAbout speed.instances e.core e.history
-  -- and no lease asks for more events than a run of this speed may
-  pub asked : AsksAtMost (most_asked speed.instances speed.batch) e.core.journal
+-- V and T are the tables and the values of the predictors that are left, of which nothing is said here
+module _ {V : Type 0} {T : V → Type 0} where
+  -- A run of this speed over the whole input, which had these bytes, ended so.
+  pub record Reports (speed : Speed) (bytes : List ℕ) (e : Ended V T) : Type 0 where
+    pub whole : e.why ≡ why.Whole
+    pub bound : e.core.bound ≡ speed.live
+    -- all windows of the events that the bytes give are finished
+    pub events : e.core.machine.events ≡ (read e.core.plan bytes true).events
+    pub ended : e.core.machine.ended ≡ true
+    pub finished : e.core.machine.finished ≡ length (windows e.core.plan e.core.machine.events true)
+    -- the journal tells how it came to that: these events were fed, and its steps, taken again, lead to the same state
+    pub feeds : fed e.core.journal ≡ e.core.machine.events
+    pub replays : replay e.core.plan e.core.bound e.core.journal ≡ e.core.machine
+    -- and the entries of the hub which instances had a part in it
+    pub about : CameAbout speed.instances e.core e.history
+    -- and no lease asks for more events than a run of this speed may
+    pub asked : AsksAtMost (most_asked speed.instances speed.batch) e.core.journal
 
--- The words are a run or a drill, and it ended so: a run by a plan of the query that stands there, over the bytes that were taken; a drill
--- by a plan of its query, over the rows that it generated.
-pub data ReportsCall (predictors words : List (List ℕ)) (held : ToldFiles) (old new : Told) (e : Ended) : Type 0 where
-  of_run : (query : QuerySource) (speed : Speed) (taken : List ℕ) → IsCall predictors words (run query speed) → IsPlanAt held (place_of query) e.core.plan
-      → Gave old taken new → Reports speed taken e → ReportsCall predictors words held old new e
-  of_drill : (events seed : ℕ) (speed : Speed) → IsCall predictors words (drill events seed speed) → IsPlanFor drill_query e.core.plan
-      → Reports speed (generated events seed) e → ReportsCall predictors words held old new e
+  -- The words are a run or a drill, and it ended so: a run by a plan of the query that stands there, over the bytes that were taken; a drill
+  -- by a plan of its query, over the rows that it generated.
+  pub data ReportsCall (predictors words : List (List ℕ)) (held : ToldFiles) (old new : Told) (e : Ended V T) : Type 0 where
+    of_run : (query : QuerySource) (speed : Speed) (taken : List ℕ) → IsCall predictors words (run query speed) → IsPlanAt held (place_of query) e.core.plan
+        → Gave old taken new → Reports speed taken e → ReportsCall predictors words held old new e
+    of_drill : (events seed : ℕ) (speed : Speed) → IsCall predictors words (drill events seed speed) → IsPlanFor drill_query e.core.plan
+        → Reports speed (generated events seed) e → ReportsCall predictors words held old new e
 
--- what is reported of a call that answered this number: the end of a run or drill where it was done, and else nothing
-abbrev pub Reported : List (List ℕ) → List (List ℕ) → ToldFiles → Told → Told → ℕ → Option Ended → Type 0
-Reported predictors words held old new result (Some e) = (result ≡ 0) × ReportsCall predictors words held old new e
-Reported predictors words held old new result None = (command : Command) → IsReported command → IsCall predictors words command → result ≢ 0
+  -- what is reported of a call that answered this number: the end of a run or drill where it was done, and else nothing
+  abbrev pub Reported : List (List ℕ) → List (List ℕ) → ToldFiles → Told → Told → ℕ → Option (Ended V T) → Type 0
+  Reported predictors words held old new result (Some e) = (result ≡ 0) × ReportsCall predictors words held old new e
+  Reported predictors words held old new result None = (command : Command) → IsReported command → IsCall predictors words command → result ≢ 0
 
--- ---- before the line of the status is told
+  -- ---- before the line of the status is told
 
--- a run of this plan ended so
-abbrev pub ReportsPlan : Plan → Speed → Told → Told → Ended → Type 0
-ReportsPlan q speed old new e = (e.core.plan ≡ q) × (bytes : List ℕ) × Gave old bytes new × Reports speed bytes e
+  -- a run of this plan ended so
+  abbrev pub ReportsPlan : Plan → Speed → Told → Told → Ended V T → Type 0
+  ReportsPlan q speed old new e = (e.core.plan ≡ q) × (bytes : List ℕ) × Gave old bytes new × Reports speed bytes e
 
--- a run of the query that stands there ended so
-abbrev pub ReportsPlace : ToldFiles → Place → Speed → Told → Told → Ended → Type 0
-ReportsPlace held place speed old new e = IsPlanAt held place e.core.plan × (bytes : List ℕ) × Gave old bytes new × Reports speed bytes e
+  -- a run of the query that stands there ended so
+  abbrev pub ReportsPlace : ToldFiles → Place → Speed → Told → Told → Ended V T → Type 0
+  ReportsPlace held place speed old new e = IsPlanAt held place e.core.plan × (bytes : List ℕ) × Gave old bytes new × Reports speed bytes e
 
--- a drill over so many rows of this seed ended so
-abbrev pub ReportsDrill : ℕ → ℕ → Speed → Ended → Type 0
-ReportsDrill events seed speed e = IsPlanFor drill_query e.core.plan × Reports speed (generated events seed) e
+  -- a drill over so many rows of this seed ended so
+  abbrev pub ReportsDrill : ℕ → ℕ → Speed → Ended V T → Type 0
+  ReportsDrill events seed speed e = IsPlanFor drill_query e.core.plan × Reports speed (generated events seed) e
 
--- where the status is that it was done, there is an end, and it is such a one
-abbrev pub WhereDone : (Ended → Type 0) → Status → Option Ended → Type 0
-WhereDone Is status (Some e) = status ≡ Done → Is e
-WhereDone Is status None = status ≢ Done
+  -- where the status is that it was done, there is an end, and it is such a one
+  abbrev pub WhereDone : (Ended V T → Type 0) → Status → Option (Ended V T) → Type 0
+  WhereDone Is status (Some e) = status ≡ Done → Is e
+  WhereDone Is status None = status ≢ Done
 
--- the same of a call whose words are a run or a drill; for other words there is no end
-abbrev pub Reporting : List (List ℕ) → List (List ℕ) → ToldFiles → Told → Told → Status → Option Ended → Type 0
-Reporting predictors words held old new status (Some e) = status ≡ Done → ReportsCall predictors words held old new e
-Reporting predictors words held old new status None = (command : Command) → IsReported command → IsCall predictors words command → status ≢ Done
+  -- the same of a call whose words are a run or a drill; for other words there is no end
+  abbrev pub Reporting : List (List ℕ) → List (List ℕ) → ToldFiles → Told → Told → Status → Option (Ended V T) → Type 0
+  Reporting predictors words held old new status (Some e) = status ≡ Done → ReportsCall predictors words held old new e
+  Reporting predictors words held old new status None = (command : Command) → IsReported command → IsCall predictors words command → status ≢ Done

@@ -20,7 +20,6 @@ use crate::run::run_plan;
 use crate::workshop::{CommandEnd, Workshop};
 use sp_answer::Status;
 use sp_base::Numbers;
-use sp_chance::Predictor;
 use sp_cli::Speed;
 use sp_commands::status_of_refusal;
 use sp_core::Core;
@@ -31,6 +30,7 @@ use sp_instance::Gate;
 use sp_io::{ByteSource, Discard, Sink};
 use sp_load::{QueryText, Refusal, plan_of_text};
 use sp_plan::{Memory, Plan};
+use sp_split::Crew;
 use std::alloc::{AllocError, Global};
 use std::sync::Wait;
 use std::thread::Threads;
@@ -84,7 +84,7 @@ fn run_rows<G: Gate, R: Threads + Wait + Sync>(
     events: u32,
     seed: u32,
     speed: &Speed,
-    predictor: Box<dyn Predictor>,
+    crew: Crew,
 ) -> CommandEnd
     requires few { events ≤ event_limit }
     requires live { (1 ≤ speed.now.live) × (speed.now.live ≤ live_limit) }
@@ -101,7 +101,7 @@ fn run_rows<G: Gate, R: Threads + Wait + Sync>(
     match task_of(shop.alloc, events, seed) {
         Ok(task) => {
             let Task { plan, mut rows } = task;
-            run_plan(shop, plan, speed, predictor, &mut rows, &mut Discard)
+            run_plan(shop, plan, speed, crew, &mut rows, &mut Discard)
         }
         Err(refusal) => CommandEnd::of(status_of_refusal(refusal)),
     }
@@ -165,7 +165,7 @@ pub(crate) fn drill<K: Sink, G: Gate, R: Threads + Wait + Sync>(
     events: u32,
     seed: u32,
     speed: &Speed,
-    predictor: Box<dyn Predictor>,
+    crew: Crew,
     out: &mut K,
 ) -> CommandEnd
     requires few { events ≤ event_limit }
@@ -180,7 +180,7 @@ pub(crate) fn drill<K: Sink, G: Gate, R: Threads + Wait + Sync>(
     // the query has a plan, and its run has read as many events as there are rows
     law::drill_query_has_plan();
     law::generated_rows_are_read();
-    let mut answer = run_rows(shop, events, seed, speed, predictor);
+    let mut answer = run_rows(shop, events, seed, speed, crew);
     sum_up(shop.alloc, &mut answer, out);
     answer
 }

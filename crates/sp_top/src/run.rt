@@ -24,7 +24,6 @@ use crate::law;
 use crate::lines::Lines;
 use crate::workshop::{CommandEnd, Workshop};
 use sp_answer::Status;
-use sp_chance::Predictor;
 use sp_cli::Speed;
 use sp_commands::{shared, status_of, status_of_refusal};
 use sp_core::Core;
@@ -34,7 +33,7 @@ use sp_io::{Files, Sink, Source};
 use sp_load::plan_at;
 use sp_plan::{Memory, Plan};
 use sp_ports::Stop;
-use sp_split::{Why, drive};
+use sp_split::{Crew, Why, drive};
 use std::alloc::Global;
 use std::sync::{Arc, Wait};
 use std::thread::Threads;
@@ -82,7 +81,7 @@ fn drive_core<S: Source, K: Sink, G: Gate, R: Threads + Wait + Sync>(
     shop: &Workshop<'_, G, R>,
     core: Core,
     speed: &Speed,
-    predictor: Box<dyn Predictor>,
+    crew: Crew,
     input: &mut Input<'_, S>,
     lines: &mut Lines<'_, K>,
 ) -> CommandEnd
@@ -117,7 +116,7 @@ fn drive_core<S: Source, K: Sink, G: Gate, R: Threads + Wait + Sync>(
     // while the input has not ended, the matches so far begin those of any longer input
     law::growth();
     match drive(
-        *rt, *alloc, core, instances, batch, predictor, input, lines, *gate,
+        *rt, *alloc, core, instances, batch, crew, input, lines, *gate,
     ) {
         Ok(ended) => {
             law::steps_lead_to(&ended.core);
@@ -134,7 +133,7 @@ pub(crate) fn run_plan<S: Source, K: Sink, G: Gate, R: Threads + Wait + Sync>(
     shop: &Workshop<'_, G, R>,
     plan: Plan,
     speed: &Speed,
-    predictor: Box<dyn Predictor>,
+    crew: Crew,
     input: &mut S,
     out: &mut K,
 ) -> CommandEnd
@@ -159,7 +158,7 @@ pub(crate) fn run_plan<S: Source, K: Sink, G: Gate, R: Threads + Wait + Sync>(
     let mut reading = Input::over(input, events);
     let taken = 0;
     let mut lines = Lines { plan, out, taken };
-    let answer = drive_core(shop, core, speed, predictor, &mut reading, &mut lines);
+    let answer = drive_core(shop, core, speed, crew, &mut reading, &mut lines);
     // The references that come back are used, which ties them to those that were lent.
     let _source = reading.into_source();
     let _sink = lines.into_sink();
@@ -170,7 +169,7 @@ pub(crate) fn run_plan<S: Source, K: Sink, G: Gate, R: Threads + Wait + Sync>(
 pub(crate) fn run<S: Source, F: Files, K: Sink, G: Gate, R: Threads + Wait + Sync>(
     shop: &Workshop<'_, G, R>,
     asked: Run,
-    predictor: Box<dyn Predictor>,
+    crew: Crew,
     input: &mut S,
     files: &mut F,
     out: &mut K,
@@ -194,7 +193,7 @@ pub(crate) fn run<S: Source, F: Files, K: Sink, G: Gate, R: Threads + Wait + Syn
         (outside (S.state input.new) (K.state out.new)) }
 {
     match plan_at(shop.alloc, asked.place, files) {
-        Ok(plan) => run_plan(shop, plan, asked.speed, predictor, input, out),
+        Ok(plan) => run_plan(shop, plan, asked.speed, crew, input, out),
         Err(refusal) => CommandEnd::of(status_of_refusal(refusal)),
     }
 }

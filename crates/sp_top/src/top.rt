@@ -11,7 +11,7 @@ ghost use Rattle.sp_top.specs.Prompt.{RunsPromptly};
 ghost use Rattle.sp_top.specs.Report.{Reported, Reporting};
 
 use crate::asked::Run;
-use crate::choosing::choose;
+use crate::choosing::crew_of;
 use crate::drill::drill;
 use crate::law;
 use crate::run::run;
@@ -53,10 +53,10 @@ fn carry_out<S: Source, F: Files, K: Sink, G: Gate, R: Threads + Wait + Sync>(
         (outside (S.state input.new) (K.state out.new)) }
 {
     match command {
-        Command::Run { query, speed } => match choose(predictors, &speed.predictor) {
-            Some(predictor) => {
+        Command::Run { query, speed } => match crew_of(predictors, speed) {
+            Some(crew) => {
                 let place = place_of(query);
-                run(shop, Run { place, speed }, predictor, input, files, out)
+                run(shop, Run { place, speed }, crew, input, files, out)
             }
             None => CommandEnd::of(Status::Usage),
         },
@@ -79,8 +79,8 @@ fn carry_out<S: Source, F: Files, K: Sink, G: Gate, R: Threads + Wait + Sync>(
             events,
             seed,
             speed,
-        } => match choose(predictors, &speed.predictor) {
-            Some(predictor) => drill(shop, *events, *seed, speed, predictor, out),
+        } => match crew_of(predictors, speed) {
+            Some(crew) => drill(shop, *events, *seed, speed, crew, out),
             None => CommandEnd::of(Status::Usage),
         },
     }
@@ -130,7 +130,8 @@ fn if_done(status: Status, ended: Option<Ended>) -> Option<Ended>
 
 /// Runs the words, which are the command line without the program's name, over an input that has not
 /// ended yet, and answers the number of its status; docs/formats.md lists them. What the words name may
-/// stand in `files`, and a run has the first of the predictors of the name that its words choose. The text
+/// stand in `files`. A run begins with the first of the predictors of the name that its words choose, and where
+/// they say so the others follow it, in their order. The text
 /// is written to `out`, one call a line, and the line of the status to `err`. A run has as many instances
 /// as its words say, each on a thread of its own, and each of their jobs is done inside the gate. `report`
 /// holds from then on what a run that was done ended with, and nothing after any other call.

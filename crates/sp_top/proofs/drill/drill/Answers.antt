@@ -20,6 +20,6 @@ returns-clause-made g c input =
 pub returns-clause-report : goal.returns-clause-report
 returns-clause-report g c =
     let ran = c.run_rows-answer in
-    subst (λ (o : Option Ended). WhereDone (ReportsDrill c.args.events c.args.seed (speed_seen c.args.speed.now)) c.sum_up.new.answer.status o) (sym c.sum_up.ensures.ended)
+    subst (λ (o : Option (Ended _ _)). WhereDone (ReportsDrill c.args.events c.args.seed (speed_seen c.args.speed.now)) c.sum_up.new.answer.status o) (sym c.sum_up.ensures.ended)
     (drill_reported c.drill_query_has_plan.ensures c.generated_rows_are_read.ensures c.args.events c.args.seed c.requires.few (speed_seen c.args.speed.now) ran.result.status ran.result.ended ran.ensures.status ran.ensures.report
     (g.K.Sink.state c.args.out.now) (g.K.Sink.state c.sum_up.new.out) c.sum_up.new.answer.status c.sum_up.ensures.status)

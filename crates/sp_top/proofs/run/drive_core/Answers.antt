@@ -57,7 +57,7 @@ returns-in-Err-clause-ran g c origin reads =
     let after = g.K.Sink.state c.drive.new.outlet.out.now in
     let ran =
     fell_short c.args.core c.growth.ensures c.requires.compiled origin first last reads before after c.args.lines.now.taken c.drive.new.outlet.taken c.in-Err.ensures.short in
-    subst (λ (a : CommandEnd). Ran (IsPlanRun c.args.core.plan) (outside origin before) (outside last.source after) (ending a.status)) (sym c.of.ensures) ran
+    subst (λ (a : CommandEnd _ _). Ran (IsPlanRun c.args.core.plan) (outside origin before) (outside last.source after) (ending a.status)) (sym c.of.ensures) ran
 
 pub returns-in-Ok-clause-prompt : goal.returns-in-Ok-clause-prompt
 returns-in-Ok-clause-prompt g c origin asks =

@@ -35,12 +35,12 @@ returns-in-Err-clause-served g c =
     let served =
     refused_served place before after old c.plan_at.ensures.held c.in-Err.refusal c.status_of_refusal.result c.status_of_refusal.ensures c.in-Err.ensures.refused
     (λ is. c.in-Err.ensures.fault (ap Err is)) (λ other. c.in-Err.ensures.no_fault (λ e. other cc)) in
-    subst (λ (a : CommandEnd). Served (files_at place) (RunOutcome place) before after old old (ending a.status)) (sym c.of.ensures) served
+    subst (λ (a : CommandEnd _ _). Served (files_at place) (RunOutcome place) before after old old (ending a.status)) (sym c.of.ensures) served
 
 pub returns-in-Err-clause-report : goal.returns-in-Err-clause-report
 returns-in-Err-clause-report g c =
     let left = (g.S.Source.state c.args.input.now).left in
-    subst (λ (a : CommandEnd). WhereDone (ReportsPlace (g.F.Files.held c.args.files.now) (place_of c.args.asked.place) (speed_seen c.args.asked.speed.now) left left) a.status a.ended) (sym c.of.ensures)
+    subst (λ (a : CommandEnd _ _). WhereDone (ReportsPlace (g.F.Files.held c.args.files.now) (place_of c.args.asked.place) (speed_seen c.args.asked.speed.now) left left) a.status a.ended) (sym c.of.ensures)
     (λ done. refused_undone c.in-Err.refusal (sym c.status_of_refusal.ensures ∙ done))
 
 pub returns-in-Ok-clause-prompt : goal.returns-in-Ok-clause-prompt

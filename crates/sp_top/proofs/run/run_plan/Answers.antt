@@ -23,7 +23,7 @@ returns-in_default-clause-ran g c =
     let q = c.args.plan in
     let state = g.S.Source.state c.args.input.now in
     let old : Outside = outside state (g.K.Sink.state c.args.out.now) in
-    subst (λ (a : CommandEnd). Ran (IsPlanRun q) old old (ending a.status)) (sym c.of.ensures) (unread windows_text q old old [] (gave_none state.left) (no_further_none q) refl)
+    subst (λ (a : CommandEnd _ _). Ran (IsPlanRun q) old old (ending a.status)) (sym c.of.ensures) (unread windows_text q old old [] (gave_none state.left) (no_further_none q) refl)
 
 pub returns-clause-ran : goal.returns-clause-ran
 returns-clause-ran g c =

@@ -14,7 +14,7 @@ returns-in-Err-Usage-clause-answers g c =
     let predictors : List (List ℕ) = map (λ one. (goal.Predictor-dyn g (one.vtable, one.value)).named one.value) c.args.predictors.items in
     let before : Filed = filed (g.F.Files.held c.args.files.now) (g.F.Files.faults c.args.files.now) in
     let old : Outside = outside (g.S.Source.state c.args.input.now) (g.K.Sink.state c.args.out.now) in
-    subst (λ (a : CommandEnd). Answers predictors words before before old old a.status) (sym c.of.ensures)
+    subst (λ (a : CommandEnd _ _). Answers predictors words before before old old a.status) (sym c.of.ensures)
     (refused predictors words (no_command predictors words (c.in-Err-Usage.ensures.usage (ap Err c.in-Err-Usage.field-0-is))) before old)
 
 pub returns-clause-answers : goal.returns-clause-answers
@@ -23,7 +23,7 @@ returns-clause-answers g c =
     let predictors : List (List ℕ) = map (λ one. (goal.Predictor-dyn g (one.vtable, one.value)).named one.value) c.args.predictors.items in
     let before : Filed = filed (g.F.Files.held c.args.files.now) (g.F.Files.faults c.args.files.now) in
     let old : Outside = outside (g.S.Source.state c.args.input.now) (g.K.Sink.state c.args.out.now) in
-    subst (λ (a : CommandEnd). Answers predictors words before before old old a.status) (sym c.of-in-Err-Memory.ensures) (no_memory predictors words before old)
+    subst (λ (a : CommandEnd _ _). Answers predictors words before before old old a.status) (sym c.of-in-Err-Memory.ensures) (no_memory predictors words before old)
 
 pub returns-in-Err-Usage-clause-prompt : goal.returns-in-Err-Usage-clause-prompt
 returns-in-Err-Usage-clause-prompt g c =

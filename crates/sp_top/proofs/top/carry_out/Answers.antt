@@ -28,8 +28,7 @@ returns-in-Some-clause-answers g c words is =
     let query = source_seen c.in-Run.query in
     let speed = speed_seen c.in-Run.speed in
     let own : IsCommand words (run query speed) = subst (IsCommand words) (ap seen c.in-Run.is) is in
-    let name : c.deref.result.now ≡ string_bytes c.in-Run.speed.predictor = search rules in
-    let there : Contains predictors (string_bytes c.in-Run.speed.predictor) = subst (Contains predictors) name (chosen _ _ c.args.predictors.items c.in-Some.predictor c.in-Some.ensures.first).1 in
+    let there : Contains predictors (string_bytes c.in-Run.speed.predictor) = (chosen _ _ c.args.predictors.items c.in-Some.crew.first c.in-Some.ensures.first).1 in
     answers predictors words (run query speed) (own, there) before after old new c.run.result.status
     (subst (λ (p : Place). Served (files_at p) (RunOutcome p) before after old new (ending c.run.result.status)) c.place_of-place.ensures c.run.ensures.served)
 
@@ -39,8 +38,7 @@ returns-in-Some-clause-report g c words is =
     let query = source_seen c.in-Run.query in
     let speed = speed_seen c.in-Run.speed in
     let own : IsCommand words (run query speed) = subst (IsCommand words) (ap seen c.in-Run.is) is in
-    let name : c.deref.result.now ≡ string_bytes c.in-Run.speed.predictor = search rules in
-    let there : Contains predictors (string_bytes c.in-Run.speed.predictor) = subst (Contains predictors) name (chosen _ _ c.args.predictors.items c.in-Some.predictor c.in-Some.ensures.first).1 in
+    let there : Contains predictors (string_bytes c.in-Run.speed.predictor) = (chosen _ _ c.args.predictors.items c.in-Some.crew.first c.in-Some.ensures.first).1 in
     reports_run predictors words (g.F.Files.held c.args.files.now) (g.S.Source.state c.args.input.now).left (g.S.Source.state c.run.new.input).left
     query speed (own, there) _ c.place_of-place.ensures c.run.result.status c.run.result.ended c.run.ensures.report
 
@@ -52,9 +50,8 @@ returns-in-None-clause-answers g c words is =
     let query = source_seen c.in-Run.query in
     let speed = speed_seen c.in-Run.speed in
     let own : IsCommand words (run query speed) = subst (IsCommand words) (ap seen c.in-Run.is) is in
-    let name : c.deref.result.now ≡ string_bytes c.in-Run.speed.predictor = search rules in
-    let none : Contains predictors (string_bytes c.in-Run.speed.predictor) → ⊥ = λ at. not_chosen _ _ c.args.predictors.items c.in-None.ensures.first (subst (Contains predictors) (sym name) at) in
-    subst (λ (a : CommandEnd). Answers predictors words before before old old a.status) (sym c.of.ensures)
+    let none : Contains predictors (string_bytes c.in-Run.speed.predictor) → ⊥ = λ at. not_chosen _ _ c.args.predictors.items c.in-None.ensures.first at in
+    subst (λ (a : CommandEnd _ _). Answers predictors words before before old old a.status) (sym c.of.ensures)
     (refused predictors words (no_call predictors words (run query speed) own none) before old)
 
 pub returns-in-Plain-clause-answers : goal.returns-in-Plain-clause-answers
@@ -67,7 +64,7 @@ returns-in-Plain-clause-answers g c words is =
     let query = source_seen c.in-Plain.query in
     let own : IsCommand words (plain query) = subst (IsCommand words) (ap seen c.in-Plain.is) is in
     let served = subst (λ (p : Place). Served (files_at p) (RunOutcome p) before after old new (ending c.plain.result)) c.place_of.ensures c.plain.ensures in
-    subst (λ (a : CommandEnd). Answers predictors words before after old new a.status) (sym c.of-in-Plain.ensures)
+    subst (λ (a : CommandEnd _ _). Answers predictors words before after old new a.status) (sym c.of-in-Plain.ensures)
     (answers predictors words (plain query) (own, tt) before after old new c.plain.result served)
 
 pub returns-in-Trace-clause-answers : goal.returns-in-Trace-clause-answers
@@ -84,11 +81,11 @@ returns-in-Trace-clause-answers g c words is =
     let name : c.as_str.result.now ≡ schedule = search rules in
     let at_place = subst (λ (p : Place). Served (files_at p ++ c.as_str.result.now ∷ []) (TraceOutcome p c.as_str.result.now live) before after old new (ending c.trace.result)) c.place_of-in-Trace.ensures c.trace.ensures in
     let served = subst (λ (n : List ℕ). Served (files_at (place_of query) ++ n ∷ []) (TraceOutcome (place_of query) n live) before after old new (ending c.trace.result)) name at_place in
-    subst (λ (a : CommandEnd). Answers predictors words before after old new a.status) (sym c.of-in-Trace.ensures)
+    subst (λ (a : CommandEnd _ _). Answers predictors words before after old new a.status) (sym c.of-in-Trace.ensures)
     (answers predictors words (trace query schedule live) (own, tt) before after old new c.trace.result served)
 
-pub returns-in-Some-choose-clause-answers : goal.returns-in-Some-choose-clause-answers
-returns-in-Some-choose-clause-answers g c words is =
+pub returns-in-Some-crew_of-clause-answers : goal.returns-in-Some-crew_of-clause-answers
+returns-in-Some-crew_of-clause-answers g c words is =
     let predictors : List (List ℕ) = map (λ one. (goal.Predictor-dyn g (one.vtable, one.value)).named one.value) c.args.predictors.items in
     let before : Filed = filed (g.F.Files.held c.args.files.now) (g.F.Files.faults c.args.files.now) in
     let old : Outside = outside (g.S.Source.state c.args.input.now) (g.K.Sink.state c.args.out.now) in
@@ -97,24 +94,22 @@ returns-in-Some-choose-clause-answers g c words is =
     let seed = c.in-Drill.seed in
     let speed = speed_seen c.in-Drill.speed in
     let own : IsCommand words (drill events seed speed) = subst (IsCommand words) (ap seen c.in-Drill.is) is in
-    let name : c.deref-in-Drill.result.now ≡ string_bytes c.in-Drill.speed.predictor = search rules in
-    let there : Contains predictors (string_bytes c.in-Drill.speed.predictor) = subst (Contains predictors) name (chosen _ _ c.args.predictors.items c.in-Some-choose.predictor c.in-Some-choose.ensures.first).1 in
+    let there : Contains predictors (string_bytes c.in-Drill.speed.predictor) = (chosen _ _ c.args.predictors.items c.in-Some-crew_of.crew.first c.in-Some-crew_of.ensures.first).1 in
     drilled predictors words events seed speed (own, there) before old new c.drill.result.status (c.drill.ensures.made (g.S.Source.state c.args.input.now))
 
-pub returns-in-Some-choose-clause-report : goal.returns-in-Some-choose-clause-report
-returns-in-Some-choose-clause-report g c words is =
+pub returns-in-Some-crew_of-clause-report : goal.returns-in-Some-crew_of-clause-report
+returns-in-Some-crew_of-clause-report g c words is =
     let predictors : List (List ℕ) = map (λ one. (goal.Predictor-dyn g (one.vtable, one.value)).named one.value) c.args.predictors.items in
     let events = c.in-Drill.events in
     let seed = c.in-Drill.seed in
     let speed = speed_seen c.in-Drill.speed in
     let own : IsCommand words (drill events seed speed) = subst (IsCommand words) (ap seen c.in-Drill.is) is in
-    let name : c.deref-in-Drill.result.now ≡ string_bytes c.in-Drill.speed.predictor = search rules in
-    let there : Contains predictors (string_bytes c.in-Drill.speed.predictor) = subst (Contains predictors) name (chosen _ _ c.args.predictors.items c.in-Some-choose.predictor c.in-Some-choose.ensures.first).1 in
+    let there : Contains predictors (string_bytes c.in-Drill.speed.predictor) = (chosen _ _ c.args.predictors.items c.in-Some-crew_of.crew.first c.in-Some-crew_of.ensures.first).1 in
     let left = (g.S.Source.state c.args.input.now).left in
     reports_drill predictors words (g.F.Files.held c.args.files.now) left left events seed speed (own, there) c.drill.result.status c.drill.result.ended c.drill.ensures.report
 
-pub returns-in-None-choose-clause-answers : goal.returns-in-None-choose-clause-answers
-returns-in-None-choose-clause-answers g c words is =
+pub returns-in-None-crew_of-clause-answers : goal.returns-in-None-crew_of-clause-answers
+returns-in-None-crew_of-clause-answers g c words is =
     let predictors : List (List ℕ) = map (λ one. (goal.Predictor-dyn g (one.vtable, one.value)).named one.value) c.args.predictors.items in
     let before : Filed = filed (g.F.Files.held c.args.files.now) (g.F.Files.faults c.args.files.now) in
     let old : Outside = outside (g.S.Source.state c.args.input.now) (g.K.Sink.state c.args.out.now) in
@@ -122,9 +117,8 @@ returns-in-None-choose-clause-answers g c words is =
     let seed = c.in-Drill.seed in
     let speed = speed_seen c.in-Drill.speed in
     let own : IsCommand words (drill events seed speed) = subst (IsCommand words) (ap seen c.in-Drill.is) is in
-    let name : c.deref-in-Drill.result.now ≡ string_bytes c.in-Drill.speed.predictor = search rules in
-    let none : Contains predictors (string_bytes c.in-Drill.speed.predictor) → ⊥ = λ at. not_chosen _ _ c.args.predictors.items c.in-None-choose.ensures.first (subst (Contains predictors) (sym name) at) in
-    subst (λ (a : CommandEnd). Answers predictors words before before old old a.status) (sym c.of-in-None-choose.ensures)
+    let none : Contains predictors (string_bytes c.in-Drill.speed.predictor) → ⊥ = λ at. not_chosen _ _ c.args.predictors.items c.in-None-crew_of.ensures.first at in
+    subst (λ (a : CommandEnd _ _). Answers predictors words before before old old a.status) (sym c.of-in-None-crew_of.ensures)
     (refused predictors words (no_call predictors words (drill events seed speed) own none) before old)
 
 pub returns-in-Some-clause-prompt : goal.returns-in-Some-clause-prompt
@@ -149,11 +143,11 @@ pub returns-in-Trace-clause-prompt : goal.returns-in-Trace-clause-prompt
 returns-in-Trace-clause-prompt g c words is =
     no_run words (g.F.Files.held c.args.files.now) _ _ (trace (source_seen c.in-Trace.query) (string_bytes c.in-Trace.schedule) c.in-Trace.live) (subst (IsCommand words) (ap seen c.in-Trace.is) is) (λ query speed no. cc no)
 
-pub returns-in-Some-choose-clause-prompt : goal.returns-in-Some-choose-clause-prompt
-returns-in-Some-choose-clause-prompt g c words is =
+pub returns-in-Some-crew_of-clause-prompt : goal.returns-in-Some-crew_of-clause-prompt
+returns-in-Some-crew_of-clause-prompt g c words is =
     no_run words (g.F.Files.held c.args.files.now) _ _ (drill c.in-Drill.events c.in-Drill.seed (speed_seen c.in-Drill.speed)) (subst (IsCommand words) (ap seen c.in-Drill.is) is) (λ query speed no. cc no)
 
-pub returns-in-None-choose-clause-prompt : goal.returns-in-None-choose-clause-prompt
-returns-in-None-choose-clause-prompt g c words is =
+pub returns-in-None-crew_of-clause-prompt : goal.returns-in-None-crew_of-clause-prompt
+returns-in-None-crew_of-clause-prompt g c words is =
     let old : Outside = outside (g.S.Source.state c.args.input.now) (g.K.Sink.state c.args.out.now) in
     unread_promptly words (g.F.Files.held c.args.files.now) old old refl
