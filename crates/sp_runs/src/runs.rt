@@ -191,6 +191,41 @@ fn a_run_has_the_first_predictor_of_the_name(rt: HostRuntime) -> Result<(), Fail
     Ok(())
 }
 
+// The predictors of these words take one another's place; each is dropped once its place is taken, and the last one with
+// the report.
+fn take_turns<R: Threads + Wait + Abort + Sync>(
+    rt: &R,
+    alloc: Global,
+    words: &str,
+) -> Result<(), Fail> {
+    let calls = Arc::new(alloc, AtomicU64::new(0))?;
+    let asked = Asked {
+        words,
+        query: ALL_USED,
+        rows: 24,
+    };
+    let predictors = three(alloc, &calls)?;
+    let mut report = None;
+    let status = status_of(rt, alloc, asked, &OpenGate, predictors, &mut report)?;
+    assert!(rt; status == 0);
+    assert!(rt;
+        calls.load(SeqCst) >= FAR,
+        "no other one was asked or taught"
+    );
+    assert!(rt; Arc::strong_count(&calls) == 2, "more than one is kept");
+    drop(report);
+    assert!(rt; Arc::strong_count(&calls) == 1, "one is not dropped");
+    Ok(())
+}
+
+#[test]
+fn predictors_that_take_turns_are_dropped(rt: HostRuntime) -> Result<(), Fail> {
+    let words = "run --instances 2 --rotate 1 --predictor counting -q";
+    take_turns(&rt, rt.alloc(), words)?;
+    let words = "run --instances 0 --rotate 1 --predictor counting -q";
+    take_turns(&rt, rt.alloc(), words)
+}
+
 #[test]
 fn a_report_shows_speculation(rt: HostRuntime) -> Result<(), Fail> {
     let alloc = rt.alloc();

@@ -10,6 +10,8 @@ pub enum Delayed {
     AtSeat(u32),
     /// Every second one.
     Odd,
+    /// Each of them, for a little while, and behind it once more.
+    Each,
 }
 
 /// The jobs that a word says.
@@ -20,6 +22,7 @@ pub(crate) fn delayed_by(word: &str) -> Result<Delayed, Fault> {
         "seat0" => Delayed::AtSeat(0),
         "seat1" => Delayed::AtSeat(1),
         "odd" => Delayed::Odd,
+        "each" => Delayed::Each,
         _ => return Err(Fault("no such gate")),
     })
 }
