@@ -86,15 +86,16 @@ fn place_of(pieces: &[Piece], ticket: u64) -> Option<usize>
     None
 }
 
-// What came of a piece that was given back; nothing where memory was refused.
-fn what_came(given: &Result<Given, Piece>) -> Option<&'static str> {
+// Appends what came of a piece that was given back, with the version or the ticket that the answer names.
+fn push_given(given: &Result<Given, Piece>, out: &mut AnswerText) -> Result<(), AllocError> {
     match given {
-        Ok(Given::Home) => Some(" home\n"),
-        Ok(Given::Stale { .. }) => Some(" stale\n"),
-        Ok(Given::NotOut { .. }) => Some(" out\n"),
-        Ok(Given::Differs { .. }) => Some(" differs\n"),
-        Err(_) => None,
+        Ok(Given::Home) => out.text(" home\n"),
+        Ok(Given::Stale { version }) => out.last(" stale ", *version),
+        Ok(Given::NotOut { ticket }) => out.last(" out ", *ticket),
+        Ok(Given::Differs { .. }) => out.text(" differs\n"),
+        Err(_) => return Err(AllocError),
     }
+    Ok(())
 }
 
 // Appends a finished window, and the lines of its matches.
@@ -207,11 +208,8 @@ impl Bench<'_> {
         out: &mut AnswerText,
     ) -> Result<(), AllocError> {
         let given = self.core.give_back(alloc, piece);
-        let came = what_came(&given);
-        drop(given);
         out.number("return ", i128::from(ticket));
-        out.text(came.ok_or(AllocError)?);
-        Ok(())
+        push_given(&given, out)
     }
 
     // The piece of a ticket is given back.
