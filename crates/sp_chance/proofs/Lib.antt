@@ -7,3 +7,4 @@ mod Ring
 mod Worked
 mod Ordered
 pub mod Teaching
+pub mod Many

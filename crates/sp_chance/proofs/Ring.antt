@@ -160,3 +160,12 @@ whole-full codes since full begun is =
 pub whole-fresh : (codes : List ℕ) (since : ℕ) (full : Bool) → since ≡ 0 → full ≡ false → ring_of codes since full ≡ []
 whole-fresh codes since full begun is =
     ap (λ n. ring_of codes n full) begun ∙ ap (ring_of codes 0) is ∙ ring-first codes 0 false refl
+
+-- a ring holds no more than it has places
+pub ring-few : (codes : List ℕ) (since : ℕ) (full : Bool) → length codes ≡ 256 → length (ring_of codes since full) ≤ 256
+unfolding ring_of
+ring-few codes since full size = one (full || nat_le 256 since)
+  where
+    one : (b : Bool) → length (cond b (around codes (since % 256)) (take since codes)) ≤ 256
+    one true = let low : since % 256 ≤ 256 = omega arith in omega (arith, size, length-around codes (since % 256) (omega (arith, low, size)))
+    one false = omega (arith, size, length-take since codes)

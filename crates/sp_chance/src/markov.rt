@@ -1,10 +1,14 @@
-ghost use Rattle.std.specs.Prelude.{◌≡◌, ◌<◌, ◌≤◌, IfOk, codes};
+ghost use Rattle.std.specs.Prelude.{◌≡◌, ◌+◌, ◌<◌, ◌≤◌, ◌↔◌, length, IfOk, IsTrue, codes};
+ghost use Rattle.std.specs.List.{All};
+ghost use Rattle.sp_base.specs.Limits.{renewal};
+ghost use Rattle.sp_chance.specs.Counted.{IsMove};
+ghost use Rattle.sp_chance.specs.Learned as learning;
 ghost use Rattle.sp_chance.specs.Matrices.{at, first, power};
 ghost use Rattle.sp_chance.specs.Learned.{fresh, learned, learned_all, chance_of};
 
 use crate::Predictor;
 use crate::matrix::{STATES, WHOLE};
-use crate::pairs::Pairs;
+use crate::pairs::{Pairs, RECENT};
 use crate::powers::{POWERS, Powers, worked_out};
 use crate::recent::Recent;
 use sp_base::Memory;
@@ -36,6 +40,14 @@ impl Model for Markov {
     ghost invariant = { λ m. IsSound m.recent.ring m.built };
 }
 
+// Whether a pair counts: from 1 to 32 wanted events to as many or fewer.
+fn is_move(from: u32, to: u32) -> bool
+    ensures value { result ≡ learning.is_move from to }
+    ensures counts { IsTrue result ↔ IsMove (from, to) }
+{
+    from != 0 && (from as usize) < STATES && to <= from
+}
+
 impl Markov {
     /// One that has learned nothing yet. All memory is taken here.
     pub fn new(alloc: Global) -> Result<Markov, Memory>
@@ -54,11 +66,36 @@ impl Markov {
     fn note(&mut self, from: u32, to: u32)
         ensures { self.new ≡ learned self.old from to }
     {
-        if from == 0 || from as usize >= STATES || to > from {
+        if !is_move(from, to) {
             return;
         }
         if self.recent.push(from, to) {
             self.built.replace(self.recent.whole());
+        }
+    }
+
+    // Pairs that count, no fewer than are kept, and up to a turn at most.
+    fn note_many(&mut self, pairs: &[(u32, u32)])
+        requires moves { All IsMove pairs.now }
+        requires many { 256 ≤ length pairs.now }
+        requires turn { self.old.since + length pairs.now ≤ renewal }
+        ensures { self.new ≡ learned_all self.old pairs.now }
+    {
+        if self.recent.push_many(pairs) {
+            self.built.replace(self.recent.whole());
+        }
+    }
+
+    // Pairs up to a turn at most.
+    fn note_some(&mut self, pairs: &[(u32, u32)])
+        requires turn { self.old.since + length pairs.now ≤ renewal }
+        ensures { self.new ≡ learned_all self.old pairs.now }
+    {
+        if pairs.len() > RECENT && pairs.iter().all(|pair| is_move(pair.0, pair.1)) {
+            return self.note_many(pairs);
+        }
+        for (from, to) in pairs {
+            self.note(*from, *to);
         }
     }
 
@@ -98,8 +135,11 @@ impl Predictor for Markov {
     fn learn_all(&mut self, pairs: &[(u32, u32)])
         ensures { self.new ≡ learned_all self.old pairs.now }
     {
-        for (from, to) in pairs {
-            self.note(*from, *to);
+        let mut at = 0;
+        while at < pairs.len() {
+            let end = pairs.len().min(at + self.recent.until_turn());
+            self.note_some(&pairs[at..end]);
+            at = end;
         }
     }
 

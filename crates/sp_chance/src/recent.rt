@@ -1,4 +1,6 @@
-ghost use Rattle.std.specs.Prelude.{◌≡◌, ◌+◌, [], ◌==◌, map, if◌then◌else◌};
+ghost use Rattle.std.specs.Prelude.{◌≡◌, ◌+◌, ◌<◌, ◌≤◌, [], ◌==◌, length, map, if◌then◌else◌};
+ghost use Rattle.std.specs.List.{All};
+ghost use Rattle.circular_buffer.specs.Buffer.{keep_last};
 ghost use Rattle.sp_base.specs.Limits.{renewal};
 ghost use Rattle.sp_chance.specs.Counted.{decoded, IsMove};
 ghost use Rattle.sp_chance.specs.Learned.{with_pair};
@@ -43,6 +45,15 @@ impl Recent {
         }
     }
 
+    /// How many pairs bring the next turn.
+    pub(crate) fn until_turn(&self) -> usize
+        ensures left { self.now.since + result ≡ renewal }
+        ensures some { 0 < result }
+        ensures few { result ≤ renewal }
+    {
+        (RENEWAL - self.since) as usize
+    }
+
     /// One pair more. Whether it brings a turn.
     pub(crate) fn push(&mut self, from: u32, to: u32) -> bool
         requires { IsMove (from, to) }
@@ -59,6 +70,26 @@ impl Recent {
         self.since = 0;
         self.full = true;
         true
+    }
+
+    /// So many pairs more, up to a turn at most and no fewer than are kept. Whether they bring the turn. Only the
+    /// last ones are written down: those in front of them would be overwritten.
+    pub(crate) fn push_many(&mut self, pairs: &[(u32, u32)]) -> bool
+        requires moves { All IsMove pairs.now }
+        requires many { 256 ≤ length pairs.now }
+        requires turn { self.old.since + length pairs.now ≤ renewal }
+        ensures ring { self.new.ring ≡ keep_last 256 pairs.now }
+        ensures turn { result ≡ (self.old.since + length pairs.now == renewal) }
+        ensures since { self.new.since ≡ (if self.old.since + length pairs.now == renewal then 0
+            else self.old.since + length pairs.now) }
+    {
+        let passed = pairs.len() - RECENT;
+        self.since += passed as u32;
+        let mut turned = false;
+        for (from, to) in &pairs[passed..] {
+            turned = self.push(*from, *to);
+        }
+        turned
     }
 
     /// The number of each pair, at a turn.

@@ -1,5 +1,4 @@
-use Rattle.std.proofs.Common.{◌≡◌, ℕ, ◌+◌, ◌≤◌, ◌==◌, true, false, cond, List, sym, ap, ◌∙◌, arith}
-use Rattle.std.proofs.lemmas.Bool.Decides.{nat_tests}
+use Rattle.std.proofs.Common.{◌≡◌, ℕ, ◌+◌, ◌==◌, true, false, cond, List, sym, ap, ◌∙◌}
 use Rattle.sp_base.specs.Limits.{renewal}
 use Rattle.sp_chance.specs.Learned.{Learned, with_pair, turned, learned, is_move}
 use Rattle.sp_chance.proofs.markov.Markov.note.Goals as goal
@@ -16,11 +15,8 @@ noted m from to since ring counts is no_turn next =
     = ap (λ b. cond b (turned m (with_pair m.ring from to)) m) counts ∙ ap (turned m) (sym is) in
     ap (λ n. record { ring = ring; since = n; built = m.built }) one ∙ sym (counted ∙ goes_on)
 
-counts_if : (from to : ℕ) → 1 ≤ from → from ≤ 32 → to ≤ from → is_move from to ≡ true
-counts_if from to some most falls = grind (arith, nat_tests)
-
 pub returns-else-push : goal.returns-else-push
 returns-else-push c =
     noted (record { ring = c.self.inside.recent.ring; since = c.self.inside.recent.since; built = c.self.inside.built }) c.args.from c.args.to _ _
-    (counts_if c.args.from c.args.to (omega arith) (omega arith) c.if-to-from.false) c.push.ensures.ring (sym c.push.ensures.turn ∙ c.if-push.false) c.push.ensures.since
+    (sym c.if-not-is_move.ensures.value) c.push.ensures.ring (sym c.push.ensures.turn ∙ c.if-push.false) c.push.ensures.since
     ∙ ap (λ m. learned m c.args.from c.args.to) c.self.view_is
