@@ -1,7 +1,7 @@
 -- Plans that are one but for addresses read alike.
-use Rattle.std.proofs.Common.{◌≡◌, ℕ, zero, suc, ◌+◌, Bool, true, false, cond, not, ◌&&◌, List, [], ◌∷◌, ◌++◌, length, filter, find, map, Option, Some, None, is_some, is_none, refl, ap, ◌∙◌}
+use Rattle.std.proofs.Common.{length, ◌≡◌, ℕ, zero, suc, ◌+◌, Bool, true, false, cond, not, ◌&&◌, ◌||◌, List, [], ◌∷◌, ◌++◌, filter, find, map, Option, Some, None, is_some, is_none, refl, ap, ◌∙◌}
 use Rattle.std.specs.Prelude.{slice_get}
-use Rattle.std.specs.List.{AllZip, fold, list_all, list_any, last_or, flat_map, range_with_len}
+use Rattle.std.specs.List.{AllZip, fold, list_all, list_any, last_or, flat_map}
 use Rattle.std.proofs.lemmas.List.Elements.{filter_agree}
 use Rattle.sp_base.specs.Numbers.{is_among}
 use Rattle.sp_plan.specs.declared.event.Event.{Event}
@@ -13,7 +13,7 @@ use Rattle.sp_plan.specs.declared.plan.Select.TheVariants.{First, Last, Each}
 use Rattle.sp_plan.specs.Laws.{SamePredicatesHoldAlike}
 use Rattle.sp_plan.specs.Same.{SameName, SamePlan}
 use Rattle.sp_plan.specs.Windows.{Numbered}
-use Rattle.sp_plan.specs.Runs.{Pair, Run, Started, State, Handling, again, bindings, bound_events, completed, fits_name, grown, handle, handle_run, holds_one, is_complete, is_consumed, is_filled, kept_with, leaves, may_start, name_holds, numbers_under, offered, started_with, takes, unbound, used, wanted, after_closing}
+use Rattle.sp_plan.specs.Runs.{Pair, Run, Started, State, Handling, again, bindings, binds, bound_events, completed, departs, fits_name, grown, guarded, guards, guards_behind, handle, handle_run, holds_one, is_complete, is_consumed, is_filled, kept_with, leaves, may_start, name_holds, numbers_under, offered, started_with, takes, unbound, used, wanted, after_closing}
 use Rattle.sp_plan.specs.Reading.{after_event}
 use Rattle.sp_plan.specs.Moves.{Move, Opened, Grown, Completed, Abandoned, Acting, Told, CompletedTold, abandoned, abandons, act, act_run, act_start, acted, acting_on, apply, closing, completing, growing, handling_of, moves, pair_given, pairs_of, still_wanted, tell, told, used_if_complete, without_run}
 use Rattle.sp_piece.specs.Reading.{Loan, Account, account, accounts_at, accounts_on, accounts_to, closing_account, event_accounts, read_at, read_on, read_to, skips}
@@ -31,6 +31,10 @@ all_alike : {A : Type 0} (f g : A → Bool) → ((x : A) → f x ≡ g x) → (x
 all_alike f g same [] = refl
 all_alike f g same (x ∷ xs) = ap (λ (b : Bool). b && list_all f xs) (same x) ∙ ap (λ (b : Bool). g x && b) (all_alike f g same xs)
 
+any_alike : {A : Type 0} (f g : A → Bool) → ((x : A) → f x ≡ g x) → (xs : List A) → list_any f xs ≡ list_any g xs
+any_alike f g same [] = refl
+any_alike f g same (x ∷ xs) = ap (λ (b : Bool). b || list_any f xs) (same x) ∙ ap (λ (b : Bool). g x || b) (any_alike f g same xs)
+
 fits_alike : SamePredicatesHoldAlike → (xs ys : List Name) → AllZip SameName xs ys → (i : ℕ) (r : Run) (e : Event) → fits_name (slice_get xs i) r e ≡ fits_name (slice_get ys i) r e
 fits_alike hold [] [] same i r e = refl
 fits_alike hold [] (y ∷ ys) same i r e = absurd same
@@ -45,12 +49,6 @@ consumed_alike (x ∷ xs) [] same i = absurd same
 consumed_alike (x ∷ xs) (y ∷ ys) same zero = same.0.2
 consumed_alike (x ∷ xs) (y ∷ ys) same (suc i) = consumed_alike xs ys same.1 i
 
-count_alike : (xs ys : List Name) → AllZip SameName xs ys → length xs ≡ length ys
-count_alike [] [] same = refl
-count_alike [] (y ∷ ys) same = absurd same
-count_alike (x ∷ xs) [] same = absurd same
-count_alike (x ∷ xs) (y ∷ ys) same = ap suc (count_alike xs ys same.1)
-
 module _ (hold : SamePredicatesHoldAlike) (p q : Plan) (same : SamePlan p q) where
   takes_alike : (r : Run) (e : Event) → takes p r e ≡ takes q r e
   takes_alike r e =
@@ -64,7 +62,7 @@ module _ (hold : SamePredicatesHoldAlike) (p q : Plan) (same : SamePlan p q) whe
   used_alike r = ap (map (λ (pair : Pair). pair.number)) (filter_agree (λ (pair : Pair). is_consumed (slice_get p.names pair.name)) (λ (pair : Pair). is_consumed (slice_get q.names pair.name)) (λ pair. consumed_alike p.names q.names same.names pair.name) r)
 
   bindings_alike : (r : Run) → bindings p r ≡ bindings q r
-  bindings_alike r = ap (λ (n : ℕ). map (λ (name : ℕ). (name, numbers_under r name)) (range_with_len 0 n)) (count_alike p.names q.names same.names)
+  bindings_alike r = ap (λ (elements : List Element). map (λ (name : ℕ). (name, numbers_under r name)) (flat_map binds elements)) same.elements
 
   leaves_with : (select : Select) (e : Event) → leaves select p e ≡ leaves select q e
   leaves_with First e = refl
@@ -73,6 +71,14 @@ module _ (hold : SamePredicatesHoldAlike) (p q : Plan) (same : SamePlan p q) whe
 
   leaves_alike : (e : Event) → leaves p.select p e ≡ leaves q.select q e
   leaves_alike e = ap (λ (select : Select). leaves select p e) same.select ∙ leaves_with q.select e
+
+  guarded_alike : (r : Run) (e : Event) → guarded p r e ≡ guarded q r e
+  guarded_alike r e =
+      ap (λ (elements : List Element). list_any (name_holds p r e) (guards_behind elements r (last_or None r))) same.elements
+      ∙ any_alike (name_holds p r e) (name_holds q r e) (λ i. fits_alike hold p.names q.names same.names i r e) (guards q r)
+
+  departs_alike : (r : Run) (e : Event) → departs p r e ≡ departs q r e
+  departs_alike r e = λ i. leaves_alike e i || guarded_alike r e i
 
   may_with : (select : Select) (s : State) (h : Handling) (x : Numbered) → may_start select p s h x ≡ may_start select q s h x
   may_with First s h x = refl
@@ -91,7 +97,7 @@ module _ (hold : SamePredicatesHoldAlike) (p q : Plan) (same : SamePlan p q) whe
 
   offered_alike : (x : Numbered) (h : Handling) (run : Started) (o : Option ℕ) → offered p x h run o ≡ offered q x h run o
   offered_alike x h run (Some name) = grown_alike h (run.0, run.1 ++ (record { name = name; number = x.0; event = x.1 }) ∷ [])
-  offered_alike x h run None = ap (λ (b : Bool). cond b h (kept_with h run)) (leaves_alike x.1)
+  offered_alike x h run None = ap (λ (b : Bool). cond b h (kept_with h run)) (departs_alike run.1 x.1)
 
   handle_run_alike : (x : Numbered) (h : Handling) (run : Started) → handle_run p x h run ≡ handle_run q x h run
   handle_run_alike x h run =
@@ -136,7 +142,7 @@ module _ (hold : SamePredicatesHoldAlike) (p q : Plan) (same : SamePlan p q) whe
 
   acted_alike : (x : Numbered) (a : Acting) (run : Started) (o : Option ℕ) → acted p x a run o ≡ acted q x a run o
   acted_alike x a run (Some name) = grow_alike a run (record { name = name; number = x.0; event = x.1 }) (run.1 ++ (record { name = name; number = x.0; event = x.1 }) ∷ [])
-  acted_alike x a run None = ap (λ (b : Bool). cond b (acting_on a (abandoned run ∷ []) []) a) (leaves_alike x.1)
+  acted_alike x a run None = ap (λ (b : Bool). cond b (acting_on a (abandoned run ∷ []) []) a) (departs_alike run.1 x.1)
 
   act_run_alike : (x : Numbered) (a : Acting) (run : Started) → act_run p x a run ≡ act_run q x a run
   act_run_alike x a run =
@@ -222,6 +228,7 @@ same_plans_read_alike hold p q same = record {
   used = used_alike hold p q same;
   bound = bindings_alike hold p q same;
   taken = takes_alike hold p q same;
+  guarded_by = guarded_alike hold p q same;
   handled = handle_alike hold p q same;
   read = read_to_alike hold p q same;
   told = accounts_to_alike hold p q same;

@@ -3,7 +3,7 @@ use Rattle.std.proofs.Common.{◌≡◌, ℕ, zero, suc, ◌+◌, ◌<◌, Bool,
 use Rattle.std.specs.Prelude.{slice_get, if◌then◌else◌, not, nat_lt, ◌&&◌}
 use Rattle.std.proofs.lemmas.Bool.{ltb-true}
 use Rattle.std.specs.List.{All, AllZip}
-use Rattle.std.proofs.lemmas.List.{append-nil, map-append}
+use Rattle.std.proofs.lemmas.List.{append-nil}
 use Rattle.std.proofs.lemmas.List.Concat.{flat_map-append}
 use Rattle.std.proofs.lemmas.List.Elements.{All-weaker}
 use Rattle.sp_plan.specs.declared.event.Event.{Event}
@@ -134,13 +134,6 @@ passed_by x m list more after told wanted on below = record {
   told = λ s stands. on ∙ ap (λ (a : Account). joined (map seen_moves list ++ a ∷ [])) (λ i. record { told = told s stands i; wanted = wanted s stands i });
   below = below_next x.0 (runs_of m) below;
 }
-
--- moves behind others are told behind them
-pub told_behind : (list more new : List Moves) (m : Moves) (a : Account) → more ≡ new ++ m ∷ [] → new ≡ list → (seen_moves m).told ≡ a.told → (seen_moves m).wanted ≡ a.wanted
-    → TellsOn a list more
-told_behind list more new m a added kept told wanted =
-    let same : seen_moves m ≡ a = λ i. record { told = told i; wanted = wanted i } in
-    ap (λ (l : List Moves). joined (map seen_moves l)) (added ∙ ap (λ l. l ++ m ∷ []) kept) ∙ ap joined (map-append seen_moves list (m ∷ [])) ∙ ap (λ b. joined (map seen_moves list ++ b ∷ [])) same
 
 -- where nothing was read the matcher is the job's
 pub unread : (p : Pieced) (now : Option Matching) (list : List Moves) → IsKept p now list → p.read ≡ 0 → p.closed ≡ false → current now p.job.before ≡ p.job.before

@@ -1,8 +1,9 @@
 pub mod Kept
 pub mod Alike
-pub mod Telling
+pub mod MatchesTold
 pub mod Crossing
 pub mod Wants
+pub mod Joining
 pub mod Quiet
 pub mod Stepping
 pub mod Passing

@@ -6,7 +6,7 @@ use Rattle.sp_plan.specs.declared.event.Event.{Event}
 use Rattle.sp_plan.specs.declared.plan.Plan.{Plan}
 use Rattle.sp_plan.specs.Same.{SamePlan}
 use Rattle.sp_plan.specs.Windows.{Numbered}
-use Rattle.sp_plan.specs.Runs.{Run, State, bindings, handle, takes, used}
+use Rattle.sp_plan.specs.Runs.{Run, State, bindings, guarded, handle, takes, used}
 use Rattle.sp_plan.specs.Moves.{Told}
 use Rattle.sp_match.specs.public.Laws.{Sound, completion, is_completion}
 use Rattle.sp_piece.specs.Reading.{Loan, Account, read_to, accounts_to}
@@ -15,12 +15,13 @@ use Rattle.sp_piece.specs.Reading.{Loan, Account, read_to, accounts_to}
 abbrev pub by_plan : Plan → Loan → Loan
 by_plan q l = record l { plan = q }
 
--- Plans that are one but for addresses use and bind the same numbers of a run, which takes the same events under both; they lead an event to
--- the same runs, and so do readings, which tell the same.
+-- Plans that are one but for addresses use and bind the same numbers of a run, which takes the same events under both and is guarded by the
+-- same; they lead an event to the same runs, and so do readings, which tell the same.
 pub record ReadAlike (p q : Plan) : Type 0 where
   pub used : (run : Run) → used p run ≡ used q run
   pub bound : (run : Run) → bindings p run ≡ bindings q run
   pub taken : (run : Run) (e : Event) → takes p run e ≡ takes q run e
+  pub guarded_by : (run : Run) (e : Event) → guarded p run e ≡ guarded q run e
   pub handled : (s : State) (x : Numbered) → handle p s x ≡ handle q s x
   pub read : (l : Loan) (s : State) (n : ℕ) (closed : Bool) → read_to (by_plan p l) s n closed ≡ read_to (by_plan q l) s n closed
   pub told : (l : Loan) (s : State) (n : ℕ) (closed : Bool) → accounts_to (by_plan p l) s n closed ≡ accounts_to (by_plan q l) s n closed

@@ -32,6 +32,10 @@ TellsSame list more = joined (map seen_moves list) ≡ joined (map seen_moves mo
 abbrev pub TellsOn : Account → List Moves → List Moves → Type 0
 TellsOn a list more = joined (map seen_moves more) ≡ joined (map seen_moves list ++ a ∷ [])
 
+-- One list came behind another one, or both are as they were.
+abbrev pub IsJoined : {A : Type 0} → List A → List A → List A → List A → Type 0
+IsJoined list more joint left = ((joint ≡ list ++ more) × (left ≡ [])) ⊎ ((joint ≡ list) × (left ≡ more))
+
 -- What the handling of an event made of a matcher and a list of moves: what is told of it came behind the others.
 pub record HandledOn (x : Numbered) (m n : Matching) (list more : List Moves) : Type 0 where
   pub plan : n.plan ≡ m.plan

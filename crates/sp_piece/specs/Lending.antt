@@ -1,11 +1,11 @@
 -- What whoever lends events to a piece owes.
-use Rattle.std.specs.Prelude.{ℕ, ◌+◌, ◌≤◌, List, [], ◌∷◌, None, length}
-use Rattle.std.specs.Coded.{Coded, Coded-set, Unit-prop, coded_option, coded_ℕ, prop_coded, Π_prop, ×_prop}
+use Rattle.std.specs.Prelude.{ℕ, ◌+◌, ◌≤◌, false, List, [], ◌∷◌, None, length}
+use Rattle.std.specs.Coded.{Coded, Coded-set, Unit-prop, coded_bool, coded_option, coded_ℕ, prop_coded, Π_prop, ×_prop}
 use Rattle.std.specs.List.{AllZip}
 use Rattle.sp_plan.specs.declared.event.Event.{Event}
 use Rattle.sp_plan.specs.declared.plan.Plan.{Plan}
 use Rattle.sp_plan.specs.Events.{AllFit}
-use Rattle.sp_plan.specs.Runs.{takes}
+use Rattle.sp_plan.specs.Runs.{guarded, takes}
 use Rattle.sp_match.specs.declared.known.Known.{Known}
 use Rattle.sp_match.specs.declared.known.Known.TheVariants.{Never, Onward, Any}
 use Rattle.sp_match.specs.public.Known.{IsKnown}
@@ -14,7 +14,7 @@ use Rattle.sp_match.specs.public.Matching.{Matching, runs_of}
 
 -- that what is known of an event is so has one proof at most
 pub known-prop : (q : Plan) (e : Event) (k : Known) → IsProp (IsKnown q e k)
-known-prop q e Never = Π_prop (λ run. Coded-set (coded_option coded_ℕ) (takes q run e) None)
+known-prop q e Never = Π_prop (λ run. ×_prop (Coded-set (coded_option coded_ℕ) (takes q run e) None) (Coded-set coded_bool (guarded q run e) false))
 known-prop q e Onward = Coded-set (coded_option coded_ℕ) (takes q [] e) None
 known-prop q e Any = Unit-prop
 

@@ -1,4 +1,4 @@
-// How a matcher and the list of its moves go on.
+// How a matcher and what is told of it go on.
 ghost use Rattle.std.specs.Prelude.{◌≡◌, [], ◌++◌, true, Some, OnOk, OnErr, map};
 ghost use Rattle.sp_plan.specs.Events.{fits};
 ghost use Rattle.sp_match.specs.public.Known.{IsKnown};
@@ -7,7 +7,8 @@ ghost use Rattle.sp_match.specs.public.Matching.{runs_of, wanted_as_before};
 ghost use Rattle.sp_piece.specs.Keeping.{ClosedOff, HandledOn, TellsOn, TellsSame, current, repeated};
 
 use crate::Memory;
-use sp_match::{Known, Matcher, Moves};
+use crate::telling::Telling;
+use sp_match::{Known, Matcher};
 use sp_plan::Event;
 use std::alloc::{AllocError, Global};
 
@@ -66,21 +67,19 @@ pub(crate) fn add_wanted(
     alloc: Global,
     led: &Matcher,
     times: u32,
-    moves: &mut Vec<Moves>,
+    telling: &mut Telling,
 ) -> Result<(), Memory>
     ensures ok { OnOk result
         (TellsOn (record { told = []; wanted = repeated times (wanted_as_before led.now) })
-        moves.old.items moves.new.items) }
-    ensures err { OnErr result (TellsSame moves.old.items moves.new.items) }
+        telling.old.entries.items telling.new.entries.items) }
+    ensures err { OnErr result (TellsSame telling.old.entries.items telling.new.entries.items) }
 {
     if led.open_runs().is_empty() {
         return Ok(());
     }
-    if moves.is_empty() {
-        moves.push(Moves::new(alloc))?;
-    }
-    let last = moves.len() - 1;
-    add_times(led, times, &mut moves[last].wanted)
+    telling.begin(alloc)?;
+    let last = telling.entries.len() - 1;
+    add_times(led, times, &mut telling.entries[last].wanted)
 }
 
 // The matcher handles the event, and what is told of it comes behind the other moves. After want of memory
@@ -88,7 +87,7 @@ pub(crate) fn add_wanted(
 fn offer_event(
     alloc: Global,
     matcher: &mut Option<Matcher>,
-    moves: &mut Vec<Moves>,
+    telling: &mut Telling,
     before: &Matcher,
     next: &Next,
 ) -> Result<(), Memory>
@@ -98,15 +97,18 @@ fn offer_event(
     requires below { Below next.now.number (runs_of (current matcher.old before.now)) }
     ensures ok { OnOk result (HandledOn (next.now.number, next.now.event.now)
         (current matcher.old before.now) (current matcher.new before.now)
-        moves.old.items moves.new.items) }
+        telling.old.entries.items telling.new.entries.items) }
     ensures err { OnErr result (current matcher.new before.now ≡ current matcher.old before.now) }
-    ensures err_moves { OnErr result (TellsSame moves.old.items moves.new.items) }
+    ensures err_moves { OnErr result
+        (TellsSame telling.old.entries.items telling.new.entries.items) }
 {
-    moves.reserve(1)?;
+    telling.begin(alloc)?;
+    telling.entries.reserve(1)?;
     begin(alloc, matcher, before)?;
     let Some(led) = matcher else { unreachable!() };
-    let told = led.offer_known_of(alloc, next.number, next.event, next.known)?;
-    moves.push_reserved(told);
+    let (number, room) = (next.number, &mut telling.room);
+    led.offer_known::<true>(alloc, number, next.event, next.known, room)?;
+    telling.take_in(alloc);
     Ok(())
 }
 
@@ -116,7 +118,7 @@ fn offer_event(
 pub(crate) fn handle_event(
     alloc: Global,
     matcher: &mut Option<Matcher>,
-    moves: &mut Vec<Moves>,
+    telling: &mut Telling,
     before: &Matcher,
     next: &Next,
 ) -> Result<(), Memory>
@@ -126,15 +128,16 @@ pub(crate) fn handle_event(
     requires below { Below next.now.number (runs_of (current matcher.old before.now)) }
     ensures ok { OnOk result (HandledOn (next.now.number, next.now.event.now)
         (current matcher.old before.now) (current matcher.new before.now)
-        moves.old.items moves.new.items) }
+        telling.old.entries.items telling.new.entries.items) }
     ensures err { OnErr result (current matcher.new before.now ≡ current matcher.old before.now) }
-    ensures err_moves { OnErr result (TellsSame moves.old.items moves.new.items) }
+    ensures err_moves { OnErr result
+        (TellsSame telling.old.entries.items telling.new.entries.items) }
 {
     let so_far = led(matcher, before);
     if so_far.ignores(next.known) {
-        return add_wanted(alloc, so_far, 1, moves);
+        return add_wanted(alloc, so_far, 1, telling);
     }
-    offer_event(alloc, matcher, moves, before, next)
+    offer_event(alloc, matcher, telling, before, next)
 }
 
 /// The matcher reads the closing, and what is told of it comes behind the other moves. Where no run is open
@@ -142,21 +145,22 @@ pub(crate) fn handle_event(
 pub(crate) fn handle_closing(
     alloc: Global,
     matcher: &mut Option<Matcher>,
-    moves: &mut Vec<Moves>,
+    telling: &mut Telling,
     before: &Matcher,
 ) -> Result<(), Memory>
     ensures ok { OnOk result (ClosedOff (current matcher.old before.now)
-        (current matcher.new before.now) moves.old.items moves.new.items) }
+        (current matcher.new before.now) telling.old.entries.items telling.new.entries.items) }
     ensures err { OnErr result (current matcher.new before.now ≡ current matcher.old before.now) }
-    ensures err_moves { OnErr result (TellsSame moves.old.items moves.new.items) }
+    ensures err_moves { OnErr result
+        (TellsSame telling.old.entries.items telling.new.entries.items) }
 {
     if led(matcher, before).open_runs().is_empty() {
         return Ok(());
     }
-    moves.reserve(1)?;
+    telling.entries.reserve(1)?;
     begin(alloc, matcher, before)?;
     let Some(led) = matcher else { unreachable!() };
     let told = led.close(alloc)?;
-    moves.push_reserved(told);
+    telling.entries.push_reserved(told);
     Ok(())
 }

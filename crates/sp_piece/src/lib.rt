@@ -9,6 +9,7 @@ pub mod law;
 mod piece;
 mod reading;
 mod stepped;
+mod telling;
 
 pub use job::Job;
 pub use law::{readings_tell_matches, same_plans_read_alike};

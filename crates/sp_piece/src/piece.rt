@@ -7,6 +7,7 @@ ghost use Rattle.sp_piece.specs.declared.stepped.Stepped.TheVariants as s;
 
 use crate::going::{handle_closing, led};
 use crate::reading::{read_all, read_next};
+use crate::telling::Telling;
 use crate::{Job, Memory, Stepped};
 use sp_hub::Named;
 use sp_match::{Matcher, Moves};
@@ -20,7 +21,7 @@ pub struct Piece {
     job: Job,
     // where the reading has led to; None until the first event is handled
     matcher: Option<Matcher>,
-    moves: Vec<Moves>,
+    telling: Telling,
     read: u32,
     closed: bool,
     short: bool,
@@ -42,7 +43,7 @@ impl Model for Piece {
 
     ghost view = { λ p. record { job = p.job; read = p.read; closed = p.closed; short = p.short } };
 
-    ghost invariant = { λ p. IsKept (record { job = p.job; read = p.read; closed = p.closed; short = p.short }) p.matcher p.moves.items };
+    ghost invariant = { λ p. IsKept (record { job = p.job; read = p.read; closed = p.closed; short = p.short }) p.matcher p.telling.entries.items };
 }
 
 impl Piece {
@@ -53,7 +54,7 @@ impl Piece {
         Piece {
             job,
             matcher: None,
-            moves: Vec::new(alloc),
+            telling: Telling::new(alloc),
             read: 0,
             closed: false,
             short: false,
@@ -111,7 +112,7 @@ impl Piece {
             &self.job,
             &mut self.read,
             &mut self.matcher,
-            &mut self.moves,
+            &mut self.telling,
         )
     }
 
@@ -135,7 +136,7 @@ impl Piece {
             &self.job,
             &mut self.read,
             &mut self.matcher,
-            &mut self.moves,
+            &mut self.telling,
         )?;
         Ok(Stepped::Read {
             number,
@@ -151,7 +152,7 @@ impl Piece {
         ensures err { OnErr result (self.new ≡ self.old) }
     {
         let job = &self.job;
-        handle_closing(alloc, &mut self.matcher, &mut self.moves, &job.before)?;
+        handle_closing(alloc, &mut self.matcher, &mut self.telling, &job.before)?;
         self.closed = true;
         Ok(Stepped::Closed)
     }
@@ -176,7 +177,7 @@ impl Piece {
     pub fn moves(&self) -> &[Moves]
         ensures { Tells self.now result.now }
     {
-        &self.moves
+        &self.telling.entries
     }
 
     /// The matcher to which the reading has led so far, the one of the job where nothing was read.
@@ -218,7 +219,7 @@ impl Piece {
         let Piece {
             job,
             matcher,
-            moves: _,
+            telling: _,
             read: _,
             closed: _,
             short: _,

@@ -7,8 +7,9 @@ ghost use Rattle.sp_piece.specs.Pieced.{loan};
 ghost use Rattle.sp_piece.specs.Keeping.{IsKept, IsPast, NoneSkipped, PassesBy, going};
 
 use crate::going::{Next, add_wanted, handle_event, led};
+use crate::telling::Telling;
 use crate::{Job, Memory};
-use sp_match::{Known, Matcher, Moves};
+use sp_match::{Known, Matcher};
 use std::alloc::Global;
 
 // The place, at most `end`, up to which the events from a place on change nothing for a matcher.
@@ -34,12 +35,12 @@ pub(crate) fn read_next(
     job: &Job,
     read: &mut u32,
     matcher: &mut Option<Matcher>,
-    moves: &mut Vec<Moves>,
+    telling: &mut Telling,
 ) -> Result<(), Memory>
-    requires kept { IsKept (going job.now read.old) matcher.old moves.old.items }
+    requires kept { IsKept (going job.now read.old) matcher.old telling.old.entries.items }
     requires next { read.old < length job.now.events }
     requires shown { skips (loan job.now) read.old ≡ false }
-    ensures kept { IsKept (going job.now read.new) matcher.new moves.new.items }
+    ensures kept { IsKept (going job.now read.new) matcher.new telling.new.entries.items }
     ensures ok { OnOk result (read.new ≡ read.old + 1) }
     ensures err { OnErr result (read.new ≡ read.old) }
 {
@@ -49,7 +50,7 @@ pub(crate) fn read_next(
         event: &job.events.as_slice()[place],
         known: job.known.as_slice()[place],
     };
-    handle_event(alloc, matcher, moves, &job.before, &next)?;
+    handle_event(alloc, matcher, telling, &job.before, &next)?;
     *read += 1;
     Ok(())
 }
@@ -62,13 +63,13 @@ fn read_some(
     end: u32,
     read: &mut u32,
     matcher: &mut Option<Matcher>,
-    moves: &mut Vec<Moves>,
+    telling: &mut Telling,
 ) -> Result<(), Memory>
-    requires kept { IsKept (going job.now read.old) matcher.old moves.old.items }
+    requires kept { IsKept (going job.now read.old) matcher.old telling.old.entries.items }
     requires next { read.old < end }
     requires within { end ≤ length job.now.events }
     requires shown { NoneSkipped job.now read.old end }
-    ensures kept { IsKept (going job.now read.new) matcher.new moves.new.items }
+    ensures kept { IsKept (going job.now read.new) matcher.new telling.new.entries.items }
     ensures on { read.old ≤ read.new }
     ensures within { read.new ≤ end }
     ensures ok { OnOk result (read.old < read.new) }
@@ -76,9 +77,9 @@ fn read_some(
     let so_far = led(matcher, &job.before);
     let quiet = quiet_to(so_far, job.known.as_slice(), *read, end);
     if quiet == *read {
-        return read_next(alloc, job, read, matcher, moves);
+        return read_next(alloc, job, read, matcher, telling);
     }
-    add_wanted(alloc, so_far, quiet - *read, moves)?;
+    add_wanted(alloc, so_far, quiet - *read, telling)?;
     *read = quiet;
     Ok(())
 }
@@ -91,18 +92,18 @@ fn read_to(
     end: u32,
     read: &mut u32,
     matcher: &mut Option<Matcher>,
-    moves: &mut Vec<Moves>,
+    telling: &mut Telling,
 ) -> Result<(), Memory>
-    requires kept { IsKept (going job.now read.old) matcher.old moves.old.items }
+    requires kept { IsKept (going job.now read.old) matcher.old telling.old.entries.items }
     requires order { read.old ≤ end }
     requires within { end ≤ length job.now.events }
     requires shown { NoneSkipped job.now read.old end }
-    ensures kept { IsKept (going job.now read.new) matcher.new moves.new.items }
+    ensures kept { IsKept (going job.now read.new) matcher.new telling.new.entries.items }
     ensures on { read.old ≤ read.new }
     ensures ok { OnOk result (read.new ≡ end) }
 {
     while *read < end {
-        read_some(alloc, job, end, read, matcher, moves)?;
+        read_some(alloc, job, end, read, matcher, telling)?;
     }
     Ok(())
 }
@@ -115,13 +116,13 @@ fn pass_over(
     number: u32,
     read: &mut u32,
     matcher: &mut Option<Matcher>,
-    moves: &mut Vec<Moves>,
+    telling: &mut Telling,
 ) -> Result<(), Memory>
-    requires kept { IsKept (going job.now read.old) matcher.old moves.old.items }
+    requires kept { IsKept (going job.now read.old) matcher.old telling.old.entries.items }
     requires skipped { is_among job.now.snapshot.list number ≡ true }
     requires shown { (i : ℕ) → read.old ≤ i → i < length job.now.events → job.now.first + i < number
         → skips (loan job.now) i ≡ false }
-    ensures kept { IsKept (going job.now read.new) matcher.new moves.new.items }
+    ensures kept { IsKept (going job.now read.new) matcher.new telling.new.entries.items }
     ensures on { read.old ≤ read.new }
     ensures ok { OnOk result (IsPast job.now read.new number) }
 {
@@ -129,7 +130,7 @@ fn pass_over(
     if number < job.first + *read || number >= job.first + count {
         return Ok(());
     }
-    read_to(alloc, job, number - job.first, read, matcher, moves)?;
+    read_to(alloc, job, number - job.first, read, matcher, telling)?;
     *read += 1;
     Ok(())
 }
@@ -141,17 +142,17 @@ pub(crate) fn read_all(
     job: &Job,
     read: &mut u32,
     matcher: &mut Option<Matcher>,
-    moves: &mut Vec<Moves>,
+    telling: &mut Telling,
 ) -> Result<(), Memory>
-    requires kept { IsKept (going job.now read.old) matcher.old moves.old.items }
-    ensures kept { IsKept (going job.now read.new) matcher.new moves.new.items }
+    requires kept { IsKept (going job.now read.old) matcher.old telling.old.entries.items }
+    ensures kept { IsKept (going job.now read.new) matcher.new telling.new.entries.items }
     ensures on { read.old ≤ read.new }
     ensures ok { OnOk result (read.new ≡ length job.now.events) }
 {
     let snapshot = job.snapshot.list();
     for number in snapshot {
-        pass_over(alloc, job, *number, read, matcher, moves)?;
+        pass_over(alloc, job, *number, read, matcher, telling)?;
     }
     let count = job.events.as_slice().len() as u32;
-    read_to(alloc, job, count, read, matcher, moves)
+    read_to(alloc, job, count, read, matcher, telling)
 }

@@ -1,4 +1,4 @@
-use Rattle.sp_piece.proofs.Telling.{reading_tells}
+use Rattle.sp_piece.proofs.MatchesTold.{reading_tells}
 use Rattle.sp_piece.proofs.law.readings_tell_matches.Goals as goal
 
 pub returns : goal.returns

@@ -34,5 +34,5 @@ returns-clause-kept c =
     let place = c.args.read.now in
     let there : slice_get job.events place ≡ Some c.index-as_slice-place.result =
     ap (λ l. slice_get l place) (sym c.as_slice.ensures) ∙ slice_get_read c.as_slice.result.now _ place _ (ap length (sym c.as_slice.ensures)) c.requires.next c.index-as_slice-place.is in
-    kept_handled job place _ _ c.args.matcher.now c.handle_event.new.matcher c.args.moves.now.items c.handle_event.new.moves.items _
+    kept_handled job place _ _ c.args.matcher.now c.handle_event.new.matcher c.args.telling.now.entries.items c.handle_event.new.telling.entries.items _
     c.requires.kept c.requires.next c.requires.shown there c.in_ok-handle_event.ensures.ok
