@@ -111,8 +111,8 @@ impl<J: Named, P: Named, L: Naming> Hub<J, P, L> {
         Ok((hub, by, made))
     }
 
-    /// Lists a job. `Err` is want of memory. Of the jobs that are listed the poster's thread is to do one itself
-    /// where it finds nothing else to do: a seat that waits is woken for the second and each further one.
+    /// Lists a job, and wakes a seat for it, where more wait than were woken before and are on their way to a job.
+    /// `Err` is want of memory.
     pub fn post<R: Wait>(&self, rt: &R, by: &mut Poster<P, L>, job: J) -> Result<(), J>
         requires ticket { by.old.last < J.ticket_of job }
         requires room { by.old.waiting < by.old.room }
@@ -136,7 +136,7 @@ impl<J: Named, P: Named, L: Naming> Hub<J, P, L> {
         ensures by { by.new ≡ (if is_ok result then posts by.old (J.ticket_of job) else by.old) }
         ensures back { IfErr result (λ j. j ≡ job) }
     {
-        self.shared.lock(rt).state.post(by, job)
+        self.shared.lock(rt).post_quietly(by, job)
     }
 
     /// Gives the seat the oldest job.
@@ -144,7 +144,16 @@ impl<J: Named, P: Named, L: Naming> Hub<J, P, L> {
         requires { seat.old.holding ≡ None }
         ensures { seat.new ≡ takes J.ticket_of seat.old result }
     {
-        self.shared.lock(rt).state.take(seat)
+        self.shared.lock(rt).take(seat)
+    }
+
+    /// Gives the seat the oldest job where more are listed than seats are on their way, which were woken for a job: so
+    /// what those come for is left to them. Else the answer is that none is there.
+    pub fn take_spare<R: Wait>(&self, rt: &R, seat: &mut Seat<P, L>) -> Taken<J>
+        requires { seat.old.holding ≡ None }
+        ensures { seat.new ≡ takes J.ticket_of seat.old result }
+    {
+        self.shared.lock(rt).take_spare(seat)
     }
 
     /// Brings a piece home, with no lock held, and wakes the poster where it waits. Where the queue gives the piece
@@ -179,7 +188,7 @@ impl<J: Named, P: Named, L: Naming> Hub<J, P, L> {
         requires { by.old.closed ≡ false }
         ensures { by.new ≡ record by.old { closed = true } }
     {
-        self.shared.lock(rt).state.close(by);
+        self.shared.lock(rt).close(by);
         self.listed.notify_all();
     }
 
@@ -187,7 +196,7 @@ impl<J: Named, P: Named, L: Naming> Hub<J, P, L> {
     pub fn wait_job<R: Wait>(&self, rt: &R, _seat: &Seat<P, L>) {
         let mut shared = self.shared.lock(rt);
         shared.seat_waits();
-        let mut shared = self.listed.wait_while(rt, shared, |s| s.state.is_idle());
+        let mut shared = self.listed.wait_while(rt, shared, |s| s.is_idle());
         shared.seat_goes_on();
     }
 

@@ -58,11 +58,11 @@ impl<J: Named, L: Naming> Locked<J, L> {
         self.jobs.is_empty() && !self.closed
     }
 
-    /// Whether more than one job is listed.
-    pub(crate) fn has_several_jobs(&self) -> bool
-        ensures { (result ≡ true) ↔ (1 < length self.now.jobs) }
+    /// How many jobs are listed.
+    pub(crate) fn listed(&self) -> usize
+        ensures { result ≡ length self.now.jobs }
     {
-        self.jobs.len() > 1
+        self.jobs.len()
     }
 
     /// The history, beside the share that has every part of the ledger.
