@@ -1,16 +1,36 @@
-ghost use Rattle.std.specs.Prelude.{◌≡◌};
+ghost use Rattle.std.specs.Prelude.{◌≡◌, None};
+ghost use Rattle.sp_hub.specs.Calls.{takes};
 
 use crate::Workplace;
 use sp_hub::{Hub, Naming, Seat, Taken};
 use sp_piece::{Job, Piece};
 use std::sync::Wait;
 
-/// A seat at its hub. The seat is lent.
+// Asks a hub for a job, or for a spare one.
+fn ask<L: Naming, R: Wait>(
+    rt: &R,
+    hub: &Hub<Job, Piece, L>,
+    seat: &mut Seat<Piece, L>,
+    spare: bool,
+) -> Taken<Job>
+    requires { seat.old.holding ≡ None }
+    ensures { seat.new ≡ takes (λ job. job.ticket) seat.old result }
+{
+    if spare {
+        hub.take_spare(rt, seat)
+    } else {
+        hub.take(rt, seat)
+    }
+}
+
+/// A seat at its hub. The seat is lent. Where it spares, it leaves to the seats that were woken for a job what they come
+/// for.
 #[derive(Drop)]
 pub struct Seated<'a, L: Naming, R: Wait> {
     pub rt: &'a R,
     pub hub: &'a Hub<Job, Piece, L>,
     pub seat: &'a mut Seat<Piece, L>,
+    pub spares: bool,
 }
 
 impl<'a, L: Naming, R: Wait> Workplace for Seated<'a, L, R> {
@@ -30,7 +50,7 @@ impl<'a, L: Naming, R: Wait> Workplace for Seated<'a, L, R> {
     }
 
     fn take(&mut self) -> Taken<Job> {
-        self.hub.take(self.rt, self.seat)
+        ask(self.rt, self.hub, self.seat, self.spares)
     }
 
     fn put(&mut self, piece: Piece) {

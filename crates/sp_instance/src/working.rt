@@ -47,7 +47,12 @@ pub fn work<L: Naming, G: Gate, R: Wait>(
     ensures over { seat.new.over ≡ true }
     ensures all { PutAll seat.old seat.new }
 {
-    let mut place = Seated { rt, hub, seat };
+    let mut place = Seated {
+        rt,
+        hub,
+        seat,
+        spares: false,
+    };
     work_at(rt, alloc, &mut place, gate);
 }
 
@@ -70,8 +75,8 @@ pub fn work_some_at<W: Workplace, G: Gate>(alloc: Global, place: &mut W, gate: &
     most
 }
 
-/// Does the jobs that are listed at a hub, at a seat, one after another, at most so many, and waits for none. Answers
-/// how many.
+/// Does jobs that are listed at a hub, at a seat, one after another, at most so many, and waits for none. It leaves to
+/// the seats that were woken for a job what they come for. Answers how many.
 pub fn work_some<L: Naming, G: Gate, R: Wait>(
     rt: &R,
     alloc: Global,
@@ -86,7 +91,12 @@ pub fn work_some<L: Naming, G: Gate, R: Wait>(
     ensures count { seat.new.calls ≡ seat.old.calls + result }
     ensures few { result ≤ most }
 {
-    let mut place = Seated { rt, hub, seat };
+    let mut place = Seated {
+        rt,
+        hub,
+        seat,
+        spares: true,
+    };
     work_some_at(alloc, &mut place, gate, most)
 }
 

@@ -61,14 +61,15 @@ fn waits(helped: u32, waiting: u32, room: u32, must_wait: bool) -> bool
     helped == 0 && waiting != 0 && (must_wait || waiting == room)
 }
 
-// Does jobs that are listed, which no instance has taken yet, at most as many as may be out: each is read, and its piece
-// put. Then waits for a piece where there is nothing else to do. That it stops where none is listed, and waits, no clause
-// says: neither leaves anything at the seat.
+// Does jobs that are listed, for which no instance is on its way, at most as many as may be out, and where jobs are dear one
+// alone: each is read, and its piece put. Then waits for a piece where there is nothing else to do. That it stops where none
+// is listed, and waits, no clause says: neither leaves anything at the seat.
 fn help<L: Naming, G: Gate, R: Wait>(
     office: &Office<'_, L, G, R>,
     by: &Poster<Piece, L>,
     seat: &mut Seat<Piece, L>,
     must_wait: bool,
+    dear: bool,
 )
     requires { seat.old.holding ≡ None }
     ensures free { seat.new.holding ≡ None }
@@ -76,7 +77,8 @@ fn help<L: Naming, G: Gate, R: Wait>(
     ensures few { seat.new.calls ≤ seat.old.calls + by.now.room }
 {
     let room = by.room();
-    let helped = work_some(office.rt, office.alloc, office.hub, seat, office.gate, room);
+    let most = if dear { room.min(1) } else { room };
+    let helped = work_some(office.rt, office.alloc, office.hub, seat, office.gate, most);
     if waits(helped, by.waiting(), room, must_wait) {
         office.hub.wait_home(office.rt, by);
     }
@@ -186,7 +188,8 @@ impl<'a, L: Naming, R: Wait> Driver for Serving<'a, L, R> {
     }
 }
 
-// Round after round, until the run is over; answers why it is. Between two rounds jobs are done that are still listed.
+// Round after round, until the run is over; answers why it is. Between two rounds jobs are done that are still listed, for
+// which no instance is on its way.
 fn serve_on<I: Intake, O: Outlet, L: Naming, G: Gate, R: Wait>(
     office: &Office<'_, L, G, R>,
     serving: &mut Serving<'_, L, R>,
@@ -233,7 +236,8 @@ fn serve_on<I: Intake, O: Outlet, L: Naming, G: Gate, R: Wait>(
         fed = round.fed;
         let desk = &mut serving.desk;
         let must_wait = !matches!(fed, Fed::More) && !all_finished(desk.splitter.core());
-        help(office, &desk.by, &mut desk.seat, must_wait);
+        let dear = desk.splitter.unheard.is_dear();
+        help(office, &desk.by, &mut desk.seat, must_wait, dear);
     }
     unreachable!()
 }

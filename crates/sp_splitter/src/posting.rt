@@ -33,8 +33,8 @@ fn post_one<L: Naming, R: Wait>(
 }
 
 /// Posts kept jobs, the oldest first, while the poster has room for them: a call for each job
-/// that is kept no more. The first one the splitter is to do itself; for the others an instance is woken as their work
-/// adds up.
+/// that is kept no more. An instance is woken for each that is dear; of those that aren't, the first one the splitter is
+/// to do itself, and for the others one is woken as their work adds up.
 pub(crate) fn post_kept<L: Naming, R: Wait>(
     rt: &R,
     hub: &Hub<Job, Piece, L>,
@@ -54,13 +54,13 @@ pub(crate) fn post_kept<L: Naming, R: Wait>(
         ((high : ℕ) → IsBelowKept by.old.last kept.old.items high
         → IsBelowKept by.new.last kept.new.items high) }
 {
-    let mut others = false;
+    let mut first = true;
     while by.waiting() < by.room() {
         let Some(job) = kept.pop_front() else {
             return Ok(());
         };
-        let wakes = others && unheard.adds_up(&job);
-        others = true;
+        let wakes = unheard.is_worth_waking(&job, first);
+        first = false;
         if let Err(job) = post_one(rt, hub, by, job, wakes) {
             // There is room where it was.
             kept.push_front_reserved(job);

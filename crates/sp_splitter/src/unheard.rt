@@ -36,11 +36,13 @@ impl Readings {
 }
 
 /// How much work was posted since an instance was last woken, in visits of events at open runs. Where work comes in small
-/// jobs, the splitter does most of it itself, and instances are woken for what adds up. Nothing but the time of a run
-/// rests on it.
+/// jobs, the splitter does most of it itself, and instances are woken for what adds up; a dear job, which is worth it by
+/// itself, wakes one wherever one waits. Nothing but the time of a run rests on it.
 #[derive(Drop)]
 pub struct Unheard {
     visits: u64,
+    // the job that was taken in last is dear
+    dear: bool,
     // what was read of late: what was read before counts half whenever pieces come home
     lately: Readings,
 }
@@ -50,6 +52,7 @@ impl Unheard {
     pub fn new() -> Unheard {
         Unheard {
             visits: WORTH_WAKING,
+            dear: false,
             lately: Readings::none(),
         }
     }
@@ -65,17 +68,32 @@ impl Unheard {
         };
     }
 
-    /// Takes a job in, and answers whether an instance is to be woken. A window that has just begun has few runs open, of
-    /// which an event may begin many: as many are reckoned with as events met of late.
-    pub(crate) fn adds_up(&mut self, job: &Job) -> bool {
-        let events = job.events.as_slice().len() as u64;
-        let runs = (job.before.open_runs().len() as u64).max(self.lately.runs());
-        let visits = events.saturating_mul(runs.saturating_add(1));
+    /// Whether the job that was taken in last is dear.
+    pub fn is_dear(&self) -> bool {
+        self.dear
+    }
+
+    /// Takes a job in, and answers whether an instance is to be woken for it: for each that is dear, and for what adds up,
+    /// but for the first one that a turn posts, which the splitter does itself.
+    pub(crate) fn is_worth_waking(&mut self, job: &Job, first: bool) -> bool {
+        let visits = self.reckoned(job);
+        self.dear = visits >= WORTH_WAKING;
+        if first && !self.dear {
+            return false;
+        }
         self.visits = self.visits.saturating_add(visits);
         if self.visits < WORTH_WAKING {
             return false;
         }
         self.visits = 0;
         true
+    }
+
+    // How many visits a job is reckoned to take. A window that has just begun has few runs open, of which an event may
+    // begin many: as many are reckoned with as events met of late.
+    fn reckoned(&self, job: &Job) -> u64 {
+        let events = job.events.as_slice().len() as u64;
+        let runs = (job.before.open_runs().len() as u64).max(self.lately.runs());
+        events.saturating_mul(runs.saturating_add(1))
     }
 }

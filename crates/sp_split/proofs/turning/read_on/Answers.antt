@@ -6,6 +6,7 @@ use Rattle.sp_core.specs.Running.{refused}
 use Rattle.sp_split.specs.Stages.{CutOff}
 use Rattle.sp_split.proofs.AllDone.{none_to_read, idle}
 use Rattle.sp_split.proofs.Lone.{leased_cut_off, leased_alone, cut_off_as, turned_from}
+use Rattle.sp_split.proofs.Turns.{err_any}
 use Rattle.sp_split.proofs.turning.read_on.Goals as goal
 
 pub returns-in-Err-Refused-clause-turned : goal.returns-in-Err-Refused-clause-turned
@@ -21,7 +22,7 @@ returns-in-Err-Refused-clause-turned g c =
 pub returns-in_err-read_whole-clause-err : goal.returns-in_err-read_whole-clause-err
 returns-in_err-read_whole-clause-err g c =
     let cut : CutOff c.args.core.now c.lease.new.self = leased_cut_off c.args.core.now c.lease.new.self c.args.root batch_limit c.in-Ok.ensures.done (omega arith) in
-    search rules
+    err_any (CutOff c.args.core.now c.lease.new.self) c.from_residual.result cut
 
 pub bring_home-requires : goal.bring_home-requires
 bring_home-requires g c =
