@@ -41,6 +41,7 @@ fn by_hand<L: Naming, R: Wait + Abort>(
     post_first(rt, &hub, &mut by, &mut seat);
     let job = take_it(rt, &hub, &mut by, &mut seat)?;
     bring_home(rt, &hub, &mut by, &mut seat, job)?;
+    take_spare(rt, &hub, &mut by, &mut seat)?;
     hub.close(rt, &mut by);
     assert!(rt; matches!(hub.take(rt, &mut seat), Taken::Closed));
     seats.push(seat)?;
@@ -62,6 +63,7 @@ fn post_first<L: Naming, R: Wait + Abort>(
     ensures free { seat.new.holding ≡ None }
 {
     assert!(rt; matches!(hub.take(rt, seat), Taken::Empty));
+    assert!(rt; matches!(hub.take_spare(rt, seat), Taken::Empty));
     assert!(rt; hub.post(rt, by, Note { ticket: 1 }).is_ok());
 }
 
@@ -102,6 +104,30 @@ fn bring_home<L: Naming, R: Wait + Abort>(
     Ok(())
 }
 
+// Posts a second job, for which no seat is woken, since none waits: it is spare.
+fn take_spare<L: Naming, R: Wait + Abort>(
+    rt: &R,
+    hub: &Hub<Note, Note, L>,
+    by: &mut Poster<Note, L>,
+    seat: &mut Seat<Note, L>,
+) -> Result<(), Fail>
+    requires open { by.old.closed ≡ false }
+    requires free { seat.old.holding ≡ None }
+    ensures open { by.new.closed ≡ false }
+    ensures free { seat.new.holding ≡ None }
+{
+    assert!(rt; by.last() < 2);
+    assert!(rt; by.waiting() < by.room());
+    assert!(rt; hub.post(rt, by, Note { ticket: 2 }).is_ok());
+    let Taken::Job(job) = hub.take_spare(rt, seat) else {
+        return Err("a spare job".into());
+    };
+    assert!(rt; job.ticket == 2);
+    hub.put(rt, seat, job);
+    assert!(rt; hub.collect(rt, by).is_some());
+    Ok(())
+}
+
 // Each call that changed the hub stands in its history, in its order.
 fn has_history<L: Naming, R: Abort>(
     rt: &R,
@@ -115,10 +141,12 @@ fn has_history<L: Naming, R: Abort>(
     let expected = [
         HubEntry::Post { ticket: 1 },
         HubEntry::Take { seat: 0, ticket: 1 },
+        HubEntry::Post { ticket: 2 },
+        HubEntry::Take { seat: 0, ticket: 2 },
         HubEntry::Close,
     ];
     assert!(rt; history.entries.as_slice() == expected.as_slice());
-    assert!(rt; matches!(history.takes.as_slice(), [1]));
-    assert!(rt; matches!(history.puts.as_slice(), [1]));
+    assert!(rt; matches!(history.takes.as_slice(), [2]));
+    assert!(rt; matches!(history.puts.as_slice(), [2]));
     Ok(())
 }

@@ -23,6 +23,8 @@ const REST: u32 = 1_000_000;
 // Who waits for what.
 #[derive(Clone, Copy)]
 enum Scene {
+    // A seat for a job, where one is posted.
+    First,
     // A seat for a job, where a second one is posted.
     Job,
     // Each seat for a job, where the hub is closed.
@@ -34,7 +36,8 @@ enum Scene {
 // What one who takes part does, with what it has at the hub.
 #[derive(Drop)]
 enum Part<L: Naming> {
-    PostTwo(Poster<Note, L>),
+    // Posts so many jobs.
+    Post(Poster<Note, L>, u64),
     Close(Poster<Note, L>),
     // Takes the job that is listed, and puts it back as its own piece.
     Put(Seat<Note, L>),
@@ -86,6 +89,16 @@ impl Watch {
         }
         true
     }
+}
+
+#[test]
+fn a_seat_that_waits_is_woken_for_the_first_job(rt: HostRuntime) -> Result<(), Fail> {
+    meet::<Brand, _>(
+        &rt,
+        rt.alloc(),
+        Opened::new(rt.alloc(), 1, 1)?,
+        Scene::First,
+    )
 }
 
 #[test]
@@ -145,7 +158,8 @@ fn parts_of<L: Naming, R: Wait + Abort>(
     let mut by = by;
     let mut parts = Vec::new(alloc);
     match scene {
-        Scene::Job => parts.push(Part::PostTwo(by))?,
+        Scene::First => parts.push(Part::Post(by, 1))?,
+        Scene::Job => parts.push(Part::Post(by, 2))?,
         Scene::End => parts.push(Part::Close(by))?,
         Scene::Piece => {
             post(rt, hub, &mut by, 1);
@@ -183,9 +197,10 @@ fn take_part<L: Naming, R: Wait + Abort>(
 
 fn act<L: Naming, R: Wait + Abort>(rt: &R, hub: &Hub<Note, Note, L>, part: &mut Part<L>) {
     match part {
-        Part::PostTwo(by) => {
-            post(rt, hub, by, 1);
-            post(rt, hub, by, 2);
+        Part::Post(by, count) => {
+            for ticket in 1..=*count {
+                post(rt, hub, by, ticket);
+            }
         }
         Part::Close(by) => {
             assert!(rt; !by.closed());
