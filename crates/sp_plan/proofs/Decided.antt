@@ -12,7 +12,7 @@ use Rattle.sp_plan.specs.declared.plan.Column.{Column}
 use Rattle.sp_plan.specs.declared.plan.Kind.{Kind}
 use Rattle.sp_plan.specs.declared.plan.Kind.TheVariants.{Int, Dec, Text}
 use Rattle.sp_plan.specs.declared.plan.Element.{Element}
-use Rattle.sp_plan.specs.declared.plan.Element.TheVariants.{One, Plus, Set}
+use Rattle.sp_plan.specs.declared.plan.Element.TheVariants.{One, Plus, Set, Never}
 use Rattle.sp_plan.specs.contracts.event.ValuePartialEq.TheImpl.{eq-value as value_eq}
 use Rattle.sp_plan.specs.contracts.plan.KindPartialEq.TheImpl.{eq-value as kind_eq}
 use Rattle.sp_plan.specs.contracts.plan.ElementPartialEq.TheImpl.{eq-value as element_eq}
@@ -63,3 +63,10 @@ element_decides (Plus n) (One m) = (λ h. absurd cc, λ e. absurd cc)
 element_decides (Plus n) (Set m other) = (λ h. absurd cc, λ e. absurd cc)
 element_decides (Set n count) (One m) = (λ h. absurd cc, λ e. absurd cc)
 element_decides (Set n count) (Plus m) = (λ h. absurd cc, λ e. absurd cc)
+element_decides (Never n) (Never m) = Decides-like (n == m) (λ e. ap Never e) (λ e. cc) (Decides-eqb n m)
+element_decides (Never n) (One m) = (λ h. absurd cc, λ e. absurd cc)
+element_decides (Never n) (Plus m) = (λ h. absurd cc, λ e. absurd cc)
+element_decides (Never n) (Set m other) = (λ h. absurd cc, λ e. absurd cc)
+element_decides (One n) (Never m) = (λ h. absurd cc, λ e. absurd cc)
+element_decides (Plus n) (Never m) = (λ h. absurd cc, λ e. absurd cc)
+element_decides (Set n count) (Never m) = (λ h. absurd cc, λ e. absurd cc)

@@ -10,6 +10,7 @@ mod Pages
 mod Released
 pub mod Worked
 mod WorkedMoves
+mod WorkedNegation
 mod WorkedReading
 mod WorkedCompiled
 mod Products

@@ -14,7 +14,7 @@ use Rattle.sp_plan.specs.declared.plan.Kind.TheVariants.{Int, Dec, Text}
 use Rattle.sp_plan.specs.declared.plan.Compare.TheVariants.{Equal, Greater}
 use Rattle.sp_plan.specs.declared.plan.Select.TheVariants.{First}
 use Rattle.sp_plan.specs.declared.plan.Element.{Element}
-use Rattle.sp_plan.specs.declared.plan.Element.TheVariants.{One, Plus, Set}
+use Rattle.sp_plan.specs.declared.plan.Element.TheVariants.{One, Plus, Set, Never}
 use Rattle.sp_plan.specs.declared.plan.Length.{Length}
 use Rattle.sp_plan.specs.declared.plan.Length.TheVariants.{Events, Time}
 use Rattle.sp_plan.specs.declared.plan.Opening.TheVariants.{EveryEvents, When}
@@ -107,7 +107,7 @@ x_reads : IsComparable (readable good 0) is_x
 x_reads = inl (record { equality = tt; left_is = tt; right_is = lit< tt })
 
 more_reads : IsComparable (readable good 1) is_more
-more_reads = inr (record { scale = 2; within = lit≤ tt; left_is = refl; right_is = (lit< tt, refl) })
+more_reads = inr (record { scale = 2; within = lit≤ tt; left_is = refl; right_is = ((lit< tt, refl), refl) })
 
 good_keeps : IsCompiled good
 good_keeps =
@@ -128,6 +128,7 @@ good_keeps =
       names_apart = apart_three (codes "a") (codes "b") (codes "c") refl refl refl;
       elements = refl;
       sets = all_two IsSetOfMany (Plus 0) (Set 1 2) tt (lit≤ tt);
+      first = tt;
       last = tt;
       preds = all_three is_name a b c x_within more_within tt;
       reads = (all_one at_first a x_reads, (all_two at_second b c more_reads tt, tt));
@@ -173,12 +174,12 @@ nine_decimals : IsCompiled (plan (schema (Dec 9)) names elements (Events 10)) �
 nine_decimals kept = let nine : 9 ≤ 6 = (kept.kinds 2 (record { name = []; kind = Int }) (lit< tt)).1 in omega arith
 
 -- what the predicate of the first name keeps
-first_reads : (pred : Pred) → IsCompiled (first_with pred) → IsComparable (record { columns = (schema (Dec 2)).columns; texts = 1; names = 0 }) pred
+first_reads : (pred : Pred) → IsCompiled (first_with pred) → IsComparable (record { columns = (schema (Dec 2)).columns; texts = 1; names = 0; binding = 0 ∷ 1 ∷ 2 ∷ [] }) pred
 first_reads pred kept = kept.reads.0 0 (name [] Always) (lit< tt)
 
 -- the first name reads the second
 reads_later : IsCompiled (first_with (Test Equal (Column 2) (Earlier 1 2))) → ⊥
-reads_later kept = elim (first_reads (Test Equal (Column 2) (Earlier 1 2)) kept) [ inl texts ↦ texts.left_is | inr numbers ↦ let late : 1 < 0 = numbers.right_is.0 in omega arith ]
+reads_later kept = elim (first_reads (Test Equal (Column 2) (Earlier 1 2)) kept) [ inl texts ↦ texts.left_is | inr numbers ↦ let late : 1 < 0 = numbers.right_is.0.0 in omega arith ]
 
 -- a column that is not there
 no_column : IsCompiled (first_with (Test Equal (Column 70) (Literal (pos 5)))) → ⊥
@@ -200,4 +201,28 @@ two_scales kept =
 
 -- WHEN reads a name
 when_reads : IsCompiled (record good { opening = When (Test Equal (Column 2) (Earlier 0 2)) }) → ⊥
-when_reads kept = elim kept.opening_reads [ inl texts ↦ texts.left_is | inr numbers ↦ let early : 0 < 0 = numbers.right_is.0 in omega arith ]
+when_reads kept = elim kept.opening_reads [ inl texts ↦ texts.left_is | inr numbers ↦ let early : 0 < 0 = numbers.right_is.0.0 in omega arith ]
+
+-- ---- negated names
+
+-- a and then b, with no c between
+abbrev with_negated : List Element → Plan
+with_negated elements_of = plan (schema (Dec 2)) (a ∷ c ∷ b ∷ []) elements_of (Events 10)
+
+-- the predicate behind a negated name reads the name in front of it
+behind_negated : IsComparable (readable (with_negated (One 0 ∷ Never 1 ∷ One 2 ∷ [])) 2) is_more
+behind_negated = inr (record { scale = 2; within = lit≤ tt; left_is = refl; right_is = ((lit< tt, refl), refl) })
+
+-- a negated name as the first element
+negated_first : IsCompiled (with_negated (Never 0 ∷ One 1 ∷ One 2 ∷ [])) → ⊥
+negated_first kept = kept.first
+
+-- a negated name as the last element
+negated_last : IsCompiled (with_negated (One 0 ∷ One 1 ∷ Never 2 ∷ [])) → ⊥
+negated_last kept = kept.last
+
+-- a predicate that reads a negated name
+reads_negated : IsCompiled (plan (schema (Dec 2)) (a ∷ c ∷ name (codes "b") (Test Equal (Column 2) (Earlier 1 2)) ∷ []) (One 0 ∷ Never 1 ∷ One 2 ∷ []) (Events 10)) → ⊥
+reads_negated kept =
+    elim (kept.reads.1.1.0 0 (name [] Always) (lit< tt))
+    [ inl texts ↦ texts.left_is | inr numbers ↦ let found : false ≡ true = numbers.right_is.0.1 in absurd cc ]

@@ -16,10 +16,10 @@ abbrev after : Plan → List ℕ → State
 after q symbols = state q (numbered (events symbols))
 
 -- the moves of the event of that number and symbol after these, as they are told
-abbrev then_told : Plan → List ℕ → ℕ → ℕ → List Told
+abbrev pub then_told : Plan → List ℕ → ℕ → ℕ → List Told
 then_told q symbols number symbol = told q (after q symbols) (moves q (after q symbols) (number, event number symbol))
 
-abbrev then_wanted : Plan → List ℕ → ℕ → ℕ → List (ℕ × ℕ)
+abbrev pub then_wanted : Plan → List ℕ → ℕ → ℕ → List (ℕ × ℕ)
 then_wanted q symbols number symbol = still_wanted q (after q symbols) (moves q (after q symbols) (number, event number symbol))
 
 abbrev abc : Select → Plan

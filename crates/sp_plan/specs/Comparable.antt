@@ -1,5 +1,6 @@
 -- Which expressions of a plan are texts, which are numbers and of what scale, and which predicates compare like with like.
-use Rattle.std.specs.Prelude.{◌≡◌, ◌⊎◌, ℕ, ◌+◌, ◌<◌, ◌≤◌, List, Option, Some, None, slice_get}
+use Rattle.std.specs.Prelude.{◌≡◌, ◌⊎◌, ℕ, ◌+◌, ◌<◌, ◌≤◌, true, List, Option, Some, None, slice_get}
+use Rattle.sp_base.specs.Numbers.{is_among}
 use Rattle.sp_plan.specs.declared.plan.Column.{Column}
 use Rattle.sp_plan.specs.declared.plan.Kind.{Kind}
 use Rattle.sp_plan.specs.declared.plan.Kind.TheVariants as k
@@ -9,11 +10,16 @@ use Rattle.sp_plan.specs.declared.plan.Expr.{Expr}
 use Rattle.sp_plan.specs.declared.plan.Expr as e
 use Rattle.sp_plan.specs.declared.plan.Pred.{Pred, Always, Test, And', Or', Not'}
 
--- What a predicate may read: these columns, so many texts of the plan, and the names below a number.
+-- What a predicate may read: these columns, so many texts of the plan, and the names below a number that bind events.
 pub record Readable : Type 0 where
   pub columns : List Column
   pub texts : ℕ
   pub names : ℕ
+  pub binding : List ℕ
+
+-- The name is below that number, and binds events.
+abbrev pub MayRead : Readable → ℕ → Type 0
+MayRead r name = (name < r.names) × (is_among r.binding name ≡ true)
 
 -- a kind of numbers with so many decimals
 abbrev pub KindOfScale : ℕ → Kind → Type 0
@@ -40,7 +46,7 @@ ColumnOfTexts (Some column) = KindOfTexts column.kind
 abbrev pub IsText : Readable → Expr → Type 0
 IsText r (e.Word s) = s < r.texts
 IsText r (e.Column place) = ColumnOfTexts (slice_get r.columns place)
-IsText r (e.Earlier name place) = (name < r.names) × ColumnOfTexts (slice_get r.columns place)
+IsText r (e.Earlier name place) = MayRead r name × ColumnOfTexts (slice_get r.columns place)
 IsText r _ = ⊥
 
 -- The expression is a number of this scale. Sums have both sides of one scale, products add scales; the plan keeps no scale of a
@@ -49,7 +55,7 @@ abbrev pub HasScale : Readable → Expr → ℕ → Type 0
 HasScale r (e.Literal n) scale = scale ≤ 36
 HasScale r (e.Word s) scale = ⊥
 HasScale r (e.Column place) scale = ColumnOfScale scale (slice_get r.columns place)
-HasScale r (e.Earlier name place) scale = (name < r.names) × ColumnOfScale scale (slice_get r.columns place)
+HasScale r (e.Earlier name place) scale = MayRead r name × ColumnOfScale scale (slice_get r.columns place)
 HasScale r (e.Raise' by p inner) scale = (from : ℕ) × (from + by ≡ scale) × HasScale r inner from
 HasScale r (e.Minus' p inner) scale = HasScale r inner scale
 HasScale r (e.Add' p left q right) scale = HasScale r left scale × HasScale r right scale

@@ -4,7 +4,7 @@ use Rattle.std.specs.List.{list_any, flat_map, fold}
 use Rattle.sp_base.specs.Numbers.{is_among}
 use Rattle.sp_plan.specs.declared.plan.Plan.{Plan}
 use Rattle.sp_plan.specs.Windows.{Numbered}
-use Rattle.sp_plan.specs.Runs.{Pair, Run, Started, State, Handling, bindings, holds_one, is_complete, leaves, may_start, takes, unbound, used}
+use Rattle.sp_plan.specs.Runs.{Pair, Run, Started, State, Handling, bindings, departs, holds_one, is_complete, may_start, takes, unbound, used}
 
 -- A run starts, with the next number and no pair; a run binds an event; a run completes; a run is abandoned. Runs are named by their numbers.
 pub data Move : Type 0 where
@@ -69,7 +69,7 @@ abbrev pub acted : Plan → Numbered → Acting → Started → Option ℕ → A
 acted q x a run (Some name) =
     let pair : Pair = record { name = name; number = x.0; event = x.1 } in
     acting_on a (growing q a.now.open_runs run pair) (used_if_complete q (run.1 ++ pair ∷ []))
-acted q x a run None = if leaves q.select q x.1 then acting_on a (abandoned run ∷ []) [] else a
+acted q x a run None = if departs q run.1 x.1 then acting_on a (abandoned run ∷ []) [] else a
 
 -- one of the runs that were open when the event came: it may have been abandoned by now, and is offered no event that is used
 abbrev pub act_run : Plan → Numbered → Acting → Started → Acting
@@ -127,7 +127,7 @@ abbrev pub told : Plan → State → List Move → List Told
 told q s [] = []
 told q s (m ∷ ms) = tell q s m ∷ told q (apply s m) ms
 
--- how many events a run still wants at least: one for each name that it has not bound
+-- how many events a run still wants at least: one for each name that it has still to bind
 abbrev pub left : Plan → Run → ℕ
 left q r = length (flat_map (λ element. unbound r (Some element)) q.elements)
 

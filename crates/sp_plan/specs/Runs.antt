@@ -1,12 +1,12 @@
 -- What a run takes, and what the runs over a list of visible events come to.
-use Rattle.std.specs.Prelude.{ℕ, ◌+◌, Bool, true, false, ◌&&◌, not, List, [], ◌∷◌, ◌++◌, length, Option, Some, None, is_some, is_none, slice_get, ◌==◌, nat_lt, filter, map, find, if◌then◌else◌}
-use Rattle.std.specs.List.{list_any, list_all, last_or, range_with_len, fold}
+use Rattle.std.specs.Prelude.{ℕ, ◌+◌, Bool, true, false, ◌&&◌, ◌||◌, not, List, [], ◌∷◌, ◌++◌, length, Option, Some, None, is_some, is_none, slice_get, ◌==◌, nat_lt, filter, map, find, if◌then◌else◌}
+use Rattle.std.specs.List.{list_any, list_all, last_or, range_with_len, flat_map, fold}
 use Rattle.sp_base.specs.Numbers.{is_among}
 use Rattle.sp_plan.specs.declared.event.Event.{Event}
 use Rattle.sp_plan.specs.declared.plan.Plan.{Plan}
 use Rattle.sp_plan.specs.declared.plan.Name.{Name}
 use Rattle.sp_plan.specs.declared.plan.Element.{Element}
-use Rattle.sp_plan.specs.declared.plan.Element.TheVariants.{One, Plus, Set}
+use Rattle.sp_plan.specs.declared.plan.Element.TheVariants.{One, Plus, Set, Never}
 use Rattle.sp_plan.specs.declared.plan.Select.{Select}
 use Rattle.sp_plan.specs.declared.plan.Select.TheVariants.{First, Last, Each}
 use Rattle.sp_plan.specs.Values.{holds}
@@ -27,25 +27,32 @@ abbrev pub names_of : Element → List ℕ
 names_of (One a) = a ∷ []
 names_of (Plus a) = a ∷ []
 names_of (Set first count) = range_with_len first count
+names_of (Never a) = a ∷ []
+
+-- those to which a run binds events: a negated name binds none
+abbrev pub binds : Element → List ℕ
+binds (Never a) = []
+binds element = names_of element
 
 -- whether a run has bound an event to the name
 abbrev pub is_bound : Run → ℕ → Bool
 is_bound r name = list_any (λ pair. pair.name == name) r
 
--- whether a run has bound an event to each name of the element
+-- whether a run has bound an event to each name of the element that binds some
 abbrev pub is_filled : Run → Element → Bool
-is_filled r element = list_all (is_bound r) (names_of element)
+is_filled r element = list_all (is_bound r) (binds element)
 
--- the names of an element that a run has not bound yet
+-- the names of an element to which a run has still to bind an event
 abbrev pub unbound : Run → Option Element → List ℕ
 unbound r None = []
-unbound r (Some element) = filter (λ name. not (is_bound r name)) (names_of element)
+unbound r (Some element) = filter (λ name. not (is_bound r name)) (binds element)
 
 -- whether an element is the name once or more
 abbrev pub is_plus : ℕ → Element → Bool
 is_plus name (Plus b) = b == name
 is_plus name (One a) = false
 is_plus name (Set first count) = false
+is_plus name (Never a) = false
 
 -- the name of the last pair again, where it may be bound more than once
 abbrev pub again : List Element → Option Pair → List ℕ
@@ -73,6 +80,31 @@ name_holds q r e name = fits_name (slice_get q.names name) r e
 abbrev pub takes : Plan → Run → Event → Option ℕ
 takes q r e = find (name_holds q r e) (wanted q r)
 
+-- the negated names in front of these elements
+abbrev pub leading : List Element → List ℕ
+leading [] = []
+leading (Never a ∷ elements) = a ∷ leading elements
+leading (element ∷ elements) = []
+
+-- of these elements those behind the one to which events of the name are bound, where the run has filled that
+abbrev pub behind : Run → ℕ → List Element → List Element
+behind r name [] = []
+behind r name (element ∷ elements) =
+    if is_among (binds element) name then (if is_filled r element then elements else []) else behind r name elements
+
+-- the negated names that stand right behind the element of a pair, where the run has filled that
+abbrev pub guards_behind : List Element → Run → Option Pair → List ℕ
+guards_behind elements r None = []
+guards_behind elements r (Some pair) = leading (behind r pair.name elements)
+
+-- the names that guard a run: it is abandoned by an event that it doesn't take and that fulfils the predicate of one of them
+abbrev pub guards : Plan → Run → List ℕ
+guards q r = guards_behind q.elements r (last_or None r)
+
+-- whether an event fulfils the predicate of a name that guards the run
+abbrev pub guarded : Plan → Run → Event → Bool
+guarded q r e = list_any (name_holds q r e) (guards q r)
+
 -- whether every element is filled
 abbrev pub is_complete : Plan → Run → Bool
 is_complete q r = list_all (is_filled r) q.elements
@@ -94,9 +126,13 @@ holds_one ns r = list_any (λ pair. is_among ns pair.number) r
 abbrev pub numbers_under : Run → ℕ → List ℕ
 numbers_under r name = map (λ pair. pair.number) (filter (λ pair. pair.name == name) r)
 
--- each name of the plan with the numbers of the events that a run binds to it
+-- the names of the plan that aren't negated, in their order
+abbrev pub bound_names : Plan → List ℕ
+bound_names q = flat_map binds q.elements
+
+-- each of them with the numbers of the events that a run binds to it
 abbrev pub bindings : Plan → Run → List (ℕ × List ℕ)
-bindings q r = map (λ name. (name, numbers_under r name)) (range_with_len 0 (length q.names))
+bindings q r = map (λ name. (name, numbers_under r name)) (bound_names q)
 
 -- a run with its number: runs are numbered from 1 in the order of their start
 abbrev pub Started : Type 0
@@ -134,15 +170,19 @@ kept_with h run = record h { kept = h.kept ++ run ∷ [] }
 abbrev pub grown : Plan → Handling → Started → Handling
 grown q h run = if is_complete q run.1 then completed q h run else kept_with h run
 
--- under LAST a run that doesn't take an event leaves where the event begins a run
+-- whether the policy has each run leave that doesn't take an event: under LAST where the event begins a run
 abbrev pub leaves : Select → Plan → Event → Bool
 leaves Last q e = is_some (takes q [] e)
 leaves First q e = false
 leaves Each q e = false
 
+-- whether an open run that doesn't take the event leaves
+abbrev pub departs : Plan → Run → Event → Bool
+departs q r e = leaves q.select q e || guarded q r e
+
 -- a run that doesn't take the event
 abbrev pub passed : Plan → Handling → Started → Event → Handling
-passed q h run e = if leaves q.select q e then h else kept_with h run
+passed q h run e = if departs q run.1 e then h else kept_with h run
 
 -- what a run does with an event, by the name under which it takes it
 abbrev pub offered : Plan → Numbered → Handling → Started → Option ℕ → Handling

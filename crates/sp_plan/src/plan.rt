@@ -78,15 +78,18 @@ pub enum Element {
     Plus(u8),
     /// One event for each of `count` names from `first` on, in any order.
     Set { first: u8, count: u8 },
+    /// No event: the name is negated. Between the elements round it a run is abandoned by an event that it
+    /// doesn't take and that fulfils the name's predicate.
+    Never(u8),
 }
 
 /// A name of the pattern.
 #[derive(Drop)]
 pub struct Name {
     pub text: Text,
-    /// What an event fulfils that is bound to the name.
+    /// What an event fulfils that is bound to the name, or that is held against a run where the name is negated.
     pub pred: Pred,
-    /// Whether a match consumes the events of this name.
+    /// Whether a match consumes the events of this name; a negated name has none.
     pub consumed: bool,
 }
 
