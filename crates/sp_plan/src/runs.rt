@@ -238,6 +238,11 @@ pub fn holding<R: Binds>(
         columns,
         runs,
     };
+    // One comparison isn't walked.
+    if let Pred::Test { by, left, right } = pred {
+        let (mask, _) = tested(*by, left, right, &asking, 0, asked);
+        return asked & mask;
+    }
     let (mask, _) = walk(pred, &asking, 0, asked);
     asked & mask
 }
