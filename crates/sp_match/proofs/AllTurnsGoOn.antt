@@ -8,7 +8,7 @@ use Rattle.std.proofs.lemmas.List.Sums.{fold_push}
 use Rattle.sp_base.specs.Numbers.{is_among}
 use Rattle.sp_plan.specs.declared.plan.Plan.{Plan}
 use Rattle.sp_plan.specs.Windows.{Numbered}
-use Rattle.sp_plan.specs.Runs.{Started, State, leaves, takes}
+use Rattle.sp_plan.specs.Runs.{Started, State, departs, takes}
 use Rattle.sp_plan.specs.Moves.{Acting, Told, act_run}
 use Rattle.sp_match.specs.declared.turns.Reception.{Reception}
 use Rattle.sp_match.specs.declared.turns.Reception.TheVariants.{Passed}
@@ -29,7 +29,7 @@ use Rattle.sp_match.proofs.TurnGoesOn.{Gone, turn_goes}
 
 -- one run further
 pub going_more : (q : Plan) (x : Numbered) (s : State) (count i : ℕ) (old ks new : List Kept) (ts told : List Told) (r r' : Reception) → length q.names ≤ 32 → IsReady q x.0 count old → i < length old → Undoes q x.0 old ks
-    → Going q x s old i ks ts r → IsTurn q (leaves q.select q x.1) i x ks new ts told r r' → Going q x s old (i + 1) new told r'
+    → Going q x s old i ks ts r → IsTurn q i x ks new ts told r r' → Going q x s old (i + 1) new told r'
 going_more q x s count i old ks new ts told r r' few ready within undoes going turned =
     record {
       shows = subst (λ (b : Acting). Shows q s b new told) (sym act) gone.shows;
@@ -88,19 +88,19 @@ going_more q x s count i old ks new ts told r r' few ready within undoes going t
     up : Rising 0 count (map started row)
     up = subst (λ (l : List Kept). Rising 0 count (map started l)) row_is (rising_same 0 count old ks (same_numbers q x.0 old ks undoes) (ordered_rises (standing count old) ready.ordered))
 
-    turn_at : IsTurn q (leaves q.select q x.1) (length fs) x row new ts told r r'
-    turn_at = subst (λ (l : List Kept). IsTurn q (leaves q.select q x.1) (length fs) x l new ts told r r') row_is (subst (λ (m : ℕ). IsTurn q (leaves q.select q x.1) m x ks new ts told r r') (sym going.front.1) turned)
+    turn_at : IsTurn q (length fs) x row new ts told r r'
+    turn_at = subst (λ (l : List Kept). IsTurn q (length fs) x l new ts told r r') row_is (subst (λ (m : ℕ). IsTurn q m x ks new ts told r r') (sym going.front.1) turned)
 
     goes : Gone q x s (act_run q x a (started k0)) (done ++ started k0 ∷ []) rest (length fs + 1)
-        (if is_skipped r k then row else runs_after_offer q (leaves q.select q x.1) (length fs) x row (takes q (pairs k0) x.1))
-        (ts ++ (if is_skipped r k then [] else offer_told q (leaves q.select q x.1) (length fs) x row (takes q (pairs k0) x.1))) (if is_skipped r k then r else reception_after_offer q x k r (takes q (pairs k0) x.1))
+        (if is_skipped r k then row else runs_after_offer q (departs q (pairs k0) x.1) (length fs) x row (takes q (pairs k0) x.1))
+        (ts ++ (if is_skipped r k then [] else offer_told q (departs q (pairs k0) x.1) (length fs) x row (takes q (pairs k0) x.1))) (if is_skipped r k then r else reception_after_offer q x k r (takes q (pairs k0) x.1))
     goes = turn_goes q x s fs rest k0 count a done ts r idle back_is good.same_names good.used_is up (subst (λ (l : List Kept). Shows q s a l ts) row_is going.shows) (subst (All (Tally x.0 a.moves)) row_is going.tally) going.used going.taken going.unused
 
-    runs_are : new ≡ (if is_skipped r k then row else runs_after_offer q (leaves q.select q x.1) (length fs) x row (takes q (pairs k0) x.1))
-    runs_are = turn_at.runs ∙ ap (λ (m : Kept). if is_skipped r m then row else runs_after_offer q (leaves q.select q x.1) (length fs) x row (takes q (pairs m) x.1)) at
+    runs_are : new ≡ (if is_skipped r k then row else runs_after_offer q (departs q (pairs k0) x.1) (length fs) x row (takes q (pairs k0) x.1))
+    runs_are = turn_at.runs ∙ ap (λ (m : Kept). if is_skipped r m then row else runs_after_offer q (departs q (pairs m) x.1) (length fs) x row (takes q (pairs m) x.1)) at
 
-    told_is : told ≡ ts ++ (if is_skipped r k then [] else offer_told q (leaves q.select q x.1) (length fs) x row (takes q (pairs k0) x.1))
-    told_is = turn_at.told ∙ ap (λ (m : Kept). ts ++ (if is_skipped r m then [] else offer_told q (leaves q.select q x.1) (length fs) x row (takes q (pairs m) x.1))) at
+    told_is : told ≡ ts ++ (if is_skipped r k then [] else offer_told q (departs q (pairs k0) x.1) (length fs) x row (takes q (pairs k0) x.1))
+    told_is = turn_at.told ∙ ap (λ (m : Kept). ts ++ (if is_skipped r m then [] else offer_told q (departs q (pairs m) x.1) (length fs) x row (takes q (pairs m) x.1))) at
 
     received_is : r' ≡ (if is_skipped r k then r else reception_after_offer q x k r (takes q (pairs k0) x.1))
     received_is = turn_at.received ∙ ap (λ (m : Kept). if is_skipped r m then r else reception_after_offer q x m r (takes q (pairs m) x.1)) at
@@ -109,10 +109,10 @@ going_more q x s count i old ks new ts told r r' few ready within undoes going t
     gone =
         subst (λ (l : List Kept). Gone q x s (act_run q x a (started k0)) (done ++ started k0 ∷ []) rest (length fs + 1) l told r') (sym runs_are)
         (subst (λ (l : List Told). Gone q x s (act_run q x a (started k0)) (done ++ started k0 ∷ []) rest (length fs + 1)
-        (if is_skipped r k then row else runs_after_offer q (leaves q.select q x.1) (length fs) x row (takes q (pairs k0) x.1)) l r') (sym told_is)
+        (if is_skipped r k then row else runs_after_offer q (departs q (pairs k0) x.1) (length fs) x row (takes q (pairs k0) x.1)) l r') (sym told_is)
         (subst (λ (p : Reception). Gone q x s (act_run q x a (started k0)) (done ++ started k0 ∷ []) rest (length fs + 1)
-        (if is_skipped r k then row else runs_after_offer q (leaves q.select q x.1) (length fs) x row (takes q (pairs k0) x.1))
-        (ts ++ (if is_skipped r k then [] else offer_told q (leaves q.select q x.1) (length fs) x row (takes q (pairs k0) x.1))) p) (sym received_is) goes))
+        (if is_skipped r k then row else runs_after_offer q (departs q (pairs k0) x.1) (length fs) x row (takes q (pairs k0) x.1))
+        (ts ++ (if is_skipped r k then [] else offer_told q (departs q (pairs k0) x.1) (length fs) x row (takes q (pairs k0) x.1))) p) (sym received_is) goes))
 
 -- all runs stay where no event is being handled
 pub open_all : (ks : List Kept) → All IsIdle ks → open_runs ks ≡ map started ks

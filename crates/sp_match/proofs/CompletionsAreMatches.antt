@@ -7,7 +7,7 @@ use Rattle.std.proofs.lemmas.List.Sums.{fold-append}
 use Rattle.sp_base.specs.Numbers.{is_among}
 use Rattle.sp_plan.specs.declared.plan.Plan.{Plan}
 use Rattle.sp_plan.specs.Windows.{Numbered}
-use Rattle.sp_plan.specs.Runs.{Pair, Run, Started, State, Handling, used, holds_one, is_complete, leaves, takes, handle_run, may_start, handle}
+use Rattle.sp_plan.specs.Runs.{Pair, Run, Started, State, Handling, used, holds_one, is_complete, departs, takes, handle_run, may_start, handle}
 use Rattle.sp_plan.specs.Moves.{Move, Opened, Grown, Completed, Acting, apply, apply_all, abandoned, completing, growing, used_if_complete, acting_on, acted, act_run, act_start, handling_of, is_run, pairs_of, without_run, moves, tell, told}
 use Rattle.sp_match.specs.public.Laws.{completion, is_completion}
 use Rattle.sp_match.proofs.RunNumbersRise.{Rising, Absent, rising_filter, absent_below, absent_above}
@@ -79,7 +79,7 @@ module _ (q : Plan) (x : Numbered) (s : State) (mv : List Move) (kept ms : List 
   offered_tells (Some name) so =
       let pair : Pair = record { name = name; number = x.0; event = x.1 } in
       told_on q s (acting (kept ++ run ∷ ahead)) (growing q (kept ++ run ∷ ahead) run pair) (used_if_complete q (run.1 ++ pair ∷ [])) so (growing_tells q kept ahead ms n run pair front back (kept ++ run ∷ ahead))
-  offered_tells None so = one (leaves q.select q x.1)
+  offered_tells None so = one (departs q run.1 x.1)
     where
       one : (b : Bool) → Told_so q s (cond b (acting_on (acting (kept ++ run ∷ ahead)) (abandoned run ∷ []) []) (acting (kept ++ run ∷ ahead)))
       one true = told_on q s (acting (kept ++ run ∷ ahead)) (abandoned run ∷ []) [] so (tells_abandoned q (at (kept ++ run ∷ ahead) ms n) (run ∷ []))

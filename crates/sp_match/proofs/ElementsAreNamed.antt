@@ -7,7 +7,7 @@ use Rattle.std.proofs.lemmas.List.Elements.{All-nil, All-cons}
 use Rattle.std.proofs.lemmas.List.Folds.{list_all-append}
 use Rattle.sp_plan.specs.declared.plan.Plan.{Plan}
 use Rattle.sp_plan.specs.declared.plan.Element.{Element}
-use Rattle.sp_plan.specs.declared.plan.Element.TheVariants.{One, Plus, Set}
+use Rattle.sp_plan.specs.declared.plan.Element.TheVariants.{One, Plus, Set, Never}
 use Rattle.sp_plan.specs.Compiled.{IsCompiled, numbers_of}
 use Rattle.sp_plan.specs.Runs.{names_of}
 use Rattle.sp_match.specs.inside.Good.{IsNamed}
@@ -33,6 +33,7 @@ last_few a (suc m) all = let rest : a + 1 + suc m ≤ 32 = last_few (a + 1) m (b
 named_one : (element : Element) → few (names_of element) ≡ true → IsNamed element
 named_one (One name) all = let first : nat_lt name 32 ≡ true = (both_true _ _ all).0 in grind (arith, nat_tests)
 named_one (Plus name) all = let first : nat_lt name 32 ≡ true = (both_true _ _ all).0 in grind (arith, nat_tests)
+named_one (Never name) all = let first : nat_lt name 32 ≡ true = (both_true _ _ all).0 in grind (arith, nat_tests)
 named_one (Set first zero) all = inr refl
 named_one (Set first (suc m)) all = inl (last_few first m all)
 

@@ -1,7 +1,7 @@
 -- A run with one pair more keeps what every run keeps, and taking the pair away gives the run before.
 use Rattle.std.proofs.Common.{◌≡◌, ◌≢◌, ℕ, ◌+◌, ◌-◌, ◌<◌, ◌≤◌, Bool, true, false, cond, ◌||◌, ◌==◌, List, [], ◌∷◌, ◌++◌, map, length, get_or, set, Option, Some, None, refl, sym, ap, subst, ◌∙◌, arith, get_or-set_other, append-nil}
 use Rattle.std.specs.Prelude.{IfSome, slice_get, if◌then◌else◌}
-use Rattle.std.specs.List.{All, AllPairs, filter, last_or, range_with_len, zip}
+use Rattle.std.specs.List.{All, AllPairs, filter, last_or, zip}
 use Rattle.std.proofs.lemmas.Bool.Decides.{nat_tests}
 use Rattle.std.proofs.lemmas.List.{length-set, length_push, set-set, set-get_or, take_at, map_push, get_or-replicate}
 use Rattle.std.proofs.lemmas.Grind.{get_or-set_at}
@@ -12,8 +12,9 @@ use Rattle.sp_base.specs.Numbers.{is_among}
 use Rattle.sp_plan.specs.declared.event.Event.{Event}
 use Rattle.sp_plan.specs.declared.plan.Plan.{Plan}
 use Rattle.sp_plan.specs.Bounds.{IsSmall}
+use Rattle.sp_plan.specs.Compiled.{IsCompiled}
 use Rattle.sp_plan.specs.Windows.{Numbered}
-use Rattle.sp_plan.specs.Runs.{Pair, Run, is_bound, is_consumed, used}
+use Rattle.sp_plan.specs.Runs.{Pair, Run, bound_names, is_bound, is_consumed, used}
 use Rattle.sp_match.specs.declared.run.Fate.{Fate}
 use Rattle.sp_match.specs.declared.run.Fate.TheVariants.{Stays}
 use Rattle.sp_match.specs.inside.Kept.{Kept, before, binds, but_last, empty, grown, last_under, name_under, pair_of, pairs, undone}
@@ -70,7 +71,7 @@ good_looking q k g = record {
   flags = g.flags;
   marks = g.marks;
   counted = g.counted;
-  ahead_is = (refl, refl);
+  ahead_is = (refl, refl, refl);
   used_is = g.used_is;
   rising = g.rising;
   small = g.small;
@@ -190,9 +191,9 @@ used_grown q name number event k same is =
     (λ i. if is_consumed (slice_get q.names name) then is i ++ number ∷ [] else is i) ∙ sym (used_push q (pairs k) (record { name = name; number = number; event = event }))
     ∙ ap (used q) (sym (pairs_push k.bound k.events name number event same))
 
-pub good_grown : (q : Plan) (name number : ℕ) (event : Event) (k : Kept) → Good q k → name < length q.names → length q.names ≤ 32 → IsSmall event → NumbersBelow number k
+pub good_grown : (q : Plan) (name number : ℕ) (event : Event) (k : Kept) → Good q k → name < length q.names → IsCompiled q → is_among (bound_names q) name ≡ true → IsSmall event → NumbersBelow number k
     → Good q (grown name (is_consumed (slice_get q.names name)) number event k)
-good_grown q name number event k g named few small below = record {
+good_grown q name number event k g named compiled among small below = record {
   same_names = map_push (λ p. p.0) k.bound (name, number) ∙ (λ i. g.same_names i ++ name ∷ []) ∙ sym (map_push (λ p. p.0) k.events (name, event));
   named = All-push (λ p. p.0 < length q.names) k.bound (name, number) g.named named;
   flags = length-set k.names name true ∙ g.flags;
@@ -204,12 +205,15 @@ good_grown q name number event k g named few small below = record {
       (all_pairs_push (λ m n. m < n) (map (λ p. p.1) k.bound) number g.rising (λ i d within. below i d within));
   small = All-push (λ pair. IsSmall pair.1) k.events (name, event) g.small small;
   undoes = record {
-    named = All-push (λ p. p.0 < 32) k.bound (name, number) g.undoes.named (omega (arith, named, few));
+    named = All-push (λ p. p.0 < 32) k.bound (name, number) g.undoes.named (let small_enough = compiled.names in omega (arith, named, small_enough));
     same = length_push k.bound (name, number) ∙ ap (λ n. n + 1) g.undoes.same ∙ sym (length_push k.events (name, event));
     some_name = λ some. some_bound (get_or k.names name false) refl;
   };
 }
   where
+    few : length q.names ≤ 32
+    few = compiled.names
+
     pair : Pair
     pair = record { name = name; number = number; event = event }
 
@@ -223,7 +227,7 @@ good_grown q name number event k g named few small below = record {
     counted : (if get_or k.names name false then k.bound_names else k.bound_names + 1)
         ≡ bound_count q (map pair_of (zip (k.bound ++ (name, number) ∷ []) (k.events ++ (name, event) ∷ [])))
     counted =
-        (λ i. if own_flag i then g.counted i else g.counted i + 1) ∙ one (is_bound (pairs k) name) ∙ sym (bound_grown q (pairs k) pair named) ∙ sym (ap (bound_count q) more)
+        (λ i. if own_flag i then g.counted i else g.counted i + 1) ∙ one (is_bound (pairs k) name) ∙ sym (bound_grown q (pairs k) pair compiled among) ∙ sym (ap (bound_count q) more)
       where
         one : (b : Bool) → (if b then bound_count q (pairs k) else bound_count q (pairs k) + 1) ≡ bound_count q (pairs k) + cond b 0 1
         one true = omega arith
@@ -264,7 +268,7 @@ good_empty q number = record {
   named = All-nil (λ p. p.0 < length q.names);
   flags = refl;
   marks = λ name within. get_or-replicate 32 name false false within;
-  counted = none_bound (range_with_len 0 (length q.names));
+  counted = none_bound (bound_names q);
   ahead_is = tt;
   used_is = refl;
   rising = λ i j d less inside. absurd (omega arith);

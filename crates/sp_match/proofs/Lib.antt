@@ -27,6 +27,7 @@ pub mod Searches
 pub mod ElementsAreNamed
 pub mod TakenIsNamed
 pub mod NeverTaken
+pub mod GuardsAreNumbered
 pub mod AheadIsTaken
 pub mod AheadStays
 pub mod BeginningIsTaken
@@ -38,6 +39,7 @@ pub mod NumbersAreAbove
 -- What is told of runs.
 pub mod MovesAreTold
 pub mod NumbersGathered
+pub mod NegatedAreLeftOut
 -- One run's turn, against the definitions.
 pub mod OpenRuns
 pub mod RunNumbersStay

@@ -7,7 +7,7 @@ use Rattle.std.proofs.lemmas.List.Sums.{fold-append}
 use Rattle.sp_base.specs.Numbers.{is_among}
 use Rattle.sp_plan.specs.declared.plan.Plan.{Plan}
 use Rattle.sp_plan.specs.Windows.{Numbered}
-use Rattle.sp_plan.specs.Runs.{Pair, Run, Started, State, Handling, used, holds_one, is_complete, leaves, takes, completed, kept_with, offered, handle_run, started_with, may_start, handle}
+use Rattle.sp_plan.specs.Runs.{Pair, Run, Started, State, Handling, used, holds_one, is_complete, departs, takes, completed, kept_with, offered, handle_run, started_with, may_start, handle}
 use Rattle.sp_plan.specs.Moves.{Move, Opened, Acting, apply, apply_all, abandoned, growing, used_if_complete, acting_on, acted, act_run, act_start, handling_of, act, moves}
 use Rattle.sp_match.proofs.RunNumbersRise.{Rising, rising_join, rising_raise, rising_filter, absent_below, absent_above}
 use Rattle.sp_match.proofs.RunInTheMiddle.{without_middle}
@@ -82,7 +82,7 @@ module _ (q : Plan) (x : Numbered) (mv : List Move) (kept ms : List Started) (ta
   }
 
   offers : (o : Option ℕ) → Meets n rest (acted q x (acting (kept ++ run ∷ ahead)) run o) (offered q x handling run o)
-  offers None = passes (leaves q.select q x.1)
+  offers None = passes (departs q run.1 x.1)
   offers (Some name) =
       let pair : Pair = record { name = name; number = x.0; event = x.1 } in
       takes_it (run.0, run.1 ++ pair ∷ []) (is_complete q (run.1 ++ pair ∷ [])) (mv ++ growing q (kept ++ run ∷ ahead) run pair)
@@ -119,7 +119,7 @@ module _ (q : Plan) (x : Numbered) (mv : List Move) (kept ms : List Started) (ta
       grow r false = push r
 
       offer : (o : Option ℕ) → Rising 0 run.0 (offered q x handling run o).kept
-      offer None = leave (leaves q.select q x.1)
+      offer None = leave (departs q run.1 x.1)
       offer (Some name) = let r : Run = run.1 ++ (record { name = name; number = x.0; event = x.1 }) ∷ [] in grow r (is_complete q r)
 
       one : (b c : Bool) → Rising 0 run.0 (cond b handling (cond c (kept_with handling run) (offered q x handling run (takes q run.1 x.1)))).kept
@@ -162,7 +162,7 @@ pub led_acted : (q : Plan) (x : Numbered) (s : State) (a : Acting) (run : Starte
 led_acted q x s a run (Some name) led =
     let pair : Pair = record { name = name; number = x.0; event = x.1 } in
     led_on s a (growing q a.now.open_runs run pair) (used_if_complete q (run.1 ++ pair ∷ [])) led
-led_acted q x s a run None led = one (leaves q.select q x.1)
+led_acted q x s a run None led = one (departs q run.1 x.1)
   where
     one : (b : Bool) → Led s (cond b (acting_on a (abandoned run ∷ []) []) a)
     one true = led_on s a (abandoned run ∷ []) [] led

@@ -5,7 +5,7 @@ use Rattle.std.proofs.lemmas.List.{append-nil}
 use Rattle.sp_base.specs.Numbers.{is_among}
 use Rattle.sp_plan.specs.declared.plan.Plan.{Plan}
 use Rattle.sp_plan.specs.Windows.{Numbered}
-use Rattle.sp_plan.specs.Runs.{Pair, Run, Started, State, Handling, used, holds_one, is_complete, leaves, takes, handle_run, may_start}
+use Rattle.sp_plan.specs.Runs.{Pair, Run, Started, State, Handling, used, holds_one, is_complete, departs, takes, handle_run, may_start}
 use Rattle.sp_plan.specs.Moves.{Move, Opened, Grown, Completed, Abandoned, Acting, apply, apply_all, abandoned, completing, growing, used_if_complete, acting_on, acted, act_run, act_start, handling_of, is_run, without_run, moves}
 use Rattle.sp_match.specs.public.Laws.{is_open}
 use Rattle.sp_match.proofs.RunNumbersRise.{Rising, Absent, rising_join, rising_raise, rising_lower, rising_filter, absent_below, absent_above, itself}
@@ -108,7 +108,7 @@ module _ (q : Plan) (x : Numbered) (s : State) (mv : List Move) (kept ms : List 
       let pair : Pair = record { name = name; number = x.0; event = x.1 } in
       proper_on s (acting (kept ++ run ∷ ahead)) (growing q (kept ++ run ∷ ahead) run pair) (used_if_complete q (run.1 ++ pair ∷ [])) so
       (proper_growing q kept ahead ms n low top run pair before above (rising_filter (frees taken) run.0 top rest behind))
-  proper_offered None so = one (leaves q.select q x.1)
+  proper_offered None so = one (departs q run.1 x.1)
     where
       one : (b : Bool) → Proper_so s (cond b (acting_on (acting (kept ++ run ∷ ahead)) (abandoned run ∷ []) []) (acting (kept ++ run ∷ ahead)))
       one true = proper_on s (acting (kept ++ run ∷ ahead)) (abandoned run ∷ []) [] so (there_middle kept run ahead, tt)

@@ -1,4 +1,4 @@
--- An event of which no name's predicate may hold is taken by no run.
+-- An event of which no name's predicate may hold is taken by no run, and held against none.
 use Rattle.std.proofs.Common.{◌≡◌, ℕ, zero, suc, Bool, true, false, cond, ◌||◌, List, [], ◌∷◌, Some, None, refl, ◌∙◌}
 use Rattle.std.specs.Prelude.{slice_get}
 use Rattle.std.specs.List.{find, list_any}
@@ -6,12 +6,16 @@ use Rattle.sp_plan.specs.declared.event.Event.{Event}
 use Rattle.sp_plan.specs.declared.plan.Name.{Name}
 use Rattle.sp_plan.specs.declared.plan.Plan.{Plan}
 use Rattle.sp_plan.specs.Known.{WhatMayNotHoldDoesNot}
-use Rattle.sp_plan.specs.Runs.{Run, bound_events, fits_name, name_holds, takes, wanted}
+use Rattle.sp_plan.specs.Runs.{Run, bound_events, fits_name, guarded, guards, name_holds, takes, wanted}
 use Rattle.sp_match.specs.public.Known.{may_take}
 
 find_none : {X : Type 0} (p : X → Bool) → ((x : X) → p x ≡ false) → (xs : List X) → find p xs ≡ None
 find_none p never [] = refl
 find_none p never (x ∷ xs) = (λ k. cond (never x k) (Some x) (find p xs)) ∙ find_none p never xs
+
+any_none : {X : Type 0} (p : X → Bool) → ((x : X) → p x ≡ false) → (xs : List X) → list_any p xs ≡ false
+any_none p never [] = refl
+any_none p never (x ∷ xs) = λ k. never x k || any_none p never xs k
 
 module _ (right : WhatMayNotHoldDoesNot) (e : Event) (r : Run) where
   no_name : (names : List Name) → list_any (may_take e) names ≡ false → (n : ℕ) → fits_name (slice_get names n) r e ≡ false
@@ -27,5 +31,5 @@ module _ (right : WhatMayNotHoldDoesNot) (e : Event) (r : Run) where
       rest true is = absurd (cc is)
       rest false is = is
 
-  pub never_taken : (q : Plan) → list_any (may_take e) q.names ≡ false → takes q r e ≡ None
-  never_taken q none = find_none (name_holds q r e) (no_name q.names none) (wanted q r)
+  pub never_taken : (q : Plan) → list_any (may_take e) q.names ≡ false → (takes q r e ≡ None) × (guarded q r e ≡ false)
+  never_taken q none = (find_none (name_holds q r e) (no_name q.names none) (wanted q r), any_none (name_holds q r e) (no_name q.names none) (guards q r))

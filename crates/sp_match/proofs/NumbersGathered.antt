@@ -7,8 +7,7 @@ use Rattle.std.proofs.lemmas.List.{map-append, append-nil, length-set, length-ma
 use Rattle.std.proofs.lemmas.List.Elements.{All-filter, All-from_get_or, All-map, filter-append}
 use Rattle.std.proofs.lemmas.List.FromFn.{length-map-range_with_len, get_or-map-range_with_len}
 use Rattle.sp_plan.specs.declared.event.Event.{Event}
-use Rattle.sp_plan.specs.declared.plan.Plan.{Plan}
-use Rattle.sp_plan.specs.Runs.{bindings, numbers_under}
+use Rattle.sp_plan.specs.Runs.{numbers_under}
 use Rattle.sp_match.specs.inside.Kept.{pair_of}
 use Rattle.sp_match.proofs.PairsOfRuns.{under_pairs}
 
@@ -68,10 +67,7 @@ under_below bs i b name rising within at =
     let second : get_or (map (λ p. p.1) bs) i 0 ≡ b.1 = get_or-map (λ p. p.1) bs i b 0 within ∙ ap (λ p. p.1) (sym at) in
     omega (arith, rises, first, second))))
 
-map_under : (bs : List (ℕ × ℕ)) (es : List (ℕ × Event)) → map (λ p. p.0) bs ≡ map (λ p. p.0) es → (names : List ℕ) → map (λ name. (name, numbers_under (map pair_of (zip bs es)) name)) names ≡ map (named_under bs) names
+-- of each of these names
+pub map_under : (bs : List (ℕ × ℕ)) (es : List (ℕ × Event)) → map (λ p. p.0) bs ≡ map (λ p. p.0) es → (names : List ℕ) → map (λ name. (name, numbers_under (map pair_of (zip bs es)) name)) names ≡ map (named_under bs) names
 map_under bs es same [] = refl
 map_under bs es same (name ∷ names) = λ i. (name, under_pairs name bs es same i) ∷ map_under bs es same names i
-
--- the bindings of a run
-pub bindings_under : (q : Plan) (bs : List (ℕ × ℕ)) (es : List (ℕ × Event)) → map (λ p. p.0) bs ≡ map (λ p. p.0) es → bindings q (map pair_of (zip bs es)) ≡ map (named_under bs) (range_with_len 0 (length q.names))
-bindings_under q bs es same = map_under bs es same (range_with_len 0 (length q.names))

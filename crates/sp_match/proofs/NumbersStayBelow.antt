@@ -5,7 +5,7 @@ use Rattle.std.proofs.lemmas.List.Elements.{All-nil, All-cons, All-head, All-tai
 use Rattle.sp_base.specs.Numbers.{is_among}
 use Rattle.sp_plan.specs.declared.plan.Plan.{Plan}
 use Rattle.sp_plan.specs.Windows.{Numbered}
-use Rattle.sp_plan.specs.Runs.{Pair, Started, Handling, used, holds_one, is_complete, leaves, takes, completed, kept_with, grown, offered, handle_run, started_with, may_start}
+use Rattle.sp_plan.specs.Runs.{Pair, Started, Handling, used, holds_one, is_complete, departs, takes, completed, kept_with, grown, offered, handle_run, started_with, may_start}
 use Rattle.sp_match.specs.public.Laws.{Below, NumbersStayBelow}
 
 -- the number of a pair is below n
@@ -31,7 +31,7 @@ module _ (q : Plan) (x : Numbered) (n : ℕ) (below : x.0 < n) where
   offer h run (Some name) low here =
       let pair : Pair = record { name = name; number = x.0; event = x.1 } in
       grow h (run.0, run.1 ++ pair ∷ []) low (All-push (IsLow n) run.1 pair here below)
-  offer h run None low here = one (leaves q.select q x.1)
+  offer h run None low here = one (departs q run.1 x.1)
     where
       one : (b : Bool) → All (IsLowRun n) (cond b h (kept_with h run)).kept
       one true = low

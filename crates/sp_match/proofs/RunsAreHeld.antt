@@ -14,7 +14,7 @@ use Rattle.sp_plan.specs.declared.plan.Plan.{Plan}
 use Rattle.sp_plan.specs.Held.{held_columns}
 use Rattle.sp_plan.specs.Bounds.{AllSmall}
 use Rattle.sp_plan.specs.Masks.{has, outcome}
-use Rattle.sp_plan.specs.Runs.{Pair, Started, bound_events, fits_name, name_holds, wanted}
+use Rattle.sp_plan.specs.Runs.{Pair, Started, bound_events, fits_name, guards, name_holds, wanted}
 use Rattle.sp_plan.specs.Values.{holds}
 use Rattle.sp_match.specs.declared.holdings.Holding.{Holding}
 use Rattle.sp_match.specs.declared.holdings.Holdings.{Holdings}
@@ -26,11 +26,11 @@ use Rattle.sp_match.specs.inside.Kept.{Kept, empty, kept, pairs, started}
 use Rattle.sp_match.specs.inside.Effects.{open_runs}
 use Rattle.sp_match.specs.inside.Going.{IsIdle}
 use Rattle.sp_match.specs.inside.Good.{Good}
-use Rattle.sp_match.specs.inside.Takers.{AreHeld, AreTold, IsHeld, columns_of, columns_over, is_wanted, is_read, mask_of, masks_of, reads_of, run_in, takes_under}
+use Rattle.sp_match.specs.inside.Takers.{AreHeld, AreTold, IsHeld, asked, columns_of, columns_over, is_wanted, is_read, mask_of, masks_of, reads_of, run_in, takes_under}
 use Rattle.sp_match.proofs.AllTurnsGoOn.{open_all}
 use Rattle.sp_match.proofs.PairsOfRuns.{events_of}
 use Rattle.sp_match.proofs.RunsUndo.{here}
-use Rattle.sp_match.proofs.TakersTell.{find_nothing}
+use Rattle.sp_match.proofs.TakersTell.{any_nothing, find_nothing, guards_asked, wanted_asked}
 
 pub has_none : (at : ℕ) → has 0 at ≡ false
 has_none at = ap (λ n. eqb n 1) (bit_at-zero at)
@@ -169,11 +169,15 @@ module _ (q : Plan) (e : Event) (rs : List (List Pair)) (t : Takers) (few : leng
       | inl named ↦ seen name at named within
       | inr above ↦ ap (λ (m : ℕ). has m at) (get_or_past t.masks.items name 0 (omega (arith, above, size))) ∙ has_none at ∙ sym (past name (run_in rs at) above)
     ];
-    any = λ none. find_nothing (name_holds q (run_in rs at) e) (wanted q (run_in rs at)) (λ name. elim (cases_lt name (length q.names)) as (λ _. takes_under q e (run_in rs at) name ≡ false) [
-      | inl named ↦ any name at named within none
-      | inr above ↦ past name (run_in rs at) above
-    ]);
+    any = λ none. find_nothing (name_holds q (run_in rs at) e) (asked q (run_in rs at)) (wanted q (run_in rs at)) (nobody at within none) (wanted_asked q (run_in rs at));
+    calm = λ none. any_nothing (name_holds q (run_in rs at) e) (asked q (run_in rs at)) (guards q (run_in rs at)) (nobody at within none) (guards_asked q (run_in rs at));
   }
+    where
+      nobody : (at : ℕ) → at < length rs → has t.any at ≡ false → (name : ℕ) → takes_under q e (run_in rs at) name ≡ false
+      nobody at within none name = elim (cases_lt name (length q.names)) as (λ _. takes_under q e (run_in rs at) name ≡ false) [
+        | inl named ↦ any name at named within none
+        | inr above ↦ past name (run_in rs at) above
+      ]
 
 -- runs that stay as they are, all of them
 pub same_pairs : (settled new old : List Kept) → map started settled ≡ open_runs new → new ≡ old → All IsIdle old → map pairs old ≡ map pairs settled

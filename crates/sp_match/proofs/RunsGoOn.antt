@@ -13,15 +13,15 @@ use Rattle.sp_plan.specs.declared.plan.Element.{Element}
 use Rattle.sp_plan.specs.declared.plan.Name.{Name}
 use Rattle.sp_plan.specs.declared.plan.Plan.{Plan}
 use Rattle.sp_plan.specs.Held.{HeldSidesStandAlone, blank, held_columns}
-use Rattle.sp_plan.specs.Runs.{Pair, again, bound_events, is_bound, is_plus, names_of, unbound, wanted}
+use Rattle.sp_plan.specs.Runs.{Pair, again, binds, bound_events, is_bound, is_plus, unbound}
 use Rattle.sp_plan.specs.Values.{last_bound}
 use Rattle.sp_match.specs.declared.holdings.Holding.{Holding}
 use Rattle.sp_match.specs.inside.Kept.{Kept, before, but_last, empty, last_under, name_under, pair_of, pairs, undone}
 use Rattle.sp_match.specs.inside.Effects.{run_at}
 use Rattle.sp_match.specs.inside.Good.{Good, NumbersBelow, Undoes}
 use Rattle.sp_match.specs.inside.Taking.{next_element}
-use Rattle.sp_match.specs.inside.Takers.{AreAlike, AreHeld, GoesOn, IsRepeated, columns_over, is_read, is_read_by, run_in}
-use Rattle.sp_match.proofs.AheadStays.{is_last_bound, same_bound, same_next}
+use Rattle.sp_match.specs.inside.Takers.{AreAlike, AreHeld, GoesOn, IsRepeated, asked, columns_over, is_read, is_read_by, run_in}
+use Rattle.sp_match.proofs.AheadStays.{is_last_bound, same_bound, same_guards, same_next}
 use Rattle.sp_match.proofs.GrownRunIsGood.{before_below, last_push, looked_for}
 use Rattle.sp_match.proofs.PairsOfRuns.{last_name}
 use Rattle.sp_match.proofs.WantedIsTold.{zip_push}
@@ -39,7 +39,7 @@ last_is_bound r (Some pair) n last is = let same : pair.name ≡ n = cc in subst
 
 same_unbound : (r : List Pair) (p : Pair) → is_bound r p.name ≡ true → (o : Option Element) → unbound (r ++ p ∷ []) o ≡ unbound r o
 same_unbound r p bound None = refl
-same_unbound r p bound (Some element) = λ i. filter (λ name. not (same_bound r p bound name i)) (names_of element)
+same_unbound r p bound (Some element) = λ i. filter (λ name. not (same_bound r p bound name i)) (binds element)
 
 filter_other : {X : Type 0} (test : X → Bool) (xs : List X) (x : X) → test x ≡ false → filter test (xs ++ x ∷ []) ≡ filter test xs
 filter_other test xs x other = filter-append test xs (x ∷ []) ∙ (λ i. filter test xs ++ cond (other i) (x ∷ []) []) ∙ append-nil (filter test xs)
@@ -49,12 +49,12 @@ module _ (q : Plan) (r : List Pair) (p : Pair) (last : name_of (last_or None r) 
   bound : is_bound r p.name ≡ true
   bound = last_is_bound r (last_or None r) p.name refl last
 
-  wants_on : wanted q r ≡ wanted q (r ++ p ∷ [])
+  wants_on : asked q r ≡ asked q (r ++ p ∷ [])
   wants_on =
       let first : unbound r (next_element q r) ≡ unbound (r ++ p ∷ []) (next_element q (r ++ p ∷ [])) = sym (same_unbound r p bound (next_element q r)) ∙ ap (unbound (r ++ p ∷ [])) (sym (same_next q r p bound)) in
       let rest : again q.elements (last_or None r) ≡ again q.elements (last_or None (r ++ p ∷ [])) =
       again_by_name q.elements (last_or None r) p.name last ∙ sym (again_by_name q.elements (last_or None (r ++ p ∷ [])) p.name (ap name_of (last_push None r p))) in
-      λ i. first i ++ rest i
+      λ i. (first i ++ rest i) ++ same_guards q r p bound last i
 
   reads_on : (name : ℕ) → is_read q name ≡ true → last_bound name (bound_events r) ≡ last_bound name (bound_events (r ++ p ∷ []))
   reads_on name read =

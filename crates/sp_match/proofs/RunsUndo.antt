@@ -1,13 +1,15 @@
 -- Runs that can be made as they were before the event at hand.
-use Rattle.std.proofs.Common.{◌≡◌, ℕ, ◌<◌, ◌≤◌, List, [], ◌∷◌, ◌++◌, map, length, take, get_or, set, refl, sym, ap, subst, ◌∙◌, arith}
-use Rattle.std.specs.Prelude.{slice_get}
+use Rattle.std.proofs.Common.{◌≡◌, ℕ, ◌<◌, List, [], ◌∷◌, ◌++◌, map, length, take, get_or, set, refl, sym, ap, subst, ◌∙◌, arith}
+use Rattle.std.specs.Prelude.{slice_get, true}
 use Rattle.std.specs.List.{All}
 use Rattle.std.proofs.lemmas.List.{map-set, set-get_or, length-map, get_or-map, map_push, take-map, take_at}
 use Rattle.std.proofs.lemmas.List.Elements.{All-get_or, All-set, All-take}
 use Rattle.sp_plan.specs.declared.plan.Plan.{Plan}
+use Rattle.sp_base.specs.Numbers.{is_among}
 use Rattle.sp_plan.specs.Bounds.{IsSmall}
+use Rattle.sp_plan.specs.Compiled.{IsCompiled}
 use Rattle.sp_plan.specs.Windows.{Numbered}
-use Rattle.sp_plan.specs.Runs.{is_consumed}
+use Rattle.sp_plan.specs.Runs.{bound_names, is_consumed}
 use Rattle.sp_match.specs.declared.run.Fate.{Fate}
 use Rattle.sp_match.specs.declared.run.Run.{Run}
 use Rattle.sp_match.specs.inside.Kept.{Kept, before, empty, grown, kept}
@@ -21,10 +23,10 @@ run_stays q n k good = record { good = good; before = refl }
 pub run_fate : (q : Plan) (n : ℕ) (k k' : Kept) (f : Fate) → RunUndoes q n k k' → RunUndoes q n k (record k' { fate = f })
 run_fate q n k k' f u = record { good = good_fate q f k' u.good; before = before_fate n f k' ∙ u.before }
 
-pub run_bound : (q : Plan) (name : ℕ) (x : Numbered) (k : Kept) → Good q k → name < length q.names → length q.names ≤ 32 → IsSmall x.1 → NumbersBelow x.0 k → RunUndoes q x.0 k (run_with_event q name x k)
-run_bound q name x k good named few small below = record {
-  good = good_looking q (grown name (is_consumed (slice_get q.names name)) x.0 x.1 k) (good_grown q name x.0 x.1 k good named few small below);
-  before = before_bound q name x k good (omega (arith, named, few)) below;
+pub run_bound : (q : Plan) (name : ℕ) (x : Numbered) (k : Kept) → Good q k → name < length q.names → IsCompiled q → is_among (bound_names q) name ≡ true → IsSmall x.1 → NumbersBelow x.0 k → RunUndoes q x.0 k (run_with_event q name x k)
+run_bound q name x k good named compiled among small below = record {
+  good = good_looking q (grown name (is_consumed (slice_get q.names name)) x.0 x.1 k) (good_grown q name x.0 x.1 k good named compiled among small below);
+  before = before_bound q name x k good (let few = compiled.names in omega (arith, named, few)) below;
 }
 
 pub all_stay : (q : Plan) (n : ℕ) (ks : List Kept) → All (Good q) ks → Undoes q n ks ks

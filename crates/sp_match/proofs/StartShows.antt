@@ -6,7 +6,7 @@ use Rattle.std.proofs.lemmas.List.{map-append}
 use Rattle.sp_base.specs.Numbers.{is_among}
 use Rattle.sp_plan.specs.declared.plan.Plan.{Plan}
 use Rattle.sp_plan.specs.Windows.{Numbered}
-use Rattle.sp_plan.specs.Runs.{Pair, Started, State, holds_one, is_complete, leaves, takes, used}
+use Rattle.sp_plan.specs.Runs.{Pair, Started, State, holds_one, is_complete, departs, takes, used}
 use Rattle.sp_plan.specs.Moves.{Acting, Told, Opened, OpenedTold, Grown, Completed, without_run, abandoned, act_run, act_start, acted, acting_on, apply, apply_all, completing, growing, used_if_complete}
 use Rattle.sp_match.specs.inside.Kept.{Kept, empty, started}
 use Rattle.sp_match.specs.inside.Effects.{runs_after_binding, runs_binding_told, run_after_use, use_told, run_after_binding, binding_told, used_by_binding}
@@ -37,7 +37,7 @@ run_started q x a run = one (holds_one a.taken run.1) (is_among a.taken x.0)
   where
     takes_it : (o : Option ℕ) → (acted q x a run o).now.started ≡ a.now.started
     takes_it (Some name) = growing_started q a.now.open_runs run (record { name = name; number = x.0; event = x.1 }) a.now
-    takes_it None = two (leaves q.select q x.1)
+    takes_it None = two (departs q run.1 x.1)
       where
         two : (b : Bool) → (cond b (acting_on a (abandoned run ∷ []) []) a).now.started ≡ a.now.started
         two true = refl

@@ -7,7 +7,7 @@ use Rattle.std.proofs.lemmas.List.Folds.{list_all-append, list_any-append}
 use Rattle.sp_base.specs.Numbers.{is_among}
 use Rattle.sp_plan.specs.declared.plan.Plan.{Plan}
 use Rattle.sp_plan.specs.Windows.{Numbered}
-use Rattle.sp_plan.specs.Runs.{Pair, Started, State, holds_one, is_complete, leaves, takes, used}
+use Rattle.sp_plan.specs.Runs.{Pair, Started, State, holds_one, is_complete, departs, takes, used}
 use Rattle.sp_plan.specs.Moves.{Acting, Told, abandoned, act_run, acted, acting_on, used_if_complete}
 use Rattle.sp_match.specs.declared.turns.Reception.{Reception}
 use Rattle.sp_match.specs.declared.turns.Reception.TheVariants.{Taken, Used}
@@ -173,11 +173,11 @@ module _ (q : Plan) (x : Numbered) (s : State) (fs rest : List Kept) (k0 : Kept)
   -- the run's turn
   pub turn_goes : k0.fate ≡ Stays → ((name : ℕ) → takes q run.1 x.1 ≡ Some name → before x.0 (run_with_event q name x k) ≡ before x.0 k) → map (λ p. p.0) k0.bound ≡ map (λ p. p.0) k0.events → k0.used ≡ used q (pairs k0) → Rising 0 top (map started ks) → Shows q s a ks ts → All (Tally x.0 a.moves) ks → is_used r ≡ is_among a.taken x.0
       → is_taken r ≡ not (none_takes q x done) → (is_taken r ≡ false → a.taken ≡ [])
-      → goes (act_run q x a run) (if is_skipped r k then ks else runs_after_offer q (leaves q.select q x.1) here x ks (takes q run.1 x.1))
-      (ts ++ (if is_skipped r k then [] else offer_told q (leaves q.select q x.1) here x ks (takes q run.1 x.1))) (if is_skipped r k then r else reception_after_offer q x k r (takes q run.1 x.1))
+      → goes (act_run q x a run) (if is_skipped r k then ks else runs_after_offer q (departs q run.1 x.1) here x ks (takes q run.1 x.1))
+      (ts ++ (if is_skipped r k then [] else offer_told q (departs q run.1 x.1) here x ks (takes q run.1 x.1))) (if is_skipped r k then r else reception_after_offer q x k r (takes q run.1 x.1))
   turn_goes stands back_is same uses up shows tally used taken unused =
-      subst (λ (b : Bool). goes (act_run q x a run) (if b then ks else runs_after_offer q (leaves q.select q x.1) here x ks (takes q run.1 x.1))
-      (ts ++ (if b then [] else offer_told q (leaves q.select q x.1) here x ks (takes q run.1 x.1))) (if b then r else reception_after_offer q x k r (takes q run.1 x.1))) (sym skip_is)
+      subst (λ (b : Bool). goes (act_run q x a run) (if b then ks else runs_after_offer q (departs q run.1 x.1) here x ks (takes q run.1 x.1))
+      (ts ++ (if b then [] else offer_told q (departs q run.1 x.1) here x ks (takes q run.1 x.1))) (if b then r else reception_after_offer q x k r (takes q run.1 x.1))) (sym skip_is)
       (one (holds_one a.taken run.1) (is_among a.taken x.0) refl refl)
     where
       stay_is : stays k.fate ≡ not (holds_one a.taken run.1)
@@ -197,13 +197,13 @@ module _ (q : Plan) (x : Numbered) (s : State) (fs rest : List Kept) (k0 : Kept)
       by_event among = was_taken (is_taken r) refl unused (λ empty. sym among ∙ ap (λ (l : List ℕ). is_among l x.0) empty)
 
       offers : holds_one a.taken run.1 ≡ false → is_among a.taken x.0 ≡ false → (o : Option ℕ) → takes q run.1 x.1 ≡ o
-          → goes (acted q x a run o) (runs_after_offer q (leaves q.select q x.1) here x ks o) (ts ++ offer_told q (leaves q.select q x.1) here x ks o) (reception_after_offer q x k r o)
+          → goes (acted q x a run o) (runs_after_offer q (departs q run.1 x.1) here x ks o) (ts ++ offer_told q (departs q run.1 x.1) here x ks o) (reception_after_offer q x k r o)
       offers hold among (Some name) is = binds name is (stay_is ∙ ap not hold) same (used_grown q name x.0 x.1 k same uses) up among (back_is name is) shows tally
-      offers hold among None is = passes is (stay_is ∙ ap not hold) up shows tally used taken unused (leaves q.select q x.1)
+      offers hold among None is = passes is (stay_is ∙ ap not hold) up shows tally used taken unused (departs q run.1 x.1)
 
       one : (h u : Bool) → holds_one a.taken run.1 ≡ h → is_among a.taken x.0 ≡ u
-          → goes (cond h a (cond u a (acted q x a run (takes q run.1 x.1)))) (if u || h then ks else runs_after_offer q (leaves q.select q x.1) here x ks (takes q run.1 x.1))
-          (ts ++ (if u || h then [] else offer_told q (leaves q.select q x.1) here x ks (takes q run.1 x.1))) (if u || h then r else reception_after_offer q x k r (takes q run.1 x.1))
+          → goes (cond h a (cond u a (acted q x a run (takes q run.1 x.1)))) (if u || h then ks else runs_after_offer q (departs q run.1 x.1) here x ks (takes q run.1 x.1))
+          (ts ++ (if u || h then [] else offer_told q (departs q run.1 x.1) here x ks (takes q run.1 x.1))) (if u || h then r else reception_after_offer q x k r (takes q run.1 x.1))
       one true true hold among = skipped shows tally used taken (by_run hold)
       one true false hold among = skipped shows tally used taken (by_run hold)
       one false true hold among = skipped shows tally used taken (by_event among)

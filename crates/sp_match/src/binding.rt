@@ -1,6 +1,6 @@
 // A run binds an event. Memory may be refused later in the handling of the event, so a run that grows
 // can be made as it was.
-ghost use Rattle.std.specs.Prelude.{◌≡◌, ◌<◌, [], ◌∷◌, ◌++◌, length, map, slice_get, IfOk, OnOk};
+ghost use Rattle.std.specs.Prelude.{◌≡◌, ◌<◌, true, [], ◌∷◌, ◌++◌, length, map, slice_get, IfOk, OnOk};
 ghost use Rattle.std.specs.List.{All, flat_map};
 ghost use Rattle.sp_base.specs.Numbers.{is_among};
 ghost use Rattle.sp_plan.specs.Runs as definitions;
@@ -40,6 +40,7 @@ fn grow(
     requires shared { IsShared offer.now shared.old }
     requires good { Good offer.now.plan.now (kept run.old) }
     requires named { name < length offer.now.plan.now.names }
+    requires binds { is_among (definitions.bound_names offer.now.plan.now) name ≡ true }
     requires below { NumbersBelow offer.now.number (kept run.old) }
     ensures run { OnOk result (kept run.new
         ≡ run_after_binding offer.now.plan.now name (numbered offer.now) (kept run.old)) }
@@ -77,6 +78,7 @@ pub(crate) fn bind(
     requires shared { IsShared offer.now shared.old }
     requires good { All (Good offer.now.plan.now) (all_kept runs.old) }
     requires named { name < length offer.now.plan.now.names }
+    requires binds { is_among (definitions.bound_names offer.now.plan.now) name ≡ true }
     requires below { NumbersBelow offer.now.number (run_at (all_kept runs.old) at) }
     requires within { at < length runs.old }
     ensures used { IfOk result (λ used. used ≡ is_among

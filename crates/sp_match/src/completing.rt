@@ -1,21 +1,22 @@
 // Runs that complete. They are only marked, as runs are that are abandoned.
 ghost use Rattle.std.specs.Prelude.{◌≡◌, ◌≤◌, [], ◌∷◌, ◌++◌, length, map, IfOk, OnOk, OnErr};
-ghost use Rattle.std.specs.List.{range_with_len};
+ghost use Rattle.std.specs.List.{list_any, range_with_len};
 ghost use Rattle.sp_plan.specs.Compiled.{IsCompiled};
-ghost use Rattle.sp_plan.specs.Runs.{bindings};
+ghost use Rattle.sp_plan.specs.Runs.{bindings, numbers_under};
 ghost use Rattle.sp_plan.specs.Runs as definitions;
 ghost use Rattle.sp_match.specs.public.Seen.{seen_name};
 ghost use Rattle.sp_match.specs.inside.Kept.{kept, pairs};
 ghost use Rattle.sp_match.specs.inside.Good.{Good};
+ghost use Rattle.sp_match.specs.inside.Taking.{is_never};
 ghost use Rattle.sp_match.specs.inside.Effects.{Adds, completion_told, run_if_complete, told_if_complete};
 ghost use Rattle.sp_match.specs.declared.run.Fate.TheVariants.{Completes};
 
 use crate::Memory;
 use crate::moves::Move;
 use crate::run::{Fate, Run};
-use crate::taking::is_complete;
+use crate::taking::{is_complete, negated_count};
 use sp_base::Numbers;
-use sp_plan::{Listed, Plan};
+use sp_plan::{Element, Listed, Plan};
 use std::alloc::Global;
 
 // Each name with no numbers.
@@ -33,17 +34,53 @@ fn no_numbers(alloc: Global, count: usize) -> Result<Vec<(u8, Numbers)>, Memory>
 
 // Each name of the plan with the numbers of the events that the run binds to it, in one pass over its
 // pairs.
-fn bound_numbers(alloc: Global, plan: &Plan, run: &Run) -> Result<Vec<(u8, Numbers)>, Memory>
+fn all_numbers(alloc: Global, plan: &Plan, run: &Run) -> Result<Vec<(u8, Numbers)>, Memory>
     requires compiled { IsCompiled plan.now }
     requires good { Good plan.now (kept run.now) }
     ensures { IfOk result (λ lists. map seen_name lists.items
-        ≡ bindings plan.now (pairs (kept run.now))) }
+        ≡ map (λ name. (name, numbers_under (pairs (kept run.now)) name))
+        (range_with_len 0 (length plan.now.names))) }
 {
     let mut lists = no_numbers(alloc, plan.names.as_slice().len())?;
     for (name, number) in &run.bound {
         let list = &mut lists[*name as usize];
         list.1.insert(*number)?;
     }
+    Ok(lists)
+}
+
+// Whether an element is the name, negated.
+fn is_never(name: u8, element: Element) -> bool
+    ensures { result ≡ is_never name element }
+{
+    match element {
+        Element::Never(own) => own == name,
+        _ => false,
+    }
+}
+
+// Whether the name is negated.
+fn is_negated(plan: &Plan, name: u8) -> bool
+    ensures { result ≡ list_any (is_never name) plan.now.elements }
+{
+    plan.elements
+        .as_slice()
+        .iter()
+        .any(|element| is_never(name, *element))
+}
+
+// Each name of the plan that isn't negated with the numbers of the events that the run binds to it.
+fn bound_numbers(alloc: Global, plan: &Plan, run: &Run) -> Result<Vec<(u8, Numbers)>, Memory>
+    requires compiled { IsCompiled plan.now }
+    requires good { Good plan.now (kept run.now) }
+    ensures { IfOk result (λ lists. map seen_name lists.items
+        ≡ bindings plan.now (pairs (kept run.now))) }
+{
+    let mut lists = all_numbers(alloc, plan, run)?;
+    if negated_count(plan) == 0 {
+        return Ok(lists);
+    }
+    lists.retain(|list| !is_negated(plan, list.0));
     Ok(lists)
 }
 

@@ -29,7 +29,7 @@ use std::alloc::Global;
 /// What is kept of a name of the plan.
 #[derive(Drop)]
 pub(crate) struct Holding {
-    /// The open runs that may take it next, as bits.
+    /// The open runs that may take it next or are guarded by it, as bits.
     pub(crate) wanting: u64,
     /// What the held sides of its predicate come to for each open run.
     pub(crate) columns: Vec<HeldColumn>,
@@ -44,7 +44,7 @@ pub(crate) struct Holdings {
     pub(crate) names: Vec<Holding>,
 }
 
-// The runs that may take the name next, as bits.
+// The runs that may take the name next or are guarded by it, as bits.
 fn wanting(plan: &Plan, runs: &[Run], name: u8) -> u64
     requires compiled { IsCompiled plan.now }
     requires good { All (Good plan.now) (all_kept runs.now) }

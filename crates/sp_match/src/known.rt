@@ -13,16 +13,16 @@ use std::alloc::Global;
 /// What is known of an event by the plan alone, whatever the open runs have bound.
 #[derive(Clone, Copy, Drop)]
 pub enum Known {
-    /// No run takes it, and it begins none.
+    /// No run takes it, none is abandoned by it, and it begins none.
     Never,
-    /// It begins no run. One that is open may take it.
+    /// It begins no run. One that is open may take it, or be abandoned by it.
     Onward,
-    /// No more than that: it may begin a run, and one that is open may take it.
+    /// No more than that: it may begin a run, and one that is open may take it, or be abandoned by it.
     Any,
 }
 
-// Whether some name's predicate may hold of the event. The last names are asked first: mostly they speak of
-// events that are bound, so that no more has to be looked at.
+// Whether some name's predicate may hold of the event, negated ones among them. The last names are asked first: mostly
+// they speak of events that are bound, so that no more has to be looked at.
 fn may_be_taken(alloc: Global, plan: &Plan, event: &Event) -> bool
     requires compiled { IsCompiled plan.now }
     requires small { IsSmall event.now }

@@ -2,7 +2,7 @@
 ghost use Rattle.std.specs.Prelude.{◌≡◌, [], Some, find, IfOk, OnOk};
 ghost use Rattle.sp_plan.specs.Bounds.{IsSmall};
 ghost use Rattle.sp_plan.specs.Compiled.{IsCompiled};
-ghost use Rattle.sp_plan.specs.Runs.{name_holds, names_of, takes};
+ghost use Rattle.sp_plan.specs.Runs.{binds, name_holds, takes};
 ghost use Rattle.sp_match.specs.inside.Good.{IsNamed};
 ghost use Rattle.sp_match.specs.inside.Offer.{IsOffer, IsShared, lets_leave};
 
@@ -51,7 +51,7 @@ fn first_of(plan: &Plan, event: &Event, none: &Bound, element: Element) -> Optio
     requires small { IsSmall event.now }
     requires none { none.now ≡ [] }
     requires named { IsNamed element }
-    ensures { result ≡ find (name_holds plan.now [] event.now) (names_of element) }
+    ensures { result ≡ find (name_holds plan.now [] event.now) (binds element) }
 {
     let (first, past) = span(element);
     for name in first..past {
@@ -89,7 +89,7 @@ pub(crate) fn begins(offer: &Offer) -> Option<u8>
     }
 }
 
-/// Whether an open run leaves that doesn't take the event: under LAST, where the event begins a run.
+/// Whether the policy has each open run leave that doesn't take the event: under LAST, where it begins a run.
 pub(crate) fn leaves(offer: &Offer) -> bool
     requires { IsOffer offer.now }
     ensures { result ≡ lets_leave offer.now }

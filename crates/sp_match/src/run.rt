@@ -27,18 +27,20 @@ pub struct Run {
     pub(crate) names: [bool; 32],
     // how many names are bound
     pub(crate) bound_names: u32,
-    // what it may take next, where that was looked for since it bound its last event
+    // what counts for it next, where that was looked for since it bound its last event
     pub(crate) ahead: Option<Ahead>,
     pub(crate) fate: Fate,
 }
 
-/// What a run may take next.
+/// What counts for a run next.
 #[derive(Clone, Copy, Drop)]
 pub(crate) struct Ahead {
     /// The first element that it hasn't filled.
     pub(crate) element: Option<Element>,
     /// Its last name, where it may be bound more than once.
     pub(crate) again: Option<u8>,
+    /// The names that guard it are those from the first number on and below the second.
+    pub(crate) guards: (u8, u8),
 }
 
 /// Whether a run stays open when the event has been handled.

@@ -1,6 +1,7 @@
 // An event may start a run, when all open runs were offered it.
-ghost use Rattle.std.specs.Prelude.{◌≡◌, ℕ, ◌+◌, ◌<◌, ◌≤◌, List, [], ◌∷◌, ◌++◌, length, map, take, nat_lt, OnOk};
+ghost use Rattle.std.specs.Prelude.{◌≡◌, ℕ, ◌+◌, ◌<◌, ◌≤◌, true, List, [], ◌∷◌, ◌++◌, length, map, take, nat_lt, OnOk};
 ghost use Rattle.std.specs.List.{All};
+ghost use Rattle.sp_base.specs.Numbers.{is_among};
 ghost use Rattle.sp_plan.specs.Runs as definitions;
 ghost use Rattle.sp_plan.specs.Runs.{State};
 ghost use Rattle.sp_plan.specs.Moves.{Told, OpenedTold};
@@ -81,6 +82,7 @@ pub(crate) fn open(
     requires shared { IsShared offer.now shared.old }
     requires good { All (Good offer.now.plan.now) (all_kept runs.old.items) }
     requires named { name < length offer.now.plan.now.names }
+    requires binds { is_among (definitions.bound_names offer.now.plan.now) name ≡ true }
     requires below { count < offer.now.number }
     ensures runs { OnOk result (all_kept runs.new.items
         ≡ runs_after_binding offer.now.plan.now name (numbered offer.now) (length runs.old.items)

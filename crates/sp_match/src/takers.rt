@@ -1,4 +1,4 @@
-// Which of the open runs take an event, told of all of them at once.
+// For which of the open runs an event counts, told of all of them at once.
 ghost use Rattle.std.specs.Prelude.{◌≡◌, ℕ, ◌<◌, ◌≤◌, length, map, IsTrue, OnOk};
 ghost use Rattle.std.specs.List.{All};
 ghost use Rattle.sp_plan.specs.Bounds.{IsSmall};
@@ -20,12 +20,13 @@ const FEW: usize = 4;
 // So many runs have bits.
 const MOST: usize = 64;
 
-/// The open runs that take an event, as bits: bit i is that of the run at place i. The room is used again.
+/// The open runs for which an event counts, as bits: bit i is that of the run at place i. The room is used again.
 #[derive(Drop)]
 pub(crate) struct Takers {
-    /// For each name of the plan the runs that may take it next and whose predicate the event fulfils.
+    /// For each name of the plan the runs that may take it next or are guarded by it, and whose predicate the event
+    /// fulfils.
     pub(crate) masks: Vec<u64>,
-    /// The runs that take the event under some name.
+    /// The runs that take the event under some name, or are guarded by it.
     pub(crate) any: u64,
 }
 
@@ -38,7 +39,7 @@ impl Takers {
         }
     }
 
-    // Whether the run at this place takes the event under the name.
+    // Whether the run at this place takes the event under the name, or is guarded by it under that.
     #[inline(always)]
     pub(crate) fn has(&self, name: u8, at: usize) -> bool
         requires { at < 64 }
@@ -51,7 +52,7 @@ impl Takers {
     }
 }
 
-// The runs that take the event under the name.
+// The runs that take the event under the name, or are guarded by it under that.
 fn takers_under(
     alloc: Global,
     plan: &Plan,
@@ -76,7 +77,7 @@ fn takers_under(
     holding(alloc, pred, event, &held[name].columns, runs, asked)
 }
 
-// The runs that take the event.
+// The runs that take the event or are guarded by it.
 fn takers_among(
     alloc: Global,
     plan: &Plan,
@@ -92,18 +93,20 @@ fn takers_among(
     ensures { OnOk result
         (AreTold plan.now event.now takers.new (map pairs (all_kept runs.now))) }
 {
+    let names = plan.names.as_slice().len();
     takers.masks.clear();
+    takers.masks.reserve(names)?;
     takers.any = 0;
-    for name in 0..plan.names.as_slice().len() {
+    for name in 0..names {
         let mask = takers_under(alloc, plan, event, runs, held, name);
-        takers.masks.push(mask)?;
+        takers.masks.push_reserved(mask);
         takers.any |= mask;
     }
     Ok(())
 }
 
-/// Finds the open runs that take the event, where so many are open that it pays to ask predicates once for all
-/// of them. False where it doesn't, and where memory is wanting: then each run is asked by itself.
+/// Finds the open runs that take the event or are guarded by it, where so many are open that it pays to ask predicates
+/// once for all of them. False where it doesn't, and where memory is wanting: then each run is asked by itself.
 #[inline(always)]
 pub(crate) fn takers_of(
     alloc: Global,

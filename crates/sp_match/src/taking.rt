@@ -1,15 +1,15 @@
-// Which name a run takes an event under.
-ghost use Rattle.std.specs.Prelude.{◌≡◌, ◌⊎◌, ◌<◌, ◌≤◌, ◌-◌, ◌&&◌, true, Some, None, length, take, not, slice_get, slice_index_or, IfSome, if◌then◌else◌};
-ghost use Rattle.std.specs.List.{range_with_len, list_any, list_all, last_or};
+// Which name a run takes an event under, and whether it is guarded by one.
+ghost use Rattle.std.specs.Prelude.{◌≡◌, ◌⊎◌, ◌<◌, ◌≤◌, ◌-◌, ◌&&◌, ◌||◌, true, Some, None, drop, is_some, length, option_and_then, take, not, slice_get, slice_index_or, IfSome, if◌then◌else◌};
+ghost use Rattle.std.specs.List.{All, range_with_len, list_any, list_all, last_or};
 ghost use Rattle.sp_base.specs.Numbers.{is_among};
 ghost use Rattle.sp_plan.specs.declared.plan.Plan.{Plan};
 ghost use Rattle.sp_plan.specs.Bounds.{IsSmall};
 ghost use Rattle.sp_plan.specs.Compiled.{IsCompiled};
 ghost use Rattle.sp_plan.specs.Runs;
-ghost use Rattle.sp_plan.specs.Runs.{is_bound, is_plus, names_of, name_holds, unbound};
+ghost use Rattle.sp_plan.specs.Runs.{binds, is_bound, is_plus, name_holds, unbound};
 ghost use Rattle.sp_match.specs.inside.Kept.{kept, pairs};
 ghost use Rattle.sp_match.specs.inside.Good.{Good, IsNamed};
-ghost use Rattle.sp_match.specs.inside.Taking.{IsAhead, ahead_still, first_lacked, is_again, last_again, next_element, once_more};
+ghost use Rattle.sp_match.specs.inside.Taking.{IsAhead, ahead_still, first_lacked, guard_range, is_again, last_again, negated_count, negated_name, next_element, once_more, range_of};
 ghost use Rattle.sp_match.specs.inside.Offer.{IsOffer, IsToldAt, answer};
 ghost use Rattle.sp_match.specs.inside.Takers.{is_wanted};
 ghost use Rattle.sp_match.specs.inside.Effects.{looking};
@@ -54,20 +54,21 @@ fn takes_as(offer: &Offer, run: &Run, at: usize, name: u8) -> bool
     }
 }
 
-/// The names of an element are those from the first number on and below the second.
+/// The names of an element that bind events are those from the first number on and below the second.
 pub(crate) fn span(element: Element) -> (u8, u8)
     requires { IsNamed element }
-    ensures names { names_of element ≡ range_with_len result.0 (result.1 - result.0) }
+    ensures names { binds element ≡ range_with_len result.0 (result.1 - result.0) }
     ensures few { (result.0 ≡ result.1) ⊎ (result.1 ≤ 32) }
     ensures ordered { result.0 ≤ result.1 }
 {
     match element {
         Element::One(name) | Element::Plus(name) => (name, name + 1),
         Element::Set { first, count } => (first, first + count),
+        Element::Never(_) => (0, 0),
     }
 }
 
-// Whether a run has bound an event to each name of the element.
+// Whether a run has bound an event to each name of the element that binds some.
 fn is_filled(run: &Run, element: Element) -> bool
     requires good { (q : Plan) × Good q (kept run.now) }
     requires named { IsNamed element }
@@ -197,7 +198,133 @@ fn last_again(plan: &Plan, run: &Run) -> Option<u8>
     }
 }
 
-// What a run may take next, by what it has bound.
+// The name of an element that is negated.
+fn negated(element: Element) -> Option<u8>
+    ensures { result ≡ negated_name element }
+{
+    match element {
+        Element::Never(name) => Some(name),
+        _ => None,
+    }
+}
+
+// Whether an element is negated.
+fn is_negated(element: Element) -> bool
+    ensures { result ≡ is_some (negated_name element) }
+{
+    matches!(element, Element::Never(_))
+}
+
+// How many of the elements are negated.
+fn count_negated(elements: &[Element]) -> usize
+    ensures { result ≡ negated_count elements.now }
+{
+    elements
+        .iter()
+        .filter(|element| is_negated(**element))
+        .count()
+}
+
+/// How many names of the plan are negated.
+pub(crate) fn negated_count(plan: &Plan) -> u32
+    requires { IsCompiled plan.now }
+    ensures count { result ≡ negated_count plan.now.elements }
+    ensures few { result ≤ 32 }
+{
+    count_negated(plan.elements.as_slice()) as u32
+}
+
+// Whether a name of the plan is negated.
+fn has_negated(plan: &Plan) -> bool
+    ensures { result ≡ list_any (λ element. is_some (negated_name element)) plan.now.elements }
+{
+    plan.elements
+        .as_slice()
+        .iter()
+        .any(|element| is_negated(*element))
+}
+
+// How many of the elements stand negated in front.
+fn negated_front(elements: &[Element]) -> u8
+    requires { length elements.now ≤ 32 }
+    ensures { result ≡ length (Runs.leading elements.now) }
+{
+    for i in 0..elements.len() {
+        if !is_negated(elements[i]) {
+            return i as u8;
+        }
+    }
+    elements.len() as u8
+}
+
+// The name of the first of the elements, where that is negated.
+fn first_negated(elements: &[Element]) -> Option<u8>
+    requires { All IsNamed elements.now }
+    ensures name { result ≡ option_and_then negated_name (slice_get elements.now 0) }
+    ensures few { IfSome result (λ name. name < 32) }
+{
+    negated(one_of(elements, 0)?)
+}
+
+// The names of the elements that stand negated in front: they are those from the first number on and below the second.
+fn leading(elements: &[Element]) -> (u8, u8)
+    requires named { All IsNamed elements.now }
+    requires few { length elements.now ≤ 32 }
+    ensures { result ≡ range_of (Runs.leading elements.now) }
+{
+    match first_negated(elements) {
+        Some(name) => (name, name + negated_front(elements)),
+        None => (0, 0),
+    }
+}
+
+// Where the elements begin that stand behind that of the name: behind all, where the run hasn't filled that one.
+fn behind(plan: &Plan, run: &Run, name: u8) -> usize
+    requires compiled { IsCompiled plan.now }
+    requires good { Good plan.now (kept run.now) }
+    ensures elements { Runs.behind (pairs (kept run.now)) name plan.now.elements
+        ≡ drop result plan.now.elements }
+    ensures within { result ≤ length plan.now.elements }
+{
+    let elements = plan.elements.as_slice();
+    for i in 0..elements.len() {
+        if names(elements[i], name) {
+            if is_filled(run, elements[i]) {
+                return i + 1;
+            }
+            return elements.len();
+        }
+    }
+    elements.len()
+}
+
+// The names that guard a run which has bound its last event to this name.
+fn guards_behind(plan: &Plan, run: &Run, name: u8) -> (u8, u8)
+    requires compiled { IsCompiled plan.now }
+    requires good { Good plan.now (kept run.now) }
+    ensures { result
+        ≡ range_of (Runs.leading (Runs.behind (pairs (kept run.now)) name plan.now.elements)) }
+{
+    let place = behind(plan, run, name);
+    leading(&plan.elements.as_slice()[place..])
+}
+
+// The names that guard a run. They stand behind the element of its last pair, from which they are looked for.
+fn guards_of(plan: &Plan, run: &Run) -> (u8, u8)
+    requires compiled { IsCompiled plan.now }
+    requires good { Good plan.now (kept run.now) }
+    ensures { result ≡ guard_range plan.now (pairs (kept run.now)) }
+{
+    if !has_negated(plan) {
+        return (0, 0);
+    }
+    match run.bound.last() {
+        Some((name, _)) => guards_behind(plan, run, *name),
+        None => (0, 0),
+    }
+}
+
+// What counts for a run next, by what it has bound.
 fn look_ahead(plan: &Plan, run: &Run) -> Ahead
     requires compiled { IsCompiled plan.now }
     requires good { Good plan.now (kept run.now) }
@@ -207,10 +334,11 @@ fn look_ahead(plan: &Plan, run: &Run) -> Ahead
     Ahead {
         element: first_unfilled(plan, run),
         again: last_again(plan, run),
+        guards: guards_of(plan, run),
     }
 }
 
-// What a run may take next, which is looked for only where the run doesn't keep it.
+// What counts for a run next, which is looked for only where the run doesn't keep it.
 fn ahead_of(plan: &Plan, run: &Run) -> Ahead
     requires compiled { IsCompiled plan.now }
     requires good { Good plan.now (kept run.now) }
@@ -242,7 +370,7 @@ fn is_again(again: Option<u8>, name: u8) -> bool
     }
 }
 
-/// What a run may take next when it has bound the name, where that is known: the same as before, since it has
+/// What counts for a run next when it has bound the name, where that is known: the same as before, since it has
 /// only bound its last name once more. None where it has to be looked for anew.
 pub(crate) fn ahead_still(run: &Run, name: u8) -> Option<Ahead>
     ensures { result ≡ ahead_still name (kept run.now) }
@@ -255,7 +383,7 @@ pub(crate) fn ahead_still(run: &Run, name: u8) -> Option<Ahead>
     }
 }
 
-// What a run may take next, which is looked for only where it isn't known.
+// What counts for a run next, which is looked for only where it isn't known.
 fn known_ahead(plan: &Plan, run: &Run, known: Option<Ahead>) -> Ahead
     requires compiled { IsCompiled plan.now }
     requires good { Good plan.now (kept run.now) }
@@ -268,7 +396,7 @@ fn known_ahead(plan: &Plan, run: &Run, known: Option<Ahead>) -> Ahead
     }
 }
 
-/// What the run may take next is kept in it from now on.
+/// What counts for the run next is kept in it from now on.
 pub(crate) fn look_on(plan: &Plan, run: &mut Run, known: Option<Ahead>)
     requires compiled { IsCompiled plan.now }
     requires good { Good plan.now (kept run.old) }
@@ -324,13 +452,58 @@ pub(crate) fn takes(offer: &Offer, run: &Run, at: usize) -> Option<u8>
     }
 }
 
-// Whether the name is one of the element's.
+// Whether the event fulfils the predicate of one of the names from the first number on and below the second, for the run
+// at this place.
+fn fulfils_one(offer: &Offer, run: &Run, at: usize, first: u8, past: u8) -> bool
+    requires offer { IsOffer offer.now }
+    requires good { Good offer.now.plan.now (kept run.now) }
+    requires told { IsToldAt offer.now at (pairs (kept run.now)) }
+    ensures { result ≡ list_any (answer offer.now at (pairs (kept run.now)))
+        (range_with_len first (past - first)) }
+{
+    for name in first..past {
+        if takes_as(offer, run, at, name) {
+            return true;
+        }
+    }
+    false
+}
+
+/// Whether the event is held against the run at this place: it fulfils the predicate of a name that guards the run.
+pub(crate) fn is_guarded(offer: &Offer, run: &Run, at: usize) -> bool
+    requires offer { IsOffer offer.now }
+    requires good { Good offer.now.plan.now (kept run.now) }
+    requires told { IsToldAt offer.now at (pairs (kept run.now)) }
+    ensures { result ≡ Runs.guarded offer.now.plan.now (pairs (kept run.now)) offer.now.event.now }
+{
+    let (first, past) = ahead_of(offer.plan, run).guards;
+    fulfils_one(offer, run, at, first, past)
+}
+
+// Whether the name is one of those from the first number on and below the second.
+fn is_within(first: u8, past: u8, name: u8) -> bool
+    requires { first ≤ past }
+    ensures { result ≡ is_among (range_with_len first (past - first)) name }
+{
+    first <= name && name < past
+}
+
+// Whether the name is one of the element's that bind events.
 fn names(element: Element, name: u8) -> bool
     requires { IsNamed element }
-    ensures { result ≡ is_among (names_of element) name }
+    ensures { result ≡ is_among (binds element) name }
 {
     let (first, past) = span(element);
-    first <= name && name < past
+    is_within(first, past, name)
+}
+
+// Whether the name guards a run.
+fn guards(plan: &Plan, run: &Run, guards: (u8, u8), name: u8) -> bool
+    requires compiled { IsCompiled plan.now }
+    requires range { guards ≡ guard_range plan.now (pairs (kept run.now)) }
+    ensures { result ≡ is_among (Runs.guards plan.now (pairs (kept run.now))) name }
+{
+    is_within(guards.0, guards.1, name)
 }
 
 // Whether the name is one of the element's that the run lacks.
@@ -346,7 +519,18 @@ fn lacks(run: &Run, element: Option<Element>, name: u8) -> bool
     }
 }
 
-/// Whether the run may take the name next.
+// Whether a run of which this counts next may take the name.
+fn may_take(run: &Run, ahead: Ahead, name: u8) -> bool
+    requires good { (q : Plan) × Good q (kept run.now) }
+    requires element { IfSome ahead.element IsNamed }
+    requires named { name < 32 }
+    ensures { result ≡ (is_among (unbound (pairs (kept run.now)) ahead.element) name
+        || is_again name ahead.again) }
+{
+    lacks(run, ahead.element, name) || is_again(ahead.again, name)
+}
+
+/// Whether the run may take the name next, or is guarded by it.
 pub(crate) fn wants(plan: &Plan, run: &Run, name: u8) -> bool
     requires compiled { IsCompiled plan.now }
     requires good { Good plan.now (kept run.now) }
@@ -354,5 +538,5 @@ pub(crate) fn wants(plan: &Plan, run: &Run, name: u8) -> bool
     ensures { result ≡ is_wanted plan.now (pairs (kept run.now)) name }
 {
     let ahead = ahead_of(plan, run);
-    lacks(run, ahead.element, name) || is_again(ahead.again, name)
+    may_take(run, ahead, name) || guards(plan, run, ahead.guards, name)
 }

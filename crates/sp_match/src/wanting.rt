@@ -5,20 +5,33 @@ ghost use Rattle.sp_plan.specs.Compiled.{IsCompiled};
 ghost use Rattle.sp_plan.specs.Moves as definitions;
 ghost use Rattle.sp_match.specs.inside.Kept.{kept, all_kept, pairs};
 ghost use Rattle.sp_match.specs.inside.Good.{Good};
+ghost use Rattle.sp_match.specs.inside.Taking.{negated_count};
 ghost use Rattle.sp_match.specs.inside.Wanted.{all_as_before, all_left, wanted_by, wanted_all};
 
 use crate::Memory;
 use crate::run::Run;
+use crate::taking::negated_count;
 use sp_plan::Plan;
 
-/// How many events a run wants at least: one for each name that it hasn't bound.
+// How many events a run wants at least, where so many names are negated: one for each other name that it hasn't bound.
+fn left_beside(plan: &Plan, negated: u32, run: &Run) -> u32
+    requires compiled { IsCompiled plan.now }
+    requires good { Good plan.now (kept run.now) }
+    requires negated { negated ≡ negated_count plan.now.elements }
+    ensures left { result ≡ definitions.left plan.now (pairs (kept run.now)) }
+    ensures few { result ≤ 32 }
+{
+    plan.names.as_slice().len() as u32 - negated - run.bound_names
+}
+
+/// How many events a run wants at least.
 pub(crate) fn left(plan: &Plan, run: &Run) -> u32
     requires compiled { IsCompiled plan.now }
     requires good { Good plan.now (kept run.now) }
     ensures left { result ≡ definitions.left plan.now (pairs (kept run.now)) }
     ensures few { result ≤ 32 }
 {
-    plan.names.as_slice().len() as u32 - run.bound_names
+    left_beside(plan, negated_count(plan), run)
 }
 
 /// What each run wants; what stood there before is dropped.
@@ -28,16 +41,18 @@ pub(crate) fn want_before(plan: &Plan, runs: &[Run], lefts: &mut Vec<u32>) -> Re
     ensures { OnOk result (lefts.new.items ≡ all_left plan.now (all_kept runs.now)) }
 {
     lefts.clear();
+    let negated = negated_count(plan);
     for run in runs {
-        lefts.push(left(plan, run))?;
+        lefts.push(left_beside(plan, negated, run))?;
     }
     Ok(())
 }
 
 // Adds what a run wanted and wants now, where it isn't abandoned. There is room for the pair.
-fn want_one(plan: &Plan, before: u32, run: &Run, wanted: &mut Vec<(u32, u32)>)
+fn want_one(plan: &Plan, negated: u32, before: u32, run: &Run, wanted: &mut Vec<(u32, u32)>)
     requires compiled { IsCompiled plan.now }
     requires good { Good plan.now (kept run.now) }
+    requires negated { negated ≡ negated_count plan.now.elements }
     requires room { vec_len wanted.old < vec_capacity wanted.old }
     ensures added { wanted.new.items
         ≡ wanted.old.items ++ wanted_by plan.now (before, kept run.now) }
@@ -45,7 +60,7 @@ fn want_one(plan: &Plan, before: u32, run: &Run, wanted: &mut Vec<(u32, u32)>)
     ensures capacity { vec_capacity wanted.new ≡ vec_capacity wanted.old }
 {
     if !run.leaves() {
-        wanted.push_reserved((before, left(plan, run)));
+        wanted.push_reserved((before, left_beside(plan, negated, run)));
     }
 }
 
@@ -65,8 +80,9 @@ pub(crate) fn want_after(
 {
     // Each of the runs may have a pair: the room is made once.
     wanted.reserve(lefts.len())?;
+    let negated = negated_count(plan);
     for (at, before) in lefts.iter().enumerate() {
-        want_one(plan, *before, &runs[at], wanted);
+        want_one(plan, negated, *before, &runs[at], wanted);
     }
     Ok(())
 }
@@ -85,8 +101,9 @@ pub(crate) fn want_as_before(
     ensures err { OnErr result (wanted.new.items ≡ wanted.old.items) }
 {
     wanted.reserve(runs.len())?;
+    let negated = negated_count(plan);
     for run in runs {
-        let left = left(plan, run);
+        let left = left_beside(plan, negated, run);
         wanted.push_reserved((left, left));
     }
     Ok(())

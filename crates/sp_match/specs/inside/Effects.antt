@@ -11,7 +11,7 @@ use Rattle.sp_match.specs.declared.turns.Reception.TheVariants.{Passed, Taken, U
 use Rattle.sp_match.specs.declared.run.Fate.TheVariants.{Completes, Leaves}
 use Rattle.sp_match.specs.declared.moves.Move.{Move}
 use Rattle.sp_match.specs.public.Seen.{seen}
-use Rattle.sp_match.specs.inside.Taking.{last_again, next_element}
+use Rattle.sp_match.specs.inside.Taking.{guard_range, last_again, next_element}
 use Rattle.sp_match.specs.inside.Kept.{Kept, empty, grown, pairs, started, stays}
 
 -- Of the moves told, these come behind the old ones.
@@ -34,9 +34,9 @@ leaving_told k = AbandonedTold k.number
 abbrev pub use_told : List ℕ → Kept → List Told
 use_told ns k = if loses ns k then leaving_told k ∷ [] else []
 
--- a run of which it is known what it may take next
+-- a run of which it is known what counts for it next
 abbrev pub looking : Plan → Kept → Kept
-looking q k = record k { ahead = Some (record { element = next_element q (pairs k); again = last_again q (pairs k) }) }
+looking q k = record k { ahead = Some (record { element = next_element q (pairs k); again = last_again q (pairs k); guards = guard_range q (pairs k) }) }
 
 -- a run with the event bound to the name, before it is looked whether it is complete
 abbrev pub run_with_event : Plan → ℕ → Numbered → Kept → Kept

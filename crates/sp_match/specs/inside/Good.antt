@@ -1,11 +1,11 @@
 -- What every run of a matcher keeps.
 use Rattle.std.specs.Prelude.{◌≡◌, ◌⊎◌, ℕ, ◌+◌, ◌<◌, ◌≤◌, false, List, IfSome, length, map, slice_index_or}
-use Rattle.std.specs.List.{All, AllPairs, filter, range_with_len}
+use Rattle.std.specs.List.{All, AllPairs, filter}
 use Rattle.sp_plan.specs.declared.plan.Plan.{Plan}
 use Rattle.sp_plan.specs.declared.plan.Element.{Element}
-use Rattle.sp_plan.specs.declared.plan.Element.TheVariants.{One, Plus, Set}
+use Rattle.sp_plan.specs.declared.plan.Element.TheVariants.{One, Plus, Set, Never}
 use Rattle.sp_plan.specs.Bounds.{AllSmall}
-use Rattle.sp_plan.specs.Runs.{Pair, is_bound, used}
+use Rattle.sp_plan.specs.Runs.{Pair, bound_names, is_bound, used}
 use Rattle.sp_match.specs.inside.Kept.{Kept, CanUndo, before, pairs}
 use Rattle.sp_match.specs.inside.Taking.{IsAhead}
 
@@ -14,10 +14,11 @@ abbrev pub IsNamed : Element → Type 0
 IsNamed (One name) = name < 32
 IsNamed (Plus name) = name < 32
 IsNamed (Set first count) = (first + count ≤ 32) ⊎ (count ≡ 0)
+IsNamed (Never name) = name < 32
 
 -- how many names of the plan a run of these pairs has bound
 abbrev pub bound_count : Plan → List Pair → ℕ
-bound_count q r = length (filter (is_bound r) (range_with_len 0 (length q.names)))
+bound_count q r = length (filter (is_bound r) (bound_names q))
 
 -- The parts of a run fit together: the events, the flags and their count are those of its pairs, what it may take next is so where it
 -- is known, the numbers rise, and it would use those of consumed names.

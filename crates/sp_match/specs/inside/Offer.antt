@@ -16,7 +16,7 @@ use Rattle.sp_match.specs.inside.Takers.{AreTold, IsTold, mask_of}
 abbrev pub numbered : Offer → Numbered
 numbered o = (o.number, o.event.now)
 
--- whether an open run leaves that doesn't take the event
+-- whether the policy has each open run leave that doesn't take the event
 abbrev pub lets_leave : Offer → Bool
 lets_leave o = leaves o.plan.now.select o.plan.now o.event.now
 

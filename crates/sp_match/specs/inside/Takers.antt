@@ -1,5 +1,5 @@
--- What a matcher keeps beside its open runs, and which of them take an event: in bits, of which bit i is that of the run at place i.
-use Rattle.std.specs.Prelude.{◌≡◌, ℕ, ℤ, ◌<◌, ◌≤◌, Bool, true, false, ◌&&◌, List, [], length, map, take, None, Some, IfSome, slice_index_or}
+-- What a matcher keeps beside its open runs, and for which of them an event counts: in bits, of which bit i is that of the run at place i.
+use Rattle.std.specs.Prelude.{◌≡◌, ℕ, ℤ, ◌<◌, ◌≤◌, Bool, true, false, ◌&&◌, List, [], ◌++◌, length, map, take, None, Some, IfSome, slice_index_or}
 use Rattle.std.specs.Option.{option_map}
 use Rattle.std.specs.List.{last_or, list_any}
 use Rattle.sp_base.specs.Numbers.{is_among}
@@ -8,7 +8,7 @@ use Rattle.sp_plan.specs.declared.plan.Name.{Name}
 use Rattle.sp_plan.specs.declared.plan.Plan.{Plan}
 use Rattle.sp_plan.specs.Held.{held_columns, held_sides_read}
 use Rattle.sp_plan.specs.Masks.{has}
-use Rattle.sp_plan.specs.Runs.{Run, bound_events, name_holds, takes, wanted}
+use Rattle.sp_plan.specs.Runs.{Run, bound_events, guarded, guards, name_holds, takes, wanted}
 use Rattle.sp_plan.specs.Values.{BoundEvents, last_bound}
 use Rattle.sp_match.specs.declared.holdings.Holding.{Holding}
 use Rattle.sp_match.specs.declared.holdings.Holdings.{Holdings}
@@ -25,15 +25,19 @@ run_in rs at = slice_index_or rs at []
 abbrev pub mask_of : List ℕ → ℕ → ℕ
 mask_of masks name = slice_index_or masks name 0
 
--- whether a run may take the name next
-abbrev pub is_wanted : Plan → Run → ℕ → Bool
-is_wanted q r name = is_among (wanted q r) name
+-- the names whose predicates count for a run: those that it may take next, and those that guard it
+abbrev pub asked : Plan → Run → List ℕ
+asked q r = wanted q r ++ guards q r
 
--- whether a run may take the name next, and the event fulfils its predicate
+-- whether the predicate of a name counts for a run
+abbrev pub is_wanted : Plan → Run → ℕ → Bool
+is_wanted q r name = is_among (asked q r) name
+
+-- whether it does, and the event fulfils it
 abbrev pub takes_under : Plan → Event → Run → ℕ → Bool
 takes_under q e r name = is_wanted q r name && name_holds q r e name
 
--- The mask of each name is of the runs that may take it next.
+-- The mask of each name is of the runs for which its predicate counts.
 abbrev pub AreWanting : Plan → List Run → List ℕ → Type 0
 AreWanting q rs masks = (name at : ℕ) → name < length q.names → at < length rs → has (mask_of masks name) at ≡ is_wanted q (run_in rs at) name
 
@@ -81,6 +85,7 @@ pub record IsTold (q : Plan) (e : Event) (t : Takers) (at : ℕ) (r : Run) : Typ
   pub few : at < 64
   pub names : (name : ℕ) → has (mask_of t.masks.items name) at ≡ takes_under q e r name
   pub any : has t.any at ≡ false → takes q r e ≡ None
+  pub calm : has t.any at ≡ false → guarded q r e ≡ false
 
 -- So of each of these runs.
 abbrev pub AreTold : Plan → Event → Takers → List Run → Type 0
@@ -96,9 +101,9 @@ pub record GoesOn (q : Plan) (n : ℕ) (k : Kept) : Type 0 where
   pub idle : IsIdle k
   pub bound : IfSome (last_under n k) (λ name. IsRepeated q name k)
 
--- Both runs want the same names, and held sides read the same events of them.
+-- The same predicates count for both runs, and held sides read the same events of them.
 pub record AreAlike (q : Plan) (r s : Run) : Type 0 where
-  pub wants : wanted q r ≡ wanted q s
+  pub wants : asked q r ≡ asked q s
   pub reads : (name : ℕ) → is_read q name ≡ true → last_bound name (bound_events r) ≡ last_bound name (bound_events s)
 
 -- The runs are those after the event of the number n, of which so many were open when it came: these can be made as they were, and are so where nothing was done.

@@ -1,9 +1,10 @@
 -- The name under which a run takes an event, step by step.
-use Rattle.std.specs.Prelude.{◌≡◌, ℕ, ◌==◌, Bool, false, not, List, Option, Some, None, find, if◌then◌else◌}
+use Rattle.std.specs.Prelude.{◌≡◌, ℕ, ◌+◌, ◌==◌, Bool, false, not, List, length, Option, Some, None, filter, find, is_some, slice_index_or, if◌then◌else◌}
 use Rattle.std.specs.List.{last_or, list_any}
 use Rattle.sp_plan.specs.declared.plan.Element.{Element}
+use Rattle.sp_plan.specs.declared.plan.Element.TheVariants.{Never}
 use Rattle.sp_plan.specs.declared.plan.Plan.{Plan}
-use Rattle.sp_plan.specs.Runs.{Pair, is_filled, is_plus, unbound}
+use Rattle.sp_plan.specs.Runs.{Pair, guards, is_filled, is_plus, unbound}
 use Rattle.sp_match.specs.declared.run.Ahead.{Ahead}
 use Rattle.sp_match.specs.inside.Kept.{Kept}
 
@@ -24,9 +25,31 @@ again_name elements (Some pair) = if list_any (is_plus pair.name) elements then 
 abbrev pub last_again : Plan → List Pair → Option ℕ
 last_again q r = again_name q.elements (last_or None r)
 
--- what a run of these pairs may take next is so: the first element that it hasn't filled, and its last name once more
+-- the name of an element that is negated
+abbrev pub negated_name : Element → Option ℕ
+negated_name (Never name) = Some name
+negated_name element = None
+
+-- how many of these elements are negated
+abbrev pub negated_count : List Element → ℕ
+negated_count elements = length (filter (λ element. is_some (negated_name element)) elements)
+
+-- whether an element is the name, negated
+abbrev pub is_never : ℕ → Element → Bool
+is_never name (Never a) = a == name
+is_never name element = false
+
+-- the first of these names, which are numbered in a row, and the number behind the last
+abbrev pub range_of : List ℕ → ℕ × ℕ
+range_of names = (slice_index_or names 0 0, slice_index_or names 0 0 + length names)
+
+-- the names that guard a run of these pairs, as such a range
+abbrev pub guard_range : Plan → List Pair → ℕ × ℕ
+guard_range q r = range_of (guards q r)
+
+-- what counts for a run of these pairs next is so: the first element that it hasn't filled, its last name once more, and the names that guard it
 abbrev pub IsAhead : Plan → List Pair → Ahead → Type 0
-IsAhead q r ahead = (ahead.element ≡ next_element q r) × (ahead.again ≡ last_again q r)
+IsAhead q r ahead = (ahead.element ≡ next_element q r) × (ahead.again ≡ last_again q r) × (ahead.guards ≡ guard_range q r)
 
 -- whether this is the name
 abbrev pub is_again : ℕ → Option ℕ → Bool

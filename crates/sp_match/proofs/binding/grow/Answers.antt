@@ -19,7 +19,7 @@ use Rattle.sp_match.proofs.binding.grow.Goals as goal
 pub grow-requires : goal.grow-requires
 grow-requires c =
     let k = kept c.args.run.now in
-    let most = bound_few c.args.offer.now.plan.now (pairs k) in
+    let most = bound_few c.args.offer.now.plan.now (pairs k) c.requires.offer.compiled in
     record {
       named = omega (arith, c.requires.named, c.requires.offer.compiled.names);
       flags = c.requires.good.flags;
@@ -32,7 +32,7 @@ look_on-requires-clause-good c =
     let q = c.args.offer.now.plan.now in
     let k = kept c.args.run.now in
     let is : kept c.grow.new.self ≡ grown c.args.name (is_consumed (slice_get q.names c.args.name)) c.args.offer.now.number c.args.offer.now.event.now k = c.in_ok-grow.ensures.grown ∙ (λ i. grown c.args.name (c.is_consumed-consumed.ensures i) c.args.offer.now.number (c.in_ok-event.ensures.event i) k) in
-    subst (Good q) (sym is) (good_grown q c.args.name c.args.offer.now.number c.args.offer.now.event.now k c.requires.good c.requires.named c.requires.offer.compiled.names c.requires.offer.small c.requires.below)
+    subst (Good q) (sym is) (good_grown q c.args.name c.args.offer.now.number c.args.offer.now.event.now k c.requires.good c.requires.named c.requires.offer.compiled c.requires.binds c.requires.offer.small c.requires.below)
 
 pub look_on-requires-clause-known : goal.look_on-requires-clause-known
 look_on-requires-clause-known c =
@@ -47,21 +47,21 @@ returns-in_err-push-clause-undoes c =
     let q = c.args.offer.now.plan.now in
     let k = kept c.args.run.now in
     let is : kept c.look_on.new.run ≡ run_with_event q c.args.name (c.args.offer.now.number, c.args.offer.now.event.now) k = c.look_on.ensures ∙ ap (looking q) c.in_ok-grow.ensures.grown ∙ (λ i. looking q (grown c.args.name (c.is_consumed-consumed.ensures i) c.args.offer.now.number (c.in_ok-event.ensures.event i) k)) in
-    subst (RunUndoes q c.args.offer.now.number k) (sym is) (run_bound q c.args.name (c.args.offer.now.number, c.args.offer.now.event.now) k c.requires.good c.requires.named c.requires.offer.compiled.names c.requires.offer.small c.requires.below)
+    subst (RunUndoes q c.args.offer.now.number k) (sym is) (run_bound q c.args.name (c.args.offer.now.number, c.args.offer.now.event.now) k c.requires.good c.requires.named c.requires.offer.compiled c.requires.binds c.requires.offer.small c.requires.below)
 
 pub finish-requires-clause-good : goal.finish-requires-clause-good
 finish-requires-clause-good c =
     let q = c.args.offer.now.plan.now in
     let k = kept c.args.run.now in
     let is : kept c.look_on.new.run ≡ run_with_event q c.args.name (c.args.offer.now.number, c.args.offer.now.event.now) k = c.look_on.ensures ∙ ap (looking q) c.in_ok-grow.ensures.grown ∙ (λ i. looking q (grown c.args.name (c.is_consumed-consumed.ensures i) c.args.offer.now.number (c.in_ok-event.ensures.event i) k)) in
-    subst (Good q) (sym is) (run_bound q c.args.name (c.args.offer.now.number, c.args.offer.now.event.now) k c.requires.good c.requires.named c.requires.offer.compiled.names c.requires.offer.small c.requires.below).good
+    subst (Good q) (sym is) (run_bound q c.args.name (c.args.offer.now.number, c.args.offer.now.event.now) k c.requires.good c.requires.named c.requires.offer.compiled c.requires.binds c.requires.offer.small c.requires.below).good
 
 pub returns-in_err-is_whole-clause-undoes : goal.returns-in_err-is_whole-clause-undoes
 returns-in_err-is_whole-clause-undoes c =
     let q = c.args.offer.now.plan.now in
     let k = kept c.args.run.now in
     let is : kept c.look_on.new.run ≡ run_with_event q c.args.name (c.args.offer.now.number, c.args.offer.now.event.now) k = c.look_on.ensures ∙ ap (looking q) c.in_ok-grow.ensures.grown ∙ (λ i. looking q (grown c.args.name (c.is_consumed-consumed.ensures i) c.args.offer.now.number (c.in_ok-event.ensures.event i) k)) in
-    subst (RunUndoes q c.args.offer.now.number k) (sym (c.in_err-is_whole.ensures.err ∙ is)) (run_bound q c.args.name (c.args.offer.now.number, c.args.offer.now.event.now) k c.requires.good c.requires.named c.requires.offer.compiled.names c.requires.offer.small c.requires.below)
+    subst (RunUndoes q c.args.offer.now.number k) (sym (c.in_err-is_whole.ensures.err ∙ is)) (run_bound q c.args.name (c.args.offer.now.number, c.args.offer.now.event.now) k c.requires.good c.requires.named c.requires.offer.compiled c.requires.binds c.requires.offer.small c.requires.below)
 
 pub returns : goal.returns
 returns c =
@@ -69,7 +69,7 @@ returns c =
     let k = kept c.args.run.now in
     let k' = run_with_event q c.args.name (c.args.offer.now.number, c.args.offer.now.event.now) k in
     let is : kept c.look_on.new.run ≡ k' = c.look_on.ensures ∙ ap (looking q) c.in_ok-grow.ensures.grown ∙ (λ i. looking q (grown c.args.name (c.is_consumed-consumed.ensures i) c.args.offer.now.number (c.in_ok-event.ensures.event i) k)) in
-    let undoes = run_bound q c.args.name (c.args.offer.now.number, c.args.offer.now.event.now) k c.requires.good c.requires.named c.requires.offer.compiled.names c.requires.offer.small c.requires.below in
+    let undoes = run_bound q c.args.name (c.args.offer.now.number, c.args.offer.now.event.now) k c.requires.good c.requires.named c.requires.offer.compiled c.requires.binds c.requires.offer.small c.requires.below in
     let now : kept c.finish.new.run ≡ run_if_complete q k' = c.in_ok-is_whole.ensures.run ∙ ap (run_if_complete q) is in
     let before = map seen c.args.list.now.items in
     let grew : Told = GrownTold k.number c.args.offer.now.number in

@@ -14,7 +14,7 @@ use Rattle.sp_match.specs.inside.Effects.{runs_after_binding, runs_binding_told}
 use Rattle.sp_match.specs.inside.Going.{Going, IsReady, standing, starting}
 use Rattle.sp_match.specs.inside.Handling.{IsHandled}
 use Rattle.sp_match.specs.public.Seen.{seen}
-use Rattle.sp_match.proofs.TakenIsNamed.{takes_named}
+use Rattle.sp_match.proofs.TakenIsNamed.{takes_binding, takes_named}
 use Rattle.sp_match.proofs.RunsUndo.{undoes_on}
 use Rattle.sp_match.proofs.EventIsHandled.{none_starts, one_starts, started_name}
 use Rattle.sp_match.proofs.QuietTurns.{never_empty}
@@ -78,6 +78,16 @@ open-requires-clause-named c =
     (map seen c.offer_to_all.new.list.items) c.in_ok-so_far.so_far c.start_name.result c.requires.ready c.deref_mut.ensures.value (c.offer_to_all.auto.runs ∙ c.deref_mut.ensures.len) c.deref_mut.ensures.len
     c.deref.ensures.value c.in_ok-so_far.ensures.undoes c.in_ok-so_far.ensures.going c.start_name.ensures in
     takes_named q [] c.args.offer.now.event.now c.in-Some.name
+    (started_name q x (standing c.args.count (map kept c.args.runs.now.items)) c.in-Some.name (sym c.in-Some.is ∙ t.name_is (standing c.args.count (map kept c.args.runs.now.items)) refl))
+
+pub open-requires-clause-binds : goal.open-requires-clause-binds
+open-requires-clause-binds c =
+    let q = c.args.offer.now.plan.now in
+    let x : Numbered = (c.args.offer.now.number, c.args.offer.now.event.now) in
+    let t = turned q x c.args.count c.args.runs.now.len c.args.runs.now.items c.deref_mut.result.now c.offer_to_all.new.runs (drop (length c.offer_to_all.new.runs) c.args.runs.now.items) c.deref.result.now
+    (map seen c.offer_to_all.new.list.items) c.in_ok-so_far.so_far c.start_name.result c.requires.ready c.deref_mut.ensures.value (c.offer_to_all.auto.runs ∙ c.deref_mut.ensures.len) c.deref_mut.ensures.len
+    c.deref.ensures.value c.in_ok-so_far.ensures.undoes c.in_ok-so_far.ensures.going c.start_name.ensures in
+    takes_binding q [] c.args.offer.now.event.now c.in-Some.name
     (started_name q x (standing c.args.count (map kept c.args.runs.now.items)) c.in-Some.name (sym c.in-Some.is ∙ t.name_is (standing c.args.count (map kept c.args.runs.now.items)) refl))
 
 pub returns-in_err-open-in-Some-clause-undoes : goal.returns-in_err-open-in-Some-clause-undoes

@@ -1,22 +1,6 @@
-use Rattle.std.proofs.Common.{◌≡◌, ◌+◌, ◌-◌, ◌<◌, false, sym, ap, ◌∙◌, arith}
-use Rattle.std.specs.Prelude.{nat_lt}
-use lib.Dec.{leb}
-use Rattle.std.proofs.lemmas.Bool.Decides.{nat_tests}
+use Rattle.std.proofs.Common.{sym, ap, ◌∙◌}
 use Rattle.sp_base.specs.Numbers.{is_among}
-use Rattle.sp_match.proofs.TakersTell.{before_range, within_range}
 use Rattle.sp_match.proofs.taking.names.Goals as goal
 
-pub returns-then-first-name : goal.returns-then-first-name
-returns-then-first-name c =
-    let first = c.span-first.result.0 in
-    let past = c.span-first.result.1 in
-    let e : first + (past - first) ≡ past = omega (arith, c.span-first.ensures.ordered) in
-    sym (ap (λ ns. is_among ns c.args.name) c.span-first.ensures.names ∙ within_range c.args.name first (past - first) c.if-first-name.true ∙ ap (nat_lt c.args.name) e)
-
-pub returns-else-first-name : goal.returns-else-first-name
-returns-else-first-name c =
-    let first = c.span-first.result.0 in
-    let past = c.span-first.result.1 in
-    let below : c.args.name < first = omega (arith, c.if-first-name.false) in
-    let no : leb first c.args.name ≡ false = grind (arith, nat_tests) in
-    no ∙ sym (ap (λ ns. is_among ns c.args.name) c.span-first.ensures.names ∙ before_range c.args.name first (past - first) below)
+pub returns : goal.returns
+returns c = c.is_within.ensures ∙ sym (ap (λ ns. is_among ns c.args.name) c.span-first.ensures.names)

@@ -10,7 +10,6 @@ use Rattle.sp_match.specs.declared.turns.Reception.TheVariants.{Passed}
 use Rattle.sp_match.proofs.RunsUndo.{all_stay, undoes_on}
 use Rattle.sp_match.proofs.AllTurnsGoOn.{below_at_hand, going_more, going_start, pairs_at_hand}
 use Rattle.sp_match.proofs.TakersTell.{told_here}
-use Rattle.sp_match.specs.inside.Offer.{lets_leave}
 use Rattle.sp_match.proofs.QuietTurns.{turn_quiet}
 use Rattle.sp_match.proofs.turns.offer_to_all.Goals as goal
 
@@ -60,7 +59,7 @@ loop-at-preserved c =
       going = λ s is. going_more q x s c.requires.ready.0 c.loop-at.at old (map kept c.loop-at.runs) (map kept c.turn.new.runs) (map seen c.loop-at.list.items) (map seen c.turn.new.list.items)
           c.loop-at.so_far c.in_ok-so_far.so_far c.requires.offer.compiled.names c.requires.ready.1 within c.loop-at.invariant.undoes (c.loop-at.invariant.going s is) c.in_ok-so_far.ensures.turned;
       quiet = λ e.
-          let turn = turn_quiet q (lets_leave c.args.offer.now) c.loop-at.at x (map kept c.loop-at.runs) (map kept c.turn.new.runs) (map seen c.loop-at.list.items) (map seen c.turn.new.list.items) c.loop-at.so_far c.in_ok-so_far.so_far
+          let turn = turn_quiet q c.loop-at.at x (map kept c.loop-at.runs) (map kept c.turn.new.runs) (map seen c.loop-at.list.items) (map seen c.turn.new.list.items) c.loop-at.so_far c.in_ok-so_far.so_far
           c.in_ok-so_far.ensures.turned e in
           turn.1 ∙ c.loop-at.invariant.quiet turn.0;
       shared = c.in_ok-so_far.ensures.shared;

@@ -6,8 +6,8 @@ use Rattle.sp_match.specs.inside.Good.{Good}
 use Rattle.sp_match.proofs.RunsUndo.{good_here}
 use Rattle.sp_match.proofs.wanting.want_before.Goals as goal
 
-pub left-requires-clause-good : goal.left-requires-clause-good
-left-requires-clause-good c =
+pub left_beside-requires-clause-good : goal.left_beside-requires-clause-good
+left_beside-requires-clause-good c =
     subst (λ (r : Run). Good c.args.plan.now (kept r)) (sym c.run-item.is) (good_here c.args.plan.now c.args.runs.now c.loop-run.run-index c.run-item.result c.loop-run-test.true c.requires.good)
 
 pub loop-run-preserved : goal.loop-run-preserved

@@ -1,7 +1,7 @@
-use Rattle.std.proofs.Common.{◌≡◌, ℕ, List, [], None, map, refl, sym, ap, subst, ◌∙◌}
+use Rattle.std.proofs.Common.{◌≡◌, ℕ, false, List, [], None, map, refl, sym, ap, subst, ◌∙◌}
 use Rattle.sp_plan.specs.declared.plan.Plan.{Plan}
 use Rattle.sp_plan.specs.Windows.{Numbered}
-use Rattle.sp_plan.specs.Runs.{Run, takes}
+use Rattle.sp_plan.specs.Runs.{Run, guarded, takes}
 use Rattle.sp_match.specs.declared.known.Known.{Known}
 use Rattle.sp_match.specs.declared.known.Known.TheVariants.{Never}
 use Rattle.sp_match.specs.public.Known.{IsKnown}
@@ -12,12 +12,12 @@ use Rattle.sp_match.proofs.MatcherAfterEvent.{ordered_as}
 use Rattle.sp_match.proofs.NothingIsDone.{untouched}
 use Rattle.sp_match.proofs.matcher.Matcher.ignores.Goals as goal
 
--- an event that no run takes
+-- an event that no run takes, and that is held against none
 never : (q : Plan) (count : ℕ) (ks : List Kept) (m : Matching) → (record { plan = q; open_runs = map started ks; started = count }) ≡ m → IsKept q count ks
     → (known : Known) → known ≡ Never → (x : Numbered) → IsKnown m.plan x.1 known → IsAfter x m m × TellsEvent x m [] × TellsWanted x m (wanted_as_before m)
 never q count ks m view own known is x so =
-    let every : (r : Run) → takes m.plan r x.1 ≡ None = subst (IsKnown m.plan x.1) is so in
-    untouched m.plan x (every []) m
+    let every : (r : Run) → (takes m.plan r x.1 ≡ None) × (guarded m.plan r x.1 ≡ false) = subst (IsKnown m.plan x.1) is so in
+    untouched m.plan x (every []).0 m
     (λ s stands. ordered_as count ks s own.ordered (sym stands.open_is ∙ sym (ap (λ (n : Matching). n.open_runs) view)) (sym stands.started_is ∙ sym (ap (λ (n : Matching). n.started) view)))
     (λ i run within. every _) refl
 
