@@ -1,16 +1,14 @@
 -- The names of a plan with their events in front of texts.
-use Rattle.std.proofs.Common.{◌≡◌, ◌≢◌, ℕ, suc, ◌+◌, ◌-◌, ◌<◌, ◌≤◌, ◌^◌, false, List, [], ◌∷◌, ◌++◌, length, get_or, map, refl, sym, ◌∙◌, ap, subst, arith, append_assoc, append-nil}
+use Rattle.std.proofs.Common.{◌≡◌, ◌≢◌, ℕ, ◌+◌, ◌<◌, ◌≤◌, ◌^◌, false, List, [], ◌∷◌, ◌++◌, drop, length, get_or, map, take, refl, sym, ◌∙◌, ap, subst, arith, append_assoc, append-nil}
 use Rattle.std.specs.Prelude.{codes, slice_get}
-use Rattle.std.specs.List.{All, flat_map, range_with_len}
+use Rattle.std.specs.List.{All, flat_map}
 use Rattle.std.proofs.lemmas.Grind.{flat_map-append}
-use Rattle.std.proofs.lemmas.List.{append_cancel_left, map-append, map-id}
+use Rattle.std.proofs.lemmas.List.{append_cancel_left, drop_all, drop_more, map-append, take_all, take_more}
 use Rattle.std.proofs.lemmas.List.Elements.{All-nil, All-head, All-tail, All-push}
-use Rattle.std.proofs.lemmas.Option.{slice_get_read}
-use Rattle.std.proofs.lemmas.List.FromFn.{map-range_with_len_more}
 use Rattle.sp_base.specs.Commas.{commas}
 use Rattle.sp_plan.specs.declared.plan.Plan.{Plan}
-use Rattle.sp_plan.specs.declared.plan.Name.{Name}
 use Rattle.sp_plan.specs.Lines.{binding_text, name_text}
+use Rattle.sp_plan.specs.Runs.{bound_names}
 use Rattle.sp_emit.specs.Matches.{ArePlaces}
 use Rattle.sp_emit.specs.Reading.{heads, goes_on, PlacesAt, BindingAt, BindingsAt}
 use Rattle.sp_emit.proofs.Commas.{places_one}
@@ -42,11 +40,6 @@ before_used_ends q (pair ∷ bound) rest = refl
 -- a name with its events, and what follows
 binding_then : (q : Plan) (pair : Binding) (l : List ℕ) → binding_text q pair ++ l ≡ codes " " ++ (name_text (slice_get q.names pair.0) ++ (codes "=" ++ (commas pair.1 ++ l)))
 binding_then q pair l = simp append_assoc
-
--- the text of the name at this place
-pub text_of : (q : Plan) (names : List Name) (i : ℕ) (name : Name) → names ≡ q.names → i < length names → name ≡ get_or names i name → name.text ≡ name_text (slice_get q.names i)
-text_of q names i name same inside is =
-    ap name_text (sym (slice_get_read names (length names) i name refl inside is)) ∙ ap (λ (l : List Name). name_text (slice_get l i)) same
 
 -- behind a name stand its events
 pub behind_name : (text name rest ns r : List ℕ) → text ≡ codes " " ++ (name ++ (codes "=" ++ rest)) → BindingAt name text ns r → PlacesAt rest ns r
@@ -100,7 +93,7 @@ bindings_one q text a b r s c d = bound_one q a b r s (c.binds.names ∙ sym d.b
 pub record Coming (q : Plan) (bound : List Binding) (rest : List ℕ) (i : ℕ) (all : List Binding) (r : List ℕ) : Type 0 where
   pub more : List Binding
   pub all_is : all ≡ bound ++ more
-  pub names : numbers more ≡ range_with_len i (length q.names - i)
+  pub names : numbers more ≡ drop i (bound_names q)
   pub each : All HasSome more
   pub bytes : All IsByte more
   pub are : All HasPlaces more
@@ -108,7 +101,7 @@ pub record Coming (q : Plan) (bound : List Binding) (rest : List ℕ) (i : ℕ) 
 
 -- The bindings read so far, and that all bindings in front of the text begin with them.
 pub record Going (q : Plan) (text : List ℕ) (bound : List Binding) (rest : List ℕ) (i : ℕ) : Type 0 where
-  pub names : numbers bound ≡ range_with_len 0 i
+  pub names : numbers bound ≡ take i (bound_names q)
   pub each : All HasSome bound
   pub bytes : All IsByte bound
   pub are : All HasPlaces bound
@@ -122,41 +115,42 @@ sets_out q text bound e = subst (λ (l : List Binding). Going q text l text 0) (
   bytes = All-nil IsByte;
   are = All-nil HasPlaces;
   cut = refl;
-  only = λ all r a. record { more = all; all_is = refl; names = a.binds.names ∙ ap (λ (n : ℕ). range_with_len 0 n) (let z : length q.names ≡ length q.names - 0 = omega arith in z); each = a.binds.each; bytes = a.names; are = a.are; rest_is = a.cut };
+  only = λ all r a. record { more = all; all_is = refl; names = a.binds.names; each = a.binds.each; bytes = a.names; are = a.are; rest_is = a.cut };
 })
 
-range_more : (n i : ℕ) → i < n → range_with_len i (n - i) ≡ i ∷ range_with_len (i + 1) (n - (i + 1))
-range_more n i h = let e : n - i ≡ suc (n - (i + 1)) = omega arith in rw e refl
-
 module _ (q : Plan) (text : List ℕ) (bound : List Binding) (rest : List ℕ) (i : ℕ) (g : Going q text bound rest i) where
-  module _ (inside : i < length q.names) where
+  module _ (at : ℕ) (inside : i < length (bound_names q)) (at_is : at ≡ get_or (bound_names q) i at) where
+    -- that name is the next
+    cut_here : drop i (bound_names q) ≡ at ∷ drop (i + 1) (bound_names q)
+    cut_here = drop_more (bound_names q) i at inside ∙ ap (λ (n : ℕ). n ∷ drop (i + 1) (bound_names q)) (sym at_is)
+
     -- the next of the bindings in front of a text
     pub record Next (all : List Binding) (r : List ℕ) : Type 0 where
       pub pair : Binding
       pub more : List Binding
-      pub is : pair.0 ≡ i
+      pub is : pair.0 ≡ at
       pub all_is : all ≡ bound ++ pair ∷ more
-      pub names : numbers more ≡ range_with_len (i + 1) (length q.names - (i + 1))
+      pub names : numbers more ≡ drop (i + 1) (bound_names q)
       pub each : All HasSome (pair ∷ more)
       pub bytes : All IsByte (pair ∷ more)
       pub are : All HasPlaces (pair ∷ more)
       pub rest_is : rest ≡ before_used q (pair ∷ more) r
 
     next : (all : List Binding) (r : List ℕ) → BindingsAt q text all r → Next all r
-    next all r a = let c = g.only all r a in by c.more c.all_is (c.names ∙ range_more (length q.names) i inside) c.each c.bytes c.are c.rest_is
+    next all r a = let c = g.only all r a in by c.more c.all_is (c.names ∙ cut_here) c.each c.bytes c.are c.rest_is
       where
-        by : (more : List Binding) → all ≡ bound ++ more → numbers more ≡ i ∷ range_with_len (i + 1) (length q.names - (i + 1)) → All HasSome more → All IsByte more → All HasPlaces more → rest ≡ before_used q more r → Next all r
+        by : (more : List Binding) → all ≡ bound ++ more → numbers more ≡ at ∷ drop (i + 1) (bound_names q) → All HasSome more → All IsByte more → All HasPlaces more → rest ≡ before_used q more r → Next all r
         by [] b c d e f h = cc
         by (pair ∷ more) b c d e f h = record { pair = pair; more = more; is = cc; all_is = b; names = cc; each = d; bytes = e; are = f; rest_is = h }
 
-    pub none_past_bytes : 2 ^ 8 ≤ i → (all : List Binding) (r : List ℕ) → BindingsAt q text all r → ⊥
+    pub none_past_bytes : 2 ^ 8 ≤ at → (all : List Binding) (r : List ℕ) → BindingsAt q text all r → ⊥
     none_past_bytes past all r a =
         let n = next all r a in
-        let is : n.pair.0 ≡ i = n.is in
+        let is : n.pair.0 ≡ at = n.is in
         let byte : n.pair.0 < 2 ^ 8 = All-head IsByte n.pair n.more n.bytes in
         omega arith
 
-    module _ (name : List ℕ) (name_is : name ≡ name_text (slice_get q.names i)) where
+    module _ (name : List ℕ) (name_is : name ≡ name_text (slice_get q.names at)) where
       next_at : (all : List Binding) (r : List ℕ) (n : Next all r) → BindingAt name rest n.pair.1 (before_used q n.more r)
       next_at all r n =
           first_binding q rest name n.pair n.more r (name_is ∙ ap (λ (k : ℕ). name_text (slice_get q.names k)) (sym n.is)) (All-head HasSome n.pair n.more n.each) (All-head HasPlaces n.pair n.more n.are) n.rest_is
@@ -164,9 +158,9 @@ module _ (q : Plan) (text : List ℕ) (bound : List Binding) (rest : List ℕ) (
       pub none_next : ((ns after : List ℕ) → BindingAt name rest ns after → ⊥) → (all : List Binding) (r : List ℕ) → BindingsAt q text all r → ⊥
       none_next none all r a = let n = next all r a in none n.pair.1 (before_used q n.more r) (next_at all r n)
 
-      pub goes : (items : List Binding) (k : ℕ) (ns after : List ℕ) → items ≡ bound ++ (k, ns) ∷ [] → k ≡ i → k < 2 ^ 8 → BindingAt name rest ns after → Going q text items after (i + 1)
+      pub goes : (items : List Binding) (k : ℕ) (ns after : List ℕ) → items ≡ bound ++ (k, ns) ∷ [] → k ≡ at → k < 2 ^ 8 → BindingAt name rest ns after → Going q text items after (i + 1)
       goes items k ns after e same byte b = subst (λ (l : List Binding). Going q text l after (i + 1)) (sym e) (record {
-        names = map-append (λ pair. pair.0) bound ((k, ns) ∷ []) ∙ (λ j. g.names j ++ same j ∷ []) ∙ sym (range_push i);
+        names = map-append (λ pair. pair.0) bound ((k, ns) ∷ []) ∙ (λ j. g.names j ++ (same ∙ at_is) j ∷ []) ∙ sym (take_more (bound_names q) i at inside);
         each = All-push HasSome bound (k, ns) g.each b.some;
         bytes = All-push IsByte bound (k, ns) g.bytes byte;
         are = All-push HasPlaces bound (k, ns) g.are b.are;
@@ -178,9 +172,6 @@ module _ (q : Plan) (text : List ℕ) (bound : List Binding) (rest : List ℕ) (
         only = λ all r a. only all r (next all r a);
       })
         where
-          range_push : (n : ℕ) → range_with_len 0 (n + 1) ≡ range_with_len 0 n ++ n ∷ []
-          range_push n = sym (map-id (range_with_len 0 (n + 1))) ∙ map-range_with_len_more (λ (x : ℕ). x) 0 n n (omega arith) ∙ ap (λ (l : List ℕ). l ++ n ∷ []) (map-id (range_with_len 0 n))
-
           one_binding : (ns after : List ℕ) → flat_map (binding_text q) ((k, ns) ∷ []) ++ after ≡ codes " " ++ (name ++ (codes "=" ++ (commas ns ++ after)))
           one_binding ns after =
               ap (λ (l : List ℕ). l ++ after) (append-nil (binding_text q (k, ns)))
@@ -202,10 +193,10 @@ module _ (q : Plan) (text : List ℕ) (bound : List Binding) (rest : List ℕ) (
                 rest_is = sym p.1;
               }
 
-  module _ (through : i ≡ length q.names) where
+  module _ (through : length (bound_names q) ≤ i) where
     -- no binding is left
     rest_at_end : (all : List Binding) (r : List ℕ) → BindingsAt q text all r → rest ≡ codes " used=" ++ r
-    rest_at_end all r a = let c = g.only all r a in by c.more (c.names ∙ ap (λ (n : ℕ). range_with_len i n) (let z : length q.names - i ≡ 0 = omega arith in z)) c.rest_is
+    rest_at_end all r a = let c = g.only all r a in by c.more (c.names ∙ drop_all i (bound_names q) through) c.rest_is
       where
         by : (more : List Binding) → numbers more ≡ [] → rest ≡ before_used q more r → rest ≡ codes " used=" ++ r
         by [] n e = e
@@ -216,7 +207,7 @@ module _ (q : Plan) (text : List ℕ) (bound : List Binding) (rest : List ℕ) (
 
     pub arrives : (after : List ℕ) → rest ≡ codes " used=" ++ after → BindingsAt q text bound after
     arrives after e = record {
-      binds = record { names = g.names ∙ ap (λ (n : ℕ). range_with_len 0 n) through; each = g.each };
+      binds = record { names = g.names ∙ take_all i (bound_names q) through; each = g.each };
       names = g.bytes;
       are = g.are;
       cut = g.cut ∙ ap (λ (l : List ℕ). flat_map (binding_text q) bound ++ l) e;

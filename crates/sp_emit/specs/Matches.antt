@@ -1,17 +1,18 @@
 -- Which matches a plan can have, and which text is the line of one.
-use Rattle.std.specs.Prelude.{◌≡◌, ◌≢◌, ℕ, ◌<◌, ◌^◌, List, [], length, map}
-use Rattle.std.specs.List.{All, range_with_len}
+use Rattle.std.specs.Prelude.{◌≡◌, ◌≢◌, ℕ, ◌<◌, ◌^◌, List, [], map}
+use Rattle.std.specs.List.{All}
 use Rattle.std.specs.List.Sorted.{IsStrictlyIncreasing}
 use Rattle.sp_plan.specs.declared.plan.Plan.{Plan}
 use Rattle.sp_plan.specs.declared.found.Match.{Match}
 use Rattle.sp_plan.specs.Lines.{line}
+use Rattle.sp_plan.specs.Runs.{bound_names}
 
--- Each name of the plan is bound once, in order, to at least one event.
+-- Each name of the plan that isn't negated is bound once, in order, to at least one event.
 pub record BindsNames (q : Plan) (bound : List (ℕ × List ℕ)) : Type 0 where
-  pub names : map (λ pair. pair.0) bound ≡ range_with_len 0 (length q.names)
+  pub names : map (λ pair. pair.0) bound ≡ bound_names q
   pub each : All (λ pair. pair.1 ≢ []) bound
 
--- The match binds each name of the plan once, in order, to at least one event.
+-- The match binds each name of the plan that isn't negated once, in order, to at least one event.
 abbrev pub Binds : Plan → Match → Type 0
 Binds q m = BindsNames q m.bound
 

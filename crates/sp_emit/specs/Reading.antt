@@ -72,7 +72,7 @@ pub record BindingAt (name text ns rest : List ℕ) : Type 0 where
   pub cut : text ≡ codes " " ++ (name ++ (codes "=" ++ (commas ns ++ rest)))
   pub ends : heads goes_on rest ≡ false
 
--- The text begins with each name of the plan and its events; behind them the consumed numbers are announced.
+-- The text begins with each name of the plan that isn't negated and its events; behind them the consumed numbers are announced.
 pub record BindingsAt (q : Plan) (text : List ℕ) (bound : List (ℕ × List ℕ)) (rest : List ℕ) : Type 0 where
   pub binds : BindsNames q bound
   pub names : All (λ pair. pair.0 < 2 ^ 8) bound

@@ -10,8 +10,8 @@ use sp_plan::{Listed, Match, Memory, Plan};
 use std::alloc::Global;
 
 /// The one match of which the text is the line under this plan; None exactly where it is the line of
-/// none. A line has each name of the plan once, in its order, with at least one event; window and
-/// events are numbers of 32 bits, the match's own of 64, decimal and without leading zeros; lists rise
+/// none. A line has each name of the plan that isn't negated once, in its order, with at least one event;
+/// window and events are numbers of 32 bits, the match's own of 64, decimal and without leading zeros; lists rise
 /// strictly; a dash stands where nothing is consumed, and one line feed at the end.
 pub fn read_match_line(alloc: Global, plan: &Plan, line: &str) -> Result<Option<Match>, Memory>
     ensures line { IfOk result

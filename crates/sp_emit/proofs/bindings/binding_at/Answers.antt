@@ -1,4 +1,4 @@
-use Rattle.std.proofs.Common.{◌≡◌, List, ℕ, ◌++◌, ◌∙◌, ap}
+use Rattle.std.proofs.Common.{◌≡◌, ◌++◌}
 use Rattle.std.specs.Prelude.{codes}
 use Rattle.std.proofs.lemmas.Result.{IfOk-weaker}
 use Rattle.sp_emit.proofs.Answering.{answers_map}
@@ -7,6 +7,5 @@ use Rattle.sp_emit.proofs.bindings.binding_at.Goals as goal
 
 pub returns-in-Some : goal.returns-in-Some
 returns-in-Some c =
-    let cut : c.args.text.now ≡ codes " " ++ (c.args.name.now.text ++ (codes "=" ++ c.in-Some.rest.now)) =
-    c.in-Some.ensures ∙ ap (λ (l : List ℕ). codes " " ++ (l ++ (codes "=" ++ c.in-Some.rest.now))) (c.as_bytes.ensures.value ∙ c.as_str.ensures) in
+    let cut : c.args.text.now ≡ codes " " ++ (c.args.name.now ++ (codes "=" ++ c.in-Some.rest.now)) = c.in-Some.ensures in
     IfOk-weaker _ _ _ (answers_map _ _ _ (λ ns r a. with_name _ _ _ ns r cut a) (λ ns r a. behind_name _ _ _ ns r cut a)) c.places_at.ensures
