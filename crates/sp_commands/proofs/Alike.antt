@@ -1,7 +1,7 @@
 -- Plans that are alike read, match and write alike.
-use Rattle.std.proofs.Common.{◌≡◌, ℕ, zero, suc, ◌+◌, Bool, false, not, List, [], ◌∷◌, ◌++◌, length, map, Option, Some, None, refl, ◌∙◌, ap}
+use Rattle.std.proofs.Common.{◌≡◌, ℕ, zero, suc, ◌+◌, Bool, false, not, List, [], ◌∷◌, ◌++◌, ◌||◌, length, map, Option, Some, None, refl, ◌∙◌, ap}
 use Rattle.std.specs.Prelude.{pos, is_some, is_none, slice_get, filter, find, ◌==◌, if◌then◌else◌, codes}
-use Rattle.std.specs.List.{fold, flat_map, filter_map, enumerate_from, range_with_len, list_all, last_or, zip}
+use Rattle.std.specs.List.{fold, flat_map, filter_map, enumerate_from, list_all, list_any, last_or, zip}
 use Rattle.std.specs.Fmt.{decimal}
 use Rattle.sp_base.specs.Commas.{commas, list_text}
 use Rattle.sp_base.specs.Numbers.{is_among}
@@ -20,7 +20,7 @@ use Rattle.sp_plan.specs.declared.found.Match.{Match}
 use Rattle.sp_plan.specs.Texts.{with_text}
 use Rattle.sp_plan.specs.Lines.{name_text, line, text}
 use Rattle.sp_plan.specs.Windows.{Numbered, Window, windows_by, window_from, numbered, windows, closed}
-use Rattle.sp_plan.specs.Runs.{Run, Started, State, Handling, Pair, unbound, is_filled, again, bound_events, fits_name, takes, is_complete, is_consumed, used, holds_one, numbers_under, fresh, completed, kept_with, grown, leaves, passed, offered, handle_run, may_start, started_with, handle, state, matched_runs}
+use Rattle.sp_plan.specs.Runs.{Run, Started, State, Handling, Pair, binds, departs, guarded, guards_behind, unbound, is_filled, again, bound_events, fits_name, takes, is_complete, is_consumed, used, holds_one, numbers_under, fresh, completed, kept_with, grown, leaves, passed, offered, handle_run, may_start, started_with, handle, state, matched_runs}
 use Rattle.sp_plan.specs.Sequential.{Progress, match_of, visible, after_window, seq, whole}
 use Rattle.sp_rows.specs.Rows.{RowsRead, ColumnAt, nothing, place_of, columns_at, is_place, header_or_fault, event_or_fault, first_fault, row_of_cells, by_cells}
 use Rattle.sp_rows.specs.Cells.{RowCells, blank, one, several, row_cells}
@@ -108,10 +108,14 @@ module _ (q p : Plan) (alike : Alike q p) where
   leaves_same First e = refl
   leaves_same Each e = refl
 
+  guarded_same : (r : Run) (e : Event) → guarded q r e ≡ guarded p r e
+  guarded_same r e = λ i. list_any (λ (name : ℕ). fits_same (slice_get q.names name) (slice_get p.names name) (alike.names name) r e i) (guards_behind (alike.elements i) r (last_or None r))
+
   passed_same : (h : Handling) (run : Started) (e : Event) → passed q h run e ≡ passed p h run e
   passed_same h run e =
       let leaving : leaves q.select q e ≡ leaves p.select p e = leaves_same q.select e ∙ ap (λ (s : Select). leaves s p e) alike.select in
-      λ i. if leaving i then h else kept_with h run
+      let departing : departs q run.1 e ≡ departs p run.1 e = λ i. leaving i || guarded_same run.1 e i in
+      λ i. if departing i then h else kept_with h run
 
   offered_same : (x : Numbered) (h : Handling) (run : Started) (name : Option ℕ) → offered q x h run name ≡ offered p x h run name
   offered_same x h run (Some name) = grown_same h _
@@ -158,7 +162,7 @@ module _ (q p : Plan) (alike : Alike q p) where
   windows_same events ended = opening_same q.opening p.opening q.length events ended alike.opening ∙ ap (λ (l : Length). windows_by p.opening l events ended) alike.length_is
 
   pub match_same : (window : ℕ) (run : ℕ × Run) → match_of q window run ≡ match_of p window run
-  match_same window run = λ i. record { window = window; number = run.0; bound = map (λ (name : ℕ). (name, numbers_under run.1 name)) (range_with_len 0 (alike.count i)); used = used_same run.1 i }
+  match_same window run = λ i. record { window = window; number = run.0; bound = map (λ (name : ℕ). (name, numbers_under run.1 name)) (flat_map binds (alike.elements i)); used = used_same run.1 i }
 
   after_same : (window : ℕ) (before : Progress) (runs : List Run) → after_window q window before runs ≡ after_window p window before runs
   after_same window before runs = λ i. record {

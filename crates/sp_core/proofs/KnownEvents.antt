@@ -3,18 +3,18 @@ use Rattle.std.proofs.Common.{◌≡◌, ℕ, zero, suc, List, [], ◌∷◌, �
 use Rattle.std.specs.List.{AllZip}
 use Rattle.sp_plan.specs.declared.event.Event.{Event}
 use Rattle.sp_plan.specs.declared.plan.Plan.{Plan}
-use Rattle.sp_plan.specs.Runs.{Run, takes}
+use Rattle.sp_plan.specs.Runs.{Run, guarded, takes}
 use Rattle.sp_match.specs.declared.known.Known.{Known}
 use Rattle.sp_match.specs.declared.known.Known.TheVariants.{Never, Onward, Any}
 use Rattle.sp_match.specs.public.Known.{IsKnown}
 
--- plans under which runs take the same events
+-- plans under which runs take the same events, and are guarded by the same
 abbrev TakeAlike : Plan → Plan → Type 0
-TakeAlike p q = (run : Run) (e : Event) → takes p run e ≡ takes q run e
+TakeAlike p q = (run : Run) (e : Event) → (takes p run e ≡ takes q run e) × (guarded p run e ≡ guarded q run e)
 
 known_alike : (p q : Plan) → TakeAlike p q → (e : Event) (known : Known) → IsKnown q e known → IsKnown p e known
-known_alike p q same e Never is = λ run. same run e ∙ is run
-known_alike p q same e Onward is = same [] e ∙ is
+known_alike p q same e Never is = λ run. ((same run e).0 ∙ (is run).0, (same run e).1 ∙ (is run).1)
+known_alike p q same e Onward is = (same [] e).0 ∙ is
 known_alike p q same e Any is = tt
 
 -- what is known of events under one is so under the other

@@ -130,7 +130,7 @@ module _ (h : Holding) (lent : Lent) (n : ℕ) (a : Leases h lent n) (r : Reache
         fit = subst (AllFit before.plan) (sym are) (all_fit before.plan h.plan _ same part);
         known_are = subst (λ (es : List Event). AllZip (IsKnown before.plan) es known) (sym are)
             (subst (AllZip (IsKnown before.plan) (lent_events h.events (ticket_of lent))) (sym known_is)
-            (all_known_alike before.plan h.plan (alike before.plan h.plan same).taken _ _ known_part));
+            (all_known_alike before.plan h.plan (λ run e. ((alike before.plan h.plan same).taken run e, (alike before.plan h.plan same).guarded_by run e)) _ _ known_part));
         below = below_runs lent.first before (inner h.plan h.events (version_of a.entry.entry))
             (subst (λ (m : Matching). Stands m (inner h.plan h.events (version_of a.entry.entry))) (sym matcher) held.stands) runs_below;
         few = omega (arith, fed.low, fed.high, fed.few, size);

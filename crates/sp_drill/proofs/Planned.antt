@@ -224,7 +224,7 @@ apart_three x y z xy xz yz =
     AllPairs-cons (λ one other. one ≢ other) x (y ∷ z ∷ []) of_x (AllPairs-cons (λ one other. one ≢ other) y (z ∷ []) of_y (apart_one z))
 
 price_reads : (first : ℕ) (by : Compare) → 0 < first → IsComparable (readable plan first) (price_is by)
-price_reads first by some = inr (record { scale = 2; within = lit≤ tt; left_is = refl; right_is = (some, refl) })
+price_reads first by some = inr (record { scale = 2; within = lit≤ tt; left_is = refl; right_is = ((some, refl), refl) })
 
 compiled : IsCompiled plan
 compiled =
@@ -242,6 +242,7 @@ compiled =
       names_apart = apart_three (codes "A") (codes "B") (codes "C") refl refl refl;
       elements = refl;
       sets = all_three IsSetOfMany (One 0) (Plus 1) (One 2) tt tt tt;
+      first = tt;
       last = tt;
       preds = all_three is_name a b c (tt, lit≤ tt) (tt, tt) (tt, tt);
       reads = (
