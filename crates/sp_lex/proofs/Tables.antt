@@ -97,7 +97,7 @@ all_words P i h all word =
 -- ---- marks
 
 abbrev pub marks : List Kernel
-marks = k.LeftRound ∷ k.RightRound ∷ k.LeftSquare ∷ k.RightSquare ∷ k.Comma ∷ k.Dot ∷ k.Plus ∷ k.Minus ∷ k.Star ∷ k.Equal ∷ k.Unequal ∷ k.Less ∷ k.AtMost ∷ k.Greater ∷ k.AtLeast ∷ []
+marks = k.LeftRound ∷ k.RightRound ∷ k.LeftSquare ∷ k.RightSquare ∷ k.Comma ∷ k.Dot ∷ k.Plus ∷ k.Minus ∷ k.Star ∷ k.Bang ∷ k.Equal ∷ k.Unequal ∷ k.Less ∷ k.AtMost ∷ k.Greater ∷ k.AtLeast ∷ []
 
 marked : (kernel : Kernel) (f : List ℕ) → mark kernel ≡ Some f → IsListed marks k.Comma kernel
 marked k.LeftRound f e = (0, lit< tt, refl)
@@ -109,12 +109,13 @@ marked k.Dot f e = (5, lit< tt, refl)
 marked k.Plus f e = (6, lit< tt, refl)
 marked k.Minus f e = (7, lit< tt, refl)
 marked k.Star f e = (8, lit< tt, refl)
-marked k.Equal f e = (9, lit< tt, refl)
-marked k.Unequal f e = (10, lit< tt, refl)
-marked k.Less f e = (11, lit< tt, refl)
-marked k.AtMost f e = (12, lit< tt, refl)
-marked k.Greater f e = (13, lit< tt, refl)
-marked k.AtLeast f e = (14, lit< tt, refl)
+marked k.Bang f e = (9, lit< tt, refl)
+marked k.Equal f e = (10, lit< tt, refl)
+marked k.Unequal f e = (11, lit< tt, refl)
+marked k.Less f e = (12, lit< tt, refl)
+marked k.AtMost f e = (13, lit< tt, refl)
+marked k.Greater f e = (14, lit< tt, refl)
+marked k.AtLeast f e = (15, lit< tt, refl)
 marked _ f e = absurd (none_some f e)
 
 -- the bytes of a mark

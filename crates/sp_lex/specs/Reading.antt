@@ -36,7 +36,7 @@ is_point b = b == 46
 
 -- whether a byte is a mark's first one
 abbrev pub is_mark_byte : ℕ → Bool
-is_mark_byte b = b == 40 || (b == 41 || (b == 91 || (b == 93 || (b == 44 || (b == 46 || (b == 43 || (b == 45 || (b == 42 || (b == 61 || (b == 60 || b == 62))))))))))
+is_mark_byte b = b == 40 || (b == 41 || (b == 91 || (b == 93 || (b == 44 || (b == 46 || (b == 43 || (b == 45 || (b == 42 || (b == 33 || (b == 61 || (b == 60 || b == 62)))))))))))
 
 -- the number with one more digit
 abbrev pub with_digit : ℕ → ℕ → ℕ

@@ -21,6 +21,7 @@ fn single(first: u8) -> Option<Kernel>
         b'+' => Some(Kernel::Plus),
         b'-' => Some(Kernel::Minus),
         b'*' => Some(Kernel::Star),
+        b'!' => Some(Kernel::Bang),
         b'=' => Some(Kernel::Equal),
         b'<' => Some(Kernel::Less),
         b'>' => Some(Kernel::Greater),

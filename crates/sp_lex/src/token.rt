@@ -95,6 +95,7 @@ pub enum Kernel {
     Plus,
     Minus,
     Star,
+    Bang,
     Equal,
     Unequal,
     Less,

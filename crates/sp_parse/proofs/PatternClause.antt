@@ -9,10 +9,11 @@ use Rattle.sp_query.specs.declared.mark.Mark.TheVariants as m
 use Rattle.sp_query.specs.declared.query.Ident.{Ident}
 use Rattle.sp_query.specs.declared.query.QueryElement.{QueryElement}
 use Rattle.sp_query.specs.declared.query.QueryElement.TheVariants as e
-use Rattle.sp_query.specs.Phrase.{One, Both, Built, Optional}
-use Rattle.sp_query.specs.Grammar.{span, kernel, mark, name, After, Between, Alone, MoreOf, Name, single, Single, Names, Element, Elements}
+use Rattle.sp_query.specs.Phrase.{One, Both, Either, Built, Optional}
+use Rattle.sp_query.specs.Grammar.{span, kernel, mark, name, After, Between, Alone, MoreOf, Name, single, Single, Names, Several, Negated, Element, Elements}
 use Rattle.sp_parse.specs.declared.stop.Stop.{Stop}
-use Rattle.sp_parse.specs.Reads.{heads, never, reads_as, among, head_as, Found, Stops, Answers}
+use Rattle.sp_parse.specs.Follow.{element_head}
+use Rattle.sp_parse.specs.Reads.{heads, never, reads_as, among, head_as, Found, Stops, TakesNone, Answers}
 use Rattle.sp_parse.proofs.Reading as r
 use Rattle.sp_parse.proofs.Reading.{Begins}
 use Rattle.sp_parse.proofs.Marks as one
@@ -142,46 +143,111 @@ abbrev set_of : List Token → List Ident → QueryElement
 set_of tokens names = e.Set names
 
 abbrev pub InSet : ℕ → List Token → QueryElement → Type 0
-InSet = λ n. Built set_of (SetOf n)
+InSet = λ _. Several
 
 pub set_begins : Begins (reads_as (kernel (mark m.Set))) InSet
 set_begins = r.built_begins set_of (reads_as (kernel (mark m.Set))) SetOf (f.clause_begins m.Set (λ _. Names) after_names names_some names_out)
 
--- a name or SET
-abbrev pub element_head : Token → Bool
-element_head = among (reads_as (kernel name)) (reads_as (kernel (mark m.Set)))
+-- ---- a negated name
+
+abbrev Denied : ℕ → List Token → Ident → Type 0
+Denied = λ _. After m.Bang Name
+
+abbrev never_of : List Token → Ident → QueryElement
+never_of tokens x = e.Never x (span tokens)
+
+pub negated_begins : Begins (reads_as (kernel (mark m.Bang))) (λ _. Negated)
+negated_begins = r.built_begins never_of (reads_as (kernel (mark m.Bang))) Denied (f.after_begins m.Bang (λ _. Name) never name_some)
+
+module _ (room : ℕ) (s : List Token) where
+  pub negated_mark_stops : (x : Stop) → TakesNone (kernel (mark m.Bang)) s x → Stops (λ _. Negated) never room s x
+  negated_mark_stops x h = f.built_stops never_of Denied never room s x (f.after_mark_stops m.Bang (λ _. Name) never name_some room s x h)
+
+  pub negated_name_stops : (m_ : List Token) (x : Stop) → IsOne (mark m.Bang) s tt m_ → Stops (λ _. Name) never room m_ x → Stops (λ _. Negated) never room s x
+  negated_name_stops m_ x i h = f.built_stops never_of Denied never room s x (f.after_stops m.Bang (λ _. Name) never name_some room s m_ x i h)
+
+  denied : (m_ rest : List Token) (a : Ident) → IsOne (mark m.Bang) s tt m_ → Found (λ _. Name) never room m_ a rest → Found Denied never room s a rest
+  denied m_ rest a i h = f.after_found m.Bang (λ _. Name) never name_some room s m_ rest a i h
+
+  pub negated_shorter : (m_ rest : List Token) (a : Ident) → IsOne (mark m.Bang) s tt m_ → Found (λ _. Name) never room m_ a rest → length rest < length s
+  negated_shorter m_ rest a i h = r.found_shorter Denied never (reads_as (kernel (mark m.Bang))) room s rest a (f.after_begins m.Bang (λ _. Name) never name_some) (denied m_ rest a i h)
+
+  pub negated_found : (m_ rest : List Token) (a : Ident) (at : Span) → IsOne (mark m.Bang) s tt m_ → Found (λ _. Name) never room m_ a rest → ((front : List Token) → s ≡ front ++ rest → at ≡ span front)
+      → Found (λ _. Negated) never room s (e.Never a at) rest
+  negated_found m_ rest a at i h value = r.built_as never_of Denied never room s rest a (e.Never a at) (λ front cut. ap (e.Never a) (value front cut)) (denied m_ rest a i h)
+
+-- ---- an element
+
+-- what an element is that is no name alone
+abbrev Marked : ℕ → List Token → QueryElement → Type 0
+Marked = λ _. Either Several Negated
+
+-- SET or the mark of a negated name
+abbrev pub marked_head : Token → Bool
+marked_head = among (reads_as (kernel (mark m.Set))) (reads_as (kernel (mark m.Bang)))
+
+pub marked_begins : Begins marked_head Marked
+marked_begins = r.either_begins (reads_as (kernel (mark m.Set))) (reads_as (kernel (mark m.Bang))) InSet (λ _. Negated) set_begins negated_begins
 
 pub element_begins : Begins element_head (λ _. Element)
-element_begins = r.either_begins (reads_as (kernel name)) (reads_as (kernel (mark m.Set))) (λ _. Single) InSet single_begins set_begins
+element_begins = r.either_begins (reads_as (kernel name)) marked_head (λ _. Single) Marked single_begins marked_begins
 
 pub element_some : Some_of (λ _. Element)
-element_some = f.left_some (λ _. Single) InSet single_some
+element_some = f.left_some (λ _. Single) Marked single_some
 
 pub set_no_name : (x : Kernel) → is_some (mark m.Set x) ≡ true → is_some (name x) ≡ false
 set_no_name (k.Word w.Set) h = refl
 set_no_name _ h = absurd cc
 
+bang_no_name : (x : Kernel) → is_some (mark m.Bang x) ≡ true → is_some (name x) ≡ false
+bang_no_name k.Bang h = refl
+bang_no_name _ h = absurd cc
+
+pub set_no_bang : (x : Kernel) → is_some (mark m.Set x) ≡ true → is_some (mark m.Bang x) ≡ false
+set_no_bang (k.Word w.Set) h = refl
+set_no_bang _ h = absurd cc
+
+bang_no_set : (x : Kernel) → is_some (mark m.Bang x) ≡ true → is_some (mark m.Set x) ≡ false
+bang_no_set k.Bang h = refl
+bang_no_set _ h = absurd cc
+
+pub marked_no_name : (x : Kernel) → (is_some (mark m.Set x) || is_some (mark m.Bang x)) ≡ true → is_some (name x) ≡ false
+marked_no_name (k.Name text) h = absurd cc
+marked_no_name _ h = refl
+
 module _ (room : ℕ) (s : List Token) where
+  -- behind SET
   pub element_set_stops : (x : Stop) → is_some (head_as (kernel (mark m.Set)) s) ≡ true → Stops SetOf never room s x → Stops (λ _. Element) after_single room s x
-  element_set_stops x is h = f.right_stops (λ _. Single) InSet after_single (reads_as (kernel name)) room s x single_begins (other (mark m.Set) name set_no_name s is)
-      (f.within_stops InSet never after_single (λ v _. r.heads_never v) room s x (f.built_stops set_of SetOf never room s x h))
+  element_set_stops x is h = f.right_stops (λ _. Single) Marked after_single (reads_as (kernel name)) room s x single_begins (other (mark m.Set) name set_no_name s is)
+      (f.left_stops InSet (λ _. Negated) after_single (reads_as (kernel (mark m.Bang))) room s x negated_begins (other (mark m.Set) (mark m.Bang) set_no_bang s is)
+      (f.within_stops InSet never after_single (λ v _. r.heads_never v) room s x (f.built_stops set_of SetOf never room s x h)))
 
   pub element_set_found : (rest : List Token) (names : List Ident) → is_some (head_as (kernel (mark m.Set)) s) ≡ true → Found SetOf never room s names rest → Found (λ _. Element) after_single room s (e.Set names) rest
-  element_set_found rest names is h = r.right_found (λ _. Single) InSet after_single (reads_as (kernel name)) room s rest (e.Set names) single_begins (other (mark m.Set) name set_no_name s is)
+  element_set_found rest names is h = r.right_found (λ _. Single) Marked after_single (reads_as (kernel name)) room s rest (e.Set names) single_begins (other (mark m.Set) name set_no_name s is)
+      (r.left_found InSet (λ _. Negated) after_single (reads_as (kernel (mark m.Bang))) room s rest (e.Set names) negated_begins (other (mark m.Set) (mark m.Bang) set_no_bang s is)
       (r.found_within InSet never after_single room s rest (e.Set names) (λ v _. r.heads_never v)
-      (r.built_as set_of SetOf never room s rest names (e.Set names) (λ front cut. refl) h))
+      (r.built_as set_of SetOf never room s rest names (e.Set names) (λ front cut. refl) h)))
 
-  pub element_single : {Y : Type 0} (view : Y → QueryElement × List Token) (y : Result Y Stop) → is_some (head_as (kernel (mark m.Set)) s) ≡ false → Answers (λ _. Single) after_single room s view y
+  -- behind the mark of a negated name
+  pub element_negated : {Y : Type 0} (view : Y → QueryElement × List Token) (y : Result Y Stop) → is_some (head_as (kernel (mark m.Bang)) s) ≡ true → Answers (λ _. Negated) never room s view y
       → Answers (λ _. Element) after_single room s view y
-  element_single view y out h = f.left_answers (λ _. Single) InSet after_single (reads_as (kernel (mark m.Set))) room s view y set_begins (r.head_test (kernel (mark m.Set)) s ∙ out) h
+  element_negated view y is h = f.right_answers (λ _. Single) Marked after_single (reads_as (kernel name)) room s view y single_begins (other (mark m.Bang) name bang_no_name s is)
+      (f.right_answers InSet (λ _. Negated) after_single (reads_as (kernel (mark m.Set))) room s view y set_begins (other (mark m.Bang) (mark m.Set) bang_no_set s is)
+      (f.within_answers (λ _. Negated) never after_single (λ v _. r.heads_never v) room s view y h))
+
+  -- a name
+  pub element_single : {Y : Type 0} (view : Y → QueryElement × List Token) (y : Result Y Stop) → is_some (head_as (kernel (mark m.Set)) s) ≡ false → is_some (head_as (kernel (mark m.Bang)) s) ≡ false
+      → Answers (λ _. Single) after_single room s view y → Answers (λ _. Element) after_single room s view y
+  element_single view y set bang h = f.left_answers (λ _. Single) Marked after_single marked_head room s view y marked_begins
+      (r.among_neither (reads_as (kernel (mark m.Set))) (reads_as (kernel (mark m.Bang))) s (r.head_test (kernel (mark m.Set)) s ∙ set) (r.head_test (kernel (mark m.Bang)) s ∙ bang)) h
 
   pub element_shorter : (rest : List Token) (x : QueryElement) → Found (λ _. Element) after_single room s x rest → length rest < length s
   element_shorter rest x h = r.found_shorter (λ _. Element) after_single element_head room s rest x element_begins h
 
 -- whether an element is first
-pub tests_element : (s : List Token) (a b : Bool) → a ≡ is_some (head_as (kernel name) s) → b ≡ is_some (head_as (kernel (mark m.Set)) s) → (a || b) ≡ heads element_head s
-tests_element [] a b h i = λ t. (h t || i t)
-tests_element (t ∷ s) a b h i = λ t. (h t || i t)
+pub tests_element : (s : List Token) (a b c : Bool) → a ≡ is_some (head_as (kernel name) s) → b ≡ is_some (head_as (kernel (mark m.Set)) s) → c ≡ is_some (head_as (kernel (mark m.Bang)) s) → (a || (b || c)) ≡ heads element_head s
+tests_element [] a b c h i j = λ t. (h t || (i t || j t))
+tests_element (t ∷ s) a b c h i j = λ t. (h t || (i t || j t))
 
 -- ---- elements with nothing between them
 
@@ -192,14 +258,14 @@ after_row = among after_single element_head
 abbrev pub Elementing : ℕ → List Token → List QueryElement → List Token → Type 0
 Elementing room s xs rest = Rowing (λ _. Alone Element) (λ _. Element) after_single element_head room s xs rest
 
-no_plus : (x : Kernel) → (is_some (name x) || is_some (mark m.Set x)) ≡ true → is_some (mark m.Plus x) ≡ false
+no_plus : (x : Kernel) → (is_some (name x) || (is_some (mark m.Set x) || is_some (mark m.Bang x))) ≡ true → is_some (mark m.Plus x) ≡ false
 no_plus k.Plus h = absurd cc
 no_plus _ h = refl
 
 pub row_apart : (t : Token) → element_head t ≡ true → after_single t ≡ false
 row_apart t h = no_plus t.kernel h
 
-round_no_element : (x : Kernel) → is_some (mark m.RightRound x) ≡ true → (is_some (mark m.Plus x) || (is_some (name x) || is_some (mark m.Set x))) ≡ false
+round_no_element : (x : Kernel) → is_some (mark m.RightRound x) ≡ true → (is_some (mark m.Plus x) || (is_some (name x) || (is_some (mark m.Set x) || is_some (mark m.Bang x)))) ≡ false
 round_no_element k.RightRound h = refl
 round_no_element _ h = absurd cc
 

@@ -19,9 +19,9 @@ use Rattle.sp_query.specs.declared.query.QueryOpening.TheVariants as o
 use Rattle.sp_query.specs.declared.query.QueryConsume.{QueryConsume}
 use Rattle.sp_query.specs.declared.query.QueryConsume.TheVariants as u
 use Rattle.sp_query.specs.Phrase.{One, Both, Either, Built, Optional}
-use Rattle.sp_query.specs.Grammar.{span, kernel, mark, name, whole, plain_kind, unit, policy, all_or_none, single, query, After, Between, Alone, ListOf, MoreOf, Name, KindOf, Column, Columns, Timed, Single, Names, Element, Elements, Pred, Definition, Definitions, Amount, Within, Every, Opening, Policy, Consume, Derives}
+use Rattle.sp_query.specs.Grammar.{span, kernel, mark, name, whole, plain_kind, unit, policy, all_or_none, single, query, After, Between, Alone, ListOf, MoreOf, Name, KindOf, Column, Columns, Timed, Single, Names, Several, Negated, Element, Elements, Pred, Definition, Definitions, Amount, Within, Every, Opening, Policy, Consume, Derives}
 use Rattle.sp_query.specs.Queries.{IsQuery}
-use Rattle.sp_parse.specs.Follow.{after_pred, after_definitions}
+use Rattle.sp_parse.specs.Follow.{element_head, after_pred, after_definitions}
 use Rattle.sp_parse.specs.Reads.{never, reads_as, among}
 use Rattle.sp_parse.proofs.Reading as r
 use Rattle.sp_parse.proofs.Marks.{sample}
@@ -29,7 +29,7 @@ use Rattle.sp_parse.proofs.Atoms as a
 use Rattle.sp_parse.proofs.EventClause as v
 use Rattle.sp_parse.proofs.EventClause.{after_list, list_out}
 use Rattle.sp_parse.proofs.PatternClause as p
-use Rattle.sp_parse.proofs.PatternClause.{after_single, after_names, after_row, element_head}
+use Rattle.sp_parse.proofs.PatternClause.{after_single, after_names, after_row}
 use Rattle.sp_parse.proofs.EndClauses as z
 use Rattle.sp_parse.proofs.Agree.{Agree, Starts, Clash, one_agrees, both_agree, built_agree, either_agree, optional_agree, agree_within}
 use Rattle.sp_parse.proofs.Unique.{flips, clash_both, complete, begun, token_starts, pair_agree, after_agree, between_agree, alone_agree, list_agree, more_agree, pred_agrees}
@@ -70,13 +70,20 @@ names_agree : Agree Names Names after_names
 names_agree = more_agree (Built (λ tokens p. p.0 ∷ p.1 ∷ []) (Both Name Name)) Name never (reads_as (kernel name)) (v.name_begins 0) p.names_apart
     (built_agree (λ tokens p. p.0 ∷ p.1 ∷ []) (Both Name Name) (Both Name Name) never (pair_agree Name Name Name Name never name_agrees name_agrees)) name_agrees
 
-set_agrees : Agree (p.InSet 0) (p.InSet 0) never
+set_agrees : Agree Several Several never
 set_agrees = built_agree (λ tokens names. e.Set names) (p.SetOf 0) (p.SetOf 0) never
     (after_agree m.Set (Between m.LeftRound Names m.RightRound) (Between m.LeftRound Names m.RightRound) never (between_agree m.LeftRound Names Names m.RightRound after_names p.names_out names_agree))
 
+negated_agrees : Agree Negated Negated never
+negated_agrees = built_agree (λ tokens x. e.Never x (span tokens)) (After m.Bang Name) (After m.Bang Name) never (after_agree m.Bang Name Name never name_agrees)
+
+marked_agrees : Agree (Either Several Negated) (Either Several Negated) never
+marked_agrees = either_agree Several Several Negated Negated never (reads_as (kernel (mark m.Set))) (reads_as (kernel (mark m.Bang))) (λ t. p.set_no_bang t.kernel)
+    (p.set_begins 0) (p.set_begins 0) (p.negated_begins 0) (p.negated_begins 0) set_agrees negated_agrees
+
 element_agrees : Agree Element Element after_single
-element_agrees = either_agree Single Single (p.InSet 0) (p.InSet 0) after_single (reads_as (kernel name)) (reads_as (kernel (mark m.Set))) (flips (reads_as (kernel (mark m.Set))) (reads_as (kernel name)) (λ t. p.set_no_name t.kernel))
-    (p.single_begins 0) (p.single_begins 0) (p.set_begins 0) (p.set_begins 0) single_agrees (complete (p.InSet 0) (p.InSet 0) after_single set_agrees)
+element_agrees = either_agree Single Single (Either Several Negated) (Either Several Negated) after_single (reads_as (kernel name)) p.marked_head (flips p.marked_head (reads_as (kernel name)) (λ t. p.marked_no_name t.kernel))
+    (p.single_begins 0) (p.single_begins 0) (p.marked_begins 0) (p.marked_begins 0) single_agrees (complete (Either Several Negated) (Either Several Negated) after_single marked_agrees)
 
 elements_agree : Agree Elements Elements never
 elements_agree = after_agree m.Pattern (Between m.LeftRound (MoreOf (Alone Element) Element) m.RightRound) (Between m.LeftRound (MoreOf (Alone Element) Element) m.RightRound) never

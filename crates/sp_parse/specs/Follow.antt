@@ -2,8 +2,12 @@
 use Rattle.std.specs.Prelude.{Bool}
 use Rattle.sp_lex.specs.declared.token.Token.{Token}
 use Rattle.sp_query.specs.declared.mark.Mark.TheVariants as m
-use Rattle.sp_query.specs.Grammar.{kernel, mark, times, plus, both_hold, one_holds}
+use Rattle.sp_query.specs.Grammar.{kernel, mark, name, times, plus, both_hold, one_holds}
 use Rattle.sp_parse.specs.Reads.{reads_as, among}
+
+-- a name, SET or the mark of a negated name, behind an element
+abbrev pub element_head : Token → Bool
+element_head = among (reads_as (kernel name)) (among (reads_as (kernel (mark m.Set))) (reads_as (kernel (mark m.Bang))))
 
 -- a point, behind a name
 abbrev pub after_factor : Token → Bool

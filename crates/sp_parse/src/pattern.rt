@@ -2,6 +2,7 @@
 ghost use Rattle.std.specs.Prelude.{◌≡◌, ℕ};
 ghost use Rattle.sp_query.specs.declared.mark.Mark.TheVariants as m;
 ghost use Rattle.sp_query.specs.Grammar as g;
+ghost use Rattle.sp_parse.specs.Follow.{element_head};
 ghost use Rattle.sp_parse.specs.Reads.{Answers, among, heads, never, reads_as};
 
 use crate::columns::ident;
@@ -54,7 +55,18 @@ fn set<'a>(alloc: Global, tokens: &'a [Token]) -> Result<(Items<Ident>, &'a [Tok
     closed(names(alloc, rest), Mark::RightRound)
 }
 
-// name [ "+" ] | SET "(" name name { name } ")"
+// "!" name
+fn negated<'a>(alloc: Global, tokens: &'a [Token]) -> Result<(QueryElement, &'a [Token]), Stop>
+    ensures { (room : ℕ)
+        → Answers (λ _. g.Negated) never room tokens.now (λ p. (p.0, p.1.now)) result }
+{
+    let rest = expect(tokens, Mark::Bang)?;
+    let (name, rest) = ident(alloc, rest)?;
+    let span = span_of(tokens, rest);
+    Ok((QueryElement::Never(name, span), rest))
+}
+
+// name [ "+" ] | SET "(" name name { name } ")" | "!" name
 fn element<'a>(alloc: Global, tokens: &'a [Token]) -> Result<(QueryElement, &'a [Token]), Stop>
     ensures { (room : ℕ)
         → Answers (λ _. g.Element) (reads_as (g.kernel (g.mark m.Plus))) room tokens.now
@@ -64,16 +76,17 @@ fn element<'a>(alloc: Global, tokens: &'a [Token]) -> Result<(QueryElement, &'a 
         let (names, rest) = set(alloc, tokens)?;
         return Ok((QueryElement::Set(names), rest));
     }
+    if begins(tokens, Mark::Bang) {
+        return negated(alloc, tokens);
+    }
     single(alloc, tokens)
 }
 
-// Whether a name or SET is first.
+// Whether a name, SET or the mark of a negated name is first.
 fn begins_element(tokens: &[Token]) -> bool
-    ensures { result
-        ≡ heads
-        (among (reads_as (g.kernel g.name)) (reads_as (g.kernel (g.mark m.Set)))) tokens.now }
+    ensures { result ≡ heads element_head tokens.now }
 {
-    begins_name(tokens) || begins(tokens, Mark::Set)
+    begins_name(tokens) || begins(tokens, Mark::Set) || begins(tokens, Mark::Bang)
 }
 
 // element { element }
@@ -83,8 +96,7 @@ fn element_row<'a>(
 ) -> Result<(Items<QueryElement>, &'a [Token]), Stop>
     ensures { (room : ℕ)
         → Answers (λ _. g.MoreOf (g.Alone g.Element) g.Element)
-        (among (reads_as (g.kernel (g.mark m.Plus)))
-        (among (reads_as (g.kernel g.name)) (reads_as (g.kernel (g.mark m.Set))))) room tokens.now
+        (among (reads_as (g.kernel (g.mark m.Plus))) element_head) room tokens.now
         (λ p. (p.0, p.1.now)) result }
 {
     let (mut list, mut rest) = added(Items::new(alloc), element(alloc, tokens))?;

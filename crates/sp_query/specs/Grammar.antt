@@ -58,6 +58,7 @@ mark m.Comma k.Comma = Some tt
 mark m.Dot k.Dot = Some tt
 mark m.Plus k.Plus = Some tt
 mark m.Minus k.Minus = Some tt
+mark m.Bang k.Bang = Some tt
 mark m.Event (k.Word w.Event) = Some tt
 mark m.Time (k.Word w.Time) = Some tt
 mark m.Pattern (k.Word w.Pattern) = Some tt
@@ -267,9 +268,17 @@ Single = Built single (Both Name (Optional (One (kernel (mark m.Plus)))))
 abbrev pub Names : List Token → List Ident → Type 0
 Names = MoreOf (Built (λ tokens p. p.0 ∷ p.1 ∷ []) (Both Name Name)) Name
 
--- name [ "+" ] | SET "(" name name { name } ")"
+-- SET "(" name name { name } ")"
+abbrev pub Several : List Token → QueryElement → Type 0
+Several = Built (λ tokens names. e.Set names) (After m.Set (Between m.LeftRound Names m.RightRound))
+
+-- "!" name
+abbrev pub Negated : List Token → QueryElement → Type 0
+Negated = Built (λ tokens x. e.Never x (span tokens)) (After m.Bang Name)
+
+-- name [ "+" ] | SET "(" name name { name } ")" | "!" name
 abbrev pub Element : List Token → QueryElement → Type 0
-Element = Either Single (Built (λ tokens names. e.Set names) (After m.Set (Between m.LeftRound Names m.RightRound)))
+Element = Either Single (Either Several Negated)
 
 -- PATTERN "(" element { element } ")"
 abbrev pub Elements : List Token → List QueryElement → Type 0

@@ -44,6 +44,7 @@ abbrev pub SameElement : QueryElement → QueryElement → Type 0
 SameElement (e.One x) (e.One y) = SameIdent x y
 SameElement (e.Plus x span) (e.Plus y other) = SameIdent x y
 SameElement (e.Set xs) (e.Set ys) = Pairwise SameIdent xs ys
+SameElement (e.Never x span) (e.Never y other) = SameIdent x y
 SameElement _ _ = ⊥
 
 abbrev pub SameDefinition : Ident × Tree → Ident × Tree → Type 0

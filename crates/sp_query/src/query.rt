@@ -28,6 +28,8 @@ pub enum QueryElement {
     Plus(Ident, Span),
     /// Two names or more.
     Set(Items<Ident>),
+    /// No event of this name in between; the span begins at the mark in front of it.
+    Never(Ident, Span),
 }
 
 /// Which events open a window.

@@ -120,6 +120,7 @@ impl Part for QueryElement {
             (QueryElement::Set(some), QueryElement::Set(others)) => {
                 same_list(some.as_slice(), others.as_slice())
             }
+            (QueryElement::Never(one, _), QueryElement::Never(other, _)) => one.same(other),
             _ => false,
         }
     }

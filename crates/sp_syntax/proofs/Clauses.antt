@@ -24,8 +24,8 @@ use Rattle.sp_query.specs.Phrase.{One, Both, Either, Built, Optional}
 use Rattle.sp_query.specs.Grammar as g
 use Rattle.sp_query.specs.Same.{Pairwise, SameTree, SameIdent, SameTime, SameColumn, SameElement, SameDefinition, SameOpening, SameConsume, SameLength, Same}
 use Rattle.sp_query.specs.Queries.{IsQuery}
-use Rattle.sp_syntax.specs.Printing.{Prints, Equal, SameItems, Each}
-use Rattle.sp_syntax.proofs.Speaking.{Unlike, Paired, prints_one, prints_both, prints_built, prints_after, prints_between, prints_left, prints_right, prints_none, prints_some, prints_map}
+use Rattle.sp_syntax.specs.Printing.{Has, Prints, Equal, SameItems, Each}
+use Rattle.sp_syntax.proofs.Speaking.{Unlike, Paired, prints_one, prints_both, prints_built, prints_after, prints_between, has_neither, prints_left, prints_right, prints_none, prints_some, prints_map}
 use Rattle.sp_syntax.proofs.Spelled.{mark_spelled, word_spelled, plain_tokens, lexed}
 use Rattle.sp_syntax.proofs.Operands.{plain_one, prints_name, prints_whole}
 use Rattle.sp_syntax.proofs.Lists.{no_list, prints_list}
@@ -104,8 +104,13 @@ prints_behind L R a x word which e f = prints_after which L R a (k.Word word) (s
 
 -- ---- elements
 
-abbrev SetOf : List Token → QueryElement → Type 0
-SetOf = Built (λ tokens names. e.Set names) (g.After m.Set (g.Between m.LeftRound g.Names m.RightRound))
+-- what an element is that is no name alone
+abbrev Marked : List Token → QueryElement → Type 0
+Marked = Either g.Several g.Negated
+
+-- an element of one name is neither
+not_marked : (element : QueryElement) → ((names : List Ident) → element ≢ e.Set names) → ((ident : Ident) (span : Span) → element ≢ e.Never ident span) → Has Marked element → ⊥
+not_marked element set never d = has_neither g.Several g.Negated element (λ one. set one.phrase.of one.phrase.is) (λ one. never one.phrase.of (g.span one.tokens) one.phrase.is) d
 
 abbrev Sign : List Token → Option (Unit {0}) → Type 0
 Sign = Optional (One (g.kernel (g.mark m.Plus)))
@@ -124,39 +129,59 @@ single_same v ts first other (Some x) (Some y) r h = r
 single_same v ts first other None (Some y) r h = absurd cc
 single_same v ts first other (Some x) None r h = absurd cc
 
-prints_sign : (element : QueryElement) (ident : Ident) (sign : Option (Unit {0})) (x y : List ℕ) → ((names : List Ident) → element ≢ e.Set names) → ((v : List Token) (p : Ident × Option (Unit {0})) → element ≡ g.single v p → (ident ≡ p.0) × (sign ≡ p.1))
+prints_sign : (element : QueryElement) (ident : Ident) (sign : Option (Unit {0})) (x y : List ℕ) → (Has Marked element → ⊥) → ((v : List Token) (p : Ident × Option (Unit {0})) → element ≡ g.single v p → (ident ≡ p.0) × (sign ≡ p.1))
     → Prints g.Name SameIdent ident x → Prints Sign Equal sign y → Prints g.Element SameElement element (x ++ y)
 prints_sign element ident sign x y n only f h =
-    prints_left g.Single SetOf SameElement element (x ++ y) (λ d. n d.phrase.of d.phrase.is)
+    prints_left g.Single Marked SameElement element (x ++ y) n
     (prints_built g.single (Both g.Name Sign) (Paired SameIdent Equal) SameElement element (x ++ y)
     (λ v p is. let same = only v p is in prints_both g.Name Sign SameIdent Equal p x y (subst (λ z. Prints g.Name SameIdent z x) same.0 f) (subst (λ z. Prints Sign Equal z y) same.1 h))
     (λ v ts p q is r. subst (λ z. SameElement z (g.single ts q)) (sym is) (single_same v ts p.0 q.0 p.1 q.1 r.0 r.1)))
 
 pub prints_single : (ident : Ident) (x : List ℕ) → Prints g.Name SameIdent ident x → Prints g.Element SameElement (e.One ident) x
 prints_single ident x f = subst (λ z. Prints g.Element SameElement (e.One ident) z) (append-nil x)
-    (prints_sign (e.One ident) ident None x [] (λ names d. cc) (λ v p is. one_only ident v p.0 p.1 is) f (prints_none (One (g.kernel (g.mark m.Plus))) Equal refl))
+    (prints_sign (e.One ident) ident None x [] (not_marked (e.One ident) (λ names d. cc) (λ other span d. cc)) (λ v p is. one_only ident v p.0 p.1 is) f (prints_none (One (g.kernel (g.mark m.Plus))) Equal refl))
 
 pub prints_plus : (ident : Ident) (span : Span) (x : List ℕ) → Prints g.Name SameIdent ident x → Prints g.Element SameElement (e.Plus ident span) (x ++ (codes "+" ++ 32 ∷ []))
 prints_plus ident span x f =
-    prints_sign (e.Plus ident span) ident (Some tt) x (codes "+" ++ 32 ∷ []) (λ names d. cc) (λ v p is. plus_only ident span v p.0 p.1 is) f
+    prints_sign (e.Plus ident span) ident (Some tt) x (codes "+" ++ 32 ∷ []) (not_marked (e.Plus ident span) (λ names d. cc) (λ other more d. cc)) (λ v p is. plus_only ident span v p.0 p.1 is) f
     (prints_some (One (g.kernel (g.mark m.Plus))) Unlike Equal tt (codes "+" ++ 32 ∷ []) (λ b r. refl) (prints_one (g.mark m.Plus) Unlike tt k.Plus (codes "+") refl (mark_spelled k.Plus (codes "+") refl) tt))
 
-not_single : (names : List Ident) (v : List Token) (first : Ident) (sign : Option (Unit {0})) → e.Set names ≢ g.single v (first, sign)
-not_single names v first None d = cc
-not_single names v first (Some x) d = cc
+set_not_single : (names : List Ident) (v : List Token) (first : Ident) (sign : Option (Unit {0})) → e.Set names ≢ g.single v (first, sign)
+set_not_single names v first None d = cc
+set_not_single names v first (Some x) d = cc
+
+never_not_single : (ident : Ident) (span : Span) (v : List Token) (first : Ident) (sign : Option (Unit {0})) → e.Never ident span ≢ g.single v (first, sign)
+never_not_single ident span v first None d = cc
+never_not_single ident span v first (Some x) d = cc
+
+set_no_never : (names : List Ident) (ident : Ident) (span : Span) → e.Set names ≢ e.Never ident span
+set_no_never names ident span d = cc
 
 pub prints_set : (names : List Ident) (x : List ℕ) → Prints g.Names (Pairwise SameIdent) names x
     → Prints g.Element SameElement (e.Set names) ((codes "SET" ++ 32 ∷ []) ++ ((codes "(" ++ 32 ∷ []) ++ (x ++ (codes ")" ++ 32 ∷ []))))
 prints_set names x f =
     let y = (codes "(" ++ 32 ∷ []) ++ (x ++ (codes ")" ++ 32 ∷ [])) in
     let z = (codes "SET" ++ 32 ∷ []) ++ y in
-    prints_right g.Single SetOf SameElement (e.Set names) z (λ d. not_single names d.tokens d.phrase.of.0 d.phrase.of.1 d.phrase.is)
+    prints_right g.Single Marked SameElement (e.Set names) z (λ d. set_not_single names d.tokens d.phrase.of.0 d.phrase.of.1 d.phrase.is)
+    (prints_left g.Several g.Negated SameElement (e.Set names) z (λ d. set_no_never names d.phrase.of (g.span d.tokens) d.phrase.is)
     (prints_built (λ ts all. e.Set all) (g.After m.Set (g.Between m.LeftRound g.Names m.RightRound)) (Pairwise SameIdent) SameElement (e.Set names) z
     (λ v all is.
     let d : names ≡ all = cc in
     subst (λ l. Prints (g.After m.Set (g.Between m.LeftRound g.Names m.RightRound)) (Pairwise SameIdent) l z) d
     (prints_after m.Set (g.Between m.LeftRound g.Names m.RightRound) (Pairwise SameIdent) names (k.Word w.Set) (codes "SET") y refl (word_spelled w.Set) (prints_round g.Names (Pairwise SameIdent) names x f)))
-    (λ v ts all more is r. subst (λ l. SameElement l (e.Set more)) (sym is) r))
+    (λ v ts all more is r. subst (λ l. SameElement l (e.Set more)) (sym is) r)))
+
+pub prints_never : (ident : Ident) (span : Span) (x : List ℕ) → Prints g.Name SameIdent ident x → Prints g.Element SameElement (e.Never ident span) ((codes "!" ++ 32 ∷ []) ++ x)
+prints_never ident span x f =
+    let z = (codes "!" ++ 32 ∷ []) ++ x in
+    prints_right g.Single Marked SameElement (e.Never ident span) z (λ d. never_not_single ident span d.tokens d.phrase.of.0 d.phrase.of.1 d.phrase.is)
+    (prints_right g.Several g.Negated SameElement (e.Never ident span) z (λ d. set_no_never d.phrase.of ident span (sym d.phrase.is))
+    (prints_built (λ ts one. e.Never one (g.span ts)) (g.After m.Bang g.Name) SameIdent SameElement (e.Never ident span) z
+    (λ v one is.
+    let d : ident ≡ one = cc in
+    subst (λ i. Prints (g.After m.Bang g.Name) SameIdent i z) d
+    (prints_after m.Bang g.Name SameIdent ident k.Bang (codes "!") x refl (mark_spelled k.Bang (codes "!") refl) f))
+    (λ v ts one more is r. subst (λ l. SameElement l (e.Never more (g.span ts))) (sym is) r)))
 
 -- ---- lengths and openings
 

@@ -141,6 +141,13 @@ prints_between before L after R a k m front back x e s d t f has = spoken_betwee
 
 -- ---- choices
 
+-- what neither of two phrases makes
+pub has_neither : {A : Type 0} (L M : List Token → A → Type 0) (a : A) → (Has L a → ⊥) → (Has M a → ⊥) → Has (Either L M) a → ⊥
+has_neither L M a not_one not_other has = elim has.phrase [
+  | left d ↦ not_one (record { tokens = has.tokens; plain = has.plain; phrase = d })
+  | right d ↦ not_other (record { tokens = has.tokens; plain = has.plain; phrase = d })
+]
+
 pub prints_left : {A : Type 0} (L M : List Token → A → Type 0) (R : A → A → Type 0) (a : A) (x : List ℕ) → (Has M a → ⊥) → Prints L R a x → Prints (Either L M) R a x
 prints_left L M R a x n f has = elim has.phrase [
   | left d ↦ spoken_map (Again L R a) (Again (Either L M) R a) x (λ ts w. record { other = w.other; phrase = left w.phrase; same = w.same }) (f (record { tokens = has.tokens; plain = has.plain; phrase = d }))

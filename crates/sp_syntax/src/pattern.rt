@@ -9,7 +9,7 @@ use crate::tokens::token;
 use sp_query::QueryElement;
 use std::alloc::AllocError;
 
-// name [ "+" ] | SET "(" name name { name } ")"
+// name [ "+" ] | SET "(" name name { name } ")" | "!" name
 fn element(out: &mut String, element: &QueryElement) -> Result<(), AllocError>
     ensures { OnOk result
         (Adds (string_bytes out.old) (string_bytes out.new)
@@ -26,6 +26,10 @@ fn element(out: &mut String, element: &QueryElement) -> Result<(), AllocError>
             token(out, "(")?;
             names(out, idents.as_slice())?;
             token(out, ")")
+        }
+        QueryElement::Never(ident, _) => {
+            token(out, "!")?;
+            name(out, ident)
         }
     }
 }

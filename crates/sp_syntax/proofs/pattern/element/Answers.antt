@@ -24,3 +24,7 @@ returns-in_ok-names-in-Set c =
     (λ y p. subst (λ z. Prints g.Element SameElement z ((codes "SET" ++ 32 ∷ []) ++ ((codes "(" ++ 32 ∷ []) ++ (y ++ (codes ")" ++ 32 ∷ []))))) (sym c.in-Set.is)
     (l.prints_set names y (prints_two_or_more g.Name SameIdent names y (subst (λ z. Prints (Each g.Name) (Pairwise SameIdent) z y) c.as_slice.ensures p)))))
     (λ y p. p)) c.token-in-Set-3.ensures
+
+pub returns-in_ok-token-in-Never : goal.returns-in_ok-token-in-Never
+returns-in_ok-token-in-Never c = on_ok _ _ _ (λ e. adds_behind _ _ _ (codes "!" ++ 32 ∷ []) (Prints g.Name SameIdent c.in-Never.ident) (Prints g.Element SameElement c.args.element.now) c.in_ok-token-in-Never.ensures e
+    (λ y p. subst (λ z. Prints g.Element SameElement z ((codes "!" ++ 32 ∷ []) ++ y)) (sym c.in-Never.is) (l.prints_never _ _ y p))) c.name-in-Never.ensures
