@@ -6,16 +6,29 @@ use Rattle.std.proofs.lemmas.Bool.Decides.{nat_tests}
 use Rattle.sp_lex.specs.declared.token.Word.{Word}
 use Rattle.sp_lex.specs.declared.token.Word.TheVariants as w
 use Rattle.sp_plan.specs.declared.plan.Element.{Element}
-use Rattle.sp_plan.specs.Compiled.{IsSetOfMany, IsLast, IsTimed}
+use Rattle.sp_plan.specs.Compiled.{IsSetOfMany, IsFirst, IsLast, IsTimed}
 use Rattle.sp_query.specs.declared.query.Ident.{Ident}
 use Rattle.sp_query.specs.declared.query.QueryColumn.{QueryColumn}
 use Rattle.sp_query.specs.declared.query.QueryElement.{QueryElement}
 use Rattle.sp_query.specs.declared.query.QueryElement.TheVariants as e
-use Rattle.sp_compile.specs.Checks.{last_fault, time_fault, time_column_fault, length_is_fine}
+use Rattle.sp_compile.specs.Checks.{first_fault, last_fault, time_fault, time_column_fault, length_is_fine}
 use Rattle.sp_compile.specs.Scopes.{placed_names, column_place}
 use Rattle.sp_compile.specs.Sorts.{column_there}
 use Rattle.sp_compile.specs.Stages.{is_wide}
 use Rattle.sp_compile.specs.Stands.{width, plan_element, plan_elements, plan_length, time_place}
+
+-- ---- the first element
+
+-- elements without a fault in front
+fine_first : (element : QueryElement) (elements : List QueryElement) (at : ℕ) → first_fault (element ∷ elements) ≡ None → IsFirst (plan_elements at (element ∷ elements))
+fine_first (e.One name) elements at none = tt
+fine_first (e.Plus name span) elements at none = tt
+fine_first (e.Set names) elements at none = tt
+fine_first (e.Never name span) elements at none = absurd (cc none)
+
+pub is_first : (elements : List QueryElement) → 0 < length (placed_names 0 elements) → first_fault elements ≡ None → IsFirst (plan_elements 0 elements)
+is_first [] some none = absurd (omega arith)
+is_first (element ∷ elements) some none = fine_first element elements 0 none
 
 -- ---- the last element
 
@@ -24,6 +37,7 @@ fine_last : (element : QueryElement) (at : ℕ) → last_fault (Some element) �
 fine_last (e.One name) at none = tt
 fine_last (e.Plus name span) at none = absurd (cc none)
 fine_last (e.Set names) at none = tt
+fine_last (e.Never name span) at none = absurd (cc none)
 
 -- the last of elements behind one
 last_behind : (elements : List QueryElement) (at : ℕ) (element : QueryElement) (planned : Element) → (last_fault (Some element) ≡ None → IsLast (Some planned)) → last_fault (last_or (Some element) elements) ≡ None
@@ -42,6 +56,7 @@ wide_set : (element : QueryElement) (at : ℕ) → is_wide element ≡ true → 
 wide_set (e.One name) at is = tt
 wide_set (e.Plus name span) at is = tt
 wide_set (e.Set names) at is = grind (arith, nat_tests)
+wide_set (e.Never name span) at is = tt
 
 pub wide_sets : (elements : List QueryElement) (at : ℕ) → list_all is_wide elements ≡ true → All IsSetOfMany (plan_elements at elements)
 wide_sets [] at is i d inside = absurd (omega arith)

@@ -43,6 +43,8 @@ untyped scope t (f.LateReference span) h = h (λ e. cc)
 untyped scope t (f.TooWide span) h = h (λ e. cc)
 untyped scope t (f.BadWindow span) h = h (λ e. cc)
 untyped scope t (f.TooMany span) h = h (λ e. cc)
+untyped scope t (f.NeverEnds span) h = h (λ e. cc)
+untyped scope t (f.NeverBound span) h = h (λ e. cc)
 untyped scope t f.Memory h = tt
 
 pub typed : (scope : Scope) (t : Tree) (fault : CompileFault) → fault ≢ f.Memory → Untyped scope t fault → Types scope t (Err fault)
@@ -54,6 +56,8 @@ typed scope t (f.LateReference span) some h = h
 typed scope t (f.TooWide span) some h = h
 typed scope t (f.BadWindow span) some h = h
 typed scope t (f.TooMany span) some h = h
+typed scope t (f.NeverEnds span) some h = h
+typed scope t (f.NeverBound span) some h = h
 typed scope t f.Memory some h = absurd (some refl)
 
 pub refused_by : (verdict : Verdict) (fault : CompileFault) → fault ≢ f.Memory → Refused verdict fault → verdict ≡ Err fault
@@ -65,6 +69,8 @@ refused_by verdict (f.LateReference span) some h = h
 refused_by verdict (f.TooWide span) some h = h
 refused_by verdict (f.BadWindow span) some h = h
 refused_by verdict (f.TooMany span) some h = h
+refused_by verdict (f.NeverEnds span) some h = h
+refused_by verdict (f.NeverBound span) some h = h
 refused_by verdict f.Memory some h = absurd (some refl)
 
 module _ (scope : Scope) (texts : List (List ℕ)) (t : Tree) where
@@ -109,7 +115,7 @@ module _ (scope : Scope) (texts : List (List ℕ)) (t : Tree) where
   own_placed e b name (Some place) d is placed h = own_there e b name place (slice_get scope.columns place) d is placed refl h
 
   pub own_is : (name : List ℕ) (r : Result (Expr × Sort) CompileFault) → (out-Tree t).node ≡ n.Own name → MadeAnswer (own_sort scope (span_of t) name) (own_datum scope name) (Reads scope) r → ExprAnswer scope texts t r
-  own_is name r is h = made (own_sort scope (span_of t) name) (own_datum scope name) (Reads scope) r h (refl, refl) (ch.own t name (own_sort scope (span_of t) name) is refl) (λ e b d same. own_placed e b name (column_place scope.columns name) d is refl same)
+  own_is name r is h = made (own_sort scope (span_of t) name) (own_datum scope name) (Reads scope) r h (refl, refl, refl) (ch.own t name (own_sort scope (span_of t) name) is refl) (λ e b d same. own_placed e b name (column_place scope.columns name) d is refl same)
 
   earlier_there : (e : Event) (b : BoundEvents) (bound name : List ℕ) (number place : ℕ) (column : Option QueryColumn) (d : Datum) → (out-Tree t).node ≡ n.Earlier bound name → name_place scope.names bound ≡ Some number
       → column_place scope.columns name ≡ Some place → slice_get scope.columns place ≡ column → column_datum column (earlier_column (last_bound number b) place) ≡ Some d → Means scope texts e b t d
@@ -126,7 +132,7 @@ module _ (scope : Scope) (texts : List (List ℕ)) (t : Tree) where
 
   pub earlier_is : (bound name : List ℕ) (r : Result (Expr × Sort) CompileFault) → (out-Tree t).node ≡ n.Earlier bound name → MadeAnswer (earlier_sort scope (span_of t) bound name) (earlier_datum scope bound name) (Reads scope) r → ExprAnswer scope texts t r
   earlier_is bound name r is h =
-      made (earlier_sort scope (span_of t) bound name) (earlier_datum scope bound name) (Reads scope) r h (refl, refl) (ch.earlier t bound name (earlier_sort scope (span_of t) bound name) is refl)
+      made (earlier_sort scope (span_of t) bound name) (earlier_datum scope bound name) (Reads scope) r h (refl, refl, refl) (ch.earlier t bound name (earlier_sort scope (span_of t) bound name) is refl)
       (λ e b d same. earlier_placed e b bound name (name_place scope.names bound) (column_place scope.columns name) d is refl refl same)
 
   -- ---- minus

@@ -107,6 +107,11 @@ place_within names text place d is =
     let k = position-Some (λ (name : PatternName). bytes_eq name.name.text text) names place d is in
     (k.0, same_text _ _ k.1)
 
+-- the name at the place of a text is the one that is there
+pub found_there : (names : List PatternName) (text : List ℕ) (place : ℕ) (name : PatternName) → name_place names text ≡ Some place → name ≡ get_or names place name → name_there names (name_place names text) ≡ Some name
+found_there names text place name at here =
+    ap (name_there names) at ∙ slice_get-get_or names place name (place_within names text place name at).0 ∙ ap (λ (one : PatternName). Some one) (sym here)
+
 -- the fault of the place of a name, if it has one
 pub place_fault : (names : List PatternName) (before : List (List ℕ)) (name : Ident) (result : Result ℕ CompileFault) → PlaceAnswer names before name result → defined_fault before name (name_there names (name_place names name.text)) ≡ result_err result
 place_fault names before name (Ok place) answer = ap (λ o. defined_fault before name (name_there names o)) answer.1 ∙ answer.2
@@ -205,14 +210,14 @@ push_name query texts (other ∷ names) [] name one s h = absurd s
 push_name query texts (other ∷ names) (p ∷ planned) name one s h = (s.0, push_name query texts names planned name one s.1 h)
 
 -- the same, for the next of some names
-pub undefined_more : (query : Query) (texts : List (List ℕ)) (names : List PatternName) (at : ℕ) (name : PatternName) (ident : Ident) (planned : List Name) (one : Name) → at < length names → name ≡ get_or names at name → name.name ≡ ident
-    → one ≡ record { text = ident.text; pred = Always; consumed = is_consumed query.consume ident.text } → StandSoFar query texts [] (take at names) planned → StandSoFar query texts [] (take (at + 1) names) (planned ++ one ∷ [])
-undefined_more query texts names at name ident planned one inside is own made s =
+pub undefined_more : (query : Query) (texts : List (List ℕ)) (names : List PatternName) (at : ℕ) (name : PatternName) (planned : List Name) (one : Name) → at < length names → name ≡ get_or names at name
+    → one ≡ record { text = name.name.text; pred = Always; consumed = is_consumed query.consume name } → StandSoFar query texts [] (take at names) planned → StandSoFar query texts [] (take (at + 1) names) (planned ++ one ∷ [])
+undefined_more query texts names at name planned one inside is made s =
     let more : take (at + 1) names ≡ take at names ++ name ∷ [] = take_more names at name inside ∙ ap (λ l. take at names ++ l ∷ []) (sym is) in
     subst (λ l. StandSoFar query texts [] l (planned ++ one ∷ [])) (sym more)
     (push_name query texts (take at names) planned name one s (record {
-      text = ap (λ n. n.text) made ∙ ap (λ i. i.text) (sym own);
+      text = ap (λ n. n.text) made;
       pred = ap (λ n. n.pred) made;
-      consumed = ap (λ n. n.consumed) made ∙ ap (λ i. is_consumed query.consume i.text) (sym own);
+      consumed = ap (λ n. n.consumed) made;
       reads = subst (IsComparable (readable_in (scope_in query (Some name.element)) texts)) (sym (ap (λ n. n.pred) made)) tt;
     }))

@@ -7,7 +7,7 @@ use Rattle.sp_plan.specs.Compiled.{numbers_of}
 use Rattle.sp_plan.specs.Runs.{names_of}
 use Rattle.sp_query.specs.declared.query.QueryElement.{QueryElement}
 use Rattle.sp_query.specs.declared.query.QueryElement.TheVariants as e
-use Rattle.sp_compile.specs.Scopes.{names_in, placed_names, PatternName, in_element}
+use Rattle.sp_compile.specs.Scopes.{names_in, is_negated, placed_names, PatternName, in_element}
 use Rattle.sp_compile.specs.Stands.{width, plan_element, plan_elements}
 
 -- an element has as many names as it is wide
@@ -15,13 +15,14 @@ pub length_names : (element : QueryElement) → length (names_in element) ≡ wi
 length_names (e.One name) = refl
 length_names (e.Plus name span) = refl
 length_names (e.Set names) = refl
+length_names (e.Never name span) = refl
 
 -- an element's names and those behind it
 length_more : (element : QueryElement) (elements : List QueryElement) (at : ℕ) → length (placed_names at (element ∷ elements)) ≡ width element + length (placed_names (suc at) elements)
 length_more element elements at =
     let names = names_in element in
-    length-append (map (in_element at) names) (placed_names (suc at) elements)
-    ∙ ap (λ (n : ℕ). n + length (placed_names (suc at) elements)) (length-map names (in_element at) ∙ length_names element)
+    length-append (map (in_element at (is_negated element)) names) (placed_names (suc at) elements)
+    ∙ ap (λ (n : ℕ). n + length (placed_names (suc at) elements)) (length-map names (in_element at (is_negated element)) ∙ length_names element)
 
 -- as many names, wherever the first element stands
 length_anywhere : (elements : List QueryElement) (at other : ℕ) → length (placed_names at elements) ≡ length (placed_names other elements)
@@ -37,9 +38,9 @@ module _ (elements : List QueryElement) (i : ℕ) (element : QueryElement) (insi
   opened = drop_more elements i element inside ∙ ap (λ (y : QueryElement). y ∷ drop (i + 1) elements) (sym is)
 
   -- its names behind those so far
-  pub more_names : (so_far now all : List PatternName) → so_far ++ placed_names i (drop i elements) ≡ all → now ≡ so_far ++ map (in_element i) (names_in element) → now ++ placed_names (i + 1) (drop (i + 1) elements) ≡ all
+  pub more_names : (so_far now all : List PatternName) → so_far ++ placed_names i (drop i elements) ≡ all → now ≡ so_far ++ map (in_element i (is_negated element)) (names_in element) → now ++ placed_names (i + 1) (drop (i + 1) elements) ≡ all
   more_names so_far now all before grown =
-      let names = map (in_element i) (names_in element) in
+      let names = map (in_element i (is_negated element)) (names_in element) in
       let rest = drop (i + 1) elements in
       ap (λ (l : List PatternName). l ++ placed_names (i + 1) rest) grown
       ∙ append_assoc so_far names (placed_names (i + 1) rest)
@@ -79,6 +80,7 @@ pub numbers_here : (first : ℕ) (element : QueryElement) → names_of (plan_ele
 numbers_here first (e.One name) = refl
 numbers_here first (e.Plus name span) = refl
 numbers_here first (e.Set names) = refl
+numbers_here first (e.Never name span) = refl
 
 -- each name of the pattern is of one element, in their order
 pub numbers_in_order : (elements : List QueryElement) (first : ℕ) → numbers_of (plan_elements first elements) ≡ range_with_len first (length (placed_names 0 elements))

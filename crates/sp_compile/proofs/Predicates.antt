@@ -34,6 +34,8 @@ faulty scope t (f.LateReference span) h = h (λ e. cc)
 faulty scope t (f.TooWide span) h = h (λ e. cc)
 faulty scope t (f.BadWindow span) h = h (λ e. cc)
 faulty scope t (f.TooMany span) h = h (λ e. cc)
+faulty scope t (f.NeverEnds span) h = h (λ e. cc)
+faulty scope t (f.NeverBound span) h = h (λ e. cc)
 faulty scope t f.Memory h = tt
 
 tested : (scope : Scope) (t : Tree) (fault : CompileFault) → fault ≢ f.Memory → Faulty scope t fault → Tests scope t (Some fault)
@@ -45,6 +47,8 @@ tested scope t (f.LateReference span) some h = h
 tested scope t (f.TooWide span) some h = h
 tested scope t (f.BadWindow span) some h = h
 tested scope t (f.TooMany span) some h = h
+tested scope t (f.NeverEnds span) some h = h
+tested scope t (f.NeverBound span) some h = h
 tested scope t f.Memory some h = absurd (some refl)
 
 found_by : (found : Option CompileFault) (fault : CompileFault) → fault ≢ f.Memory → Found found fault → found ≡ Some fault
@@ -56,6 +60,8 @@ found_by found (f.LateReference span) some h = h
 found_by found (f.TooWide span) some h = h
 found_by found (f.BadWindow span) some h = h
 found_by found (f.TooMany span) some h = h
+found_by found (f.NeverEnds span) some h = h
+found_by found (f.NeverBound span) some h = h
 found_by found f.Memory some h = absurd (some refl)
 
 module _ (scope : Scope) (texts : List (List ℕ)) (t : Tree) where

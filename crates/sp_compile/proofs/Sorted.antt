@@ -1,22 +1,23 @@
 -- What is known of a column that an expression reads.
-use Rattle.std.proofs.Common.{◌≡◌, ℕ, ℤ, ◌<◌, ◌≤◌, Bool, List, Some, Ok, Err, slice_get, refl, sym, ◌∙◌, ap, subst, arith}
+use Rattle.std.proofs.Common.{◌≡◌, ℕ, ℤ, ◌<◌, ◌≤◌, Bool, true, false, List, Some, Ok, Err, slice_get, refl, sym, ◌∙◌, ap, subst, arith}
 use Rattle.std.specs.Prelude.{if◌then◌else◌}
 use Rattle.sp_base.specs.Limits.{number_limit}
+use Rattle.sp_base.specs.Numbers.{is_among}
 use Rattle.sp_lex.specs.declared.token.Span.{Span}
 use Rattle.sp_lex.specs.declared.token.Word.{Word}
 use Rattle.sp_lex.specs.declared.token.Word.TheVariants as w
 use Rattle.sp_plan.specs.declared.event.Event.{Event}
 use Rattle.sp_plan.specs.declared.plan.Expr.{Expr}
 use Rattle.sp_plan.specs.declared.plan.Expr as e
-use Rattle.sp_plan.specs.Comparable.{Readable, ColumnOfScale, ColumnOfTexts, IsText, HasScale}
+use Rattle.sp_plan.specs.Comparable.{Readable, MayRead, ColumnOfScale, ColumnOfTexts, IsText, HasScale}
 use Rattle.sp_plan.specs.Bounds.{bound}
 use Rattle.sp_plan.specs.Values.{BoundEvents, earlier_column, last_bound}
 use Rattle.sp_query.specs.declared.query.QueryColumn.{QueryColumn}
 use Rattle.sp_compile.specs.declared.fault.CompileFault.TheVariants as f
 use Rattle.sp_compile.specs.Answers.{HasSort, bound_names, datum, IsBounded}
 use Rattle.sp_compile.specs.Parts.{IsSound, Reads, column_datum, placed_datum, bound_datum, earlier_datum}
-use Rattle.sp_compile.specs.Scopes.{Scope, column_place, name_place, PatternName}
-use Rattle.sp_compile.specs.Sorts.{sort_of, column_sort, name_there, column_there, earlier_there, earlier_in, earlier_sort}
+use Rattle.sp_compile.specs.Scopes.{Scope, column_place, name_place, binding_from, PatternName}
+use Rattle.sp_compile.specs.Sorts.{sort_of, column_sort, name_there, column_there, is_earlier, earlier_there, earlier_in, earlier_sort}
 use Rattle.sp_compile.specs.Stands.{kind_of, plan_column}
 use Rattle.sp_compile.specs.Meaning.{Datum, datum_of}
 use Rattle.sp_compile.proofs.EarlierNames.{is_before}
@@ -35,23 +36,24 @@ module _ (scope : Scope) (r : Readable) (reads : Reads scope r) (place : ℕ) (c
   there : slice_get r.columns place ≡ Some (plan_column column)
   there = ap (λ columns. slice_get columns place) reads.0 ∙ planned_there scope.columns place column is
 
-  pub earlier_sorted : (number : ℕ) → number < bound_names scope.names scope.here → HasSort r (e.Earlier number place) (column_sort column)
-  earlier_sorted number before =
-      let bound : number < r.names = subst (λ (n : ℕ). number < n) (sym reads.1) before in
+  pub earlier_sorted : (number : ℕ) → number < bound_names scope.names scope.here → is_among (binding_from 0 scope.names) number ≡ true → HasSort r (e.Earlier number place) (column_sort column)
+  earlier_sorted number before binds =
+      let bound : MayRead r number = (subst (λ (n : ℕ). number < n) (sym reads.1) before, ap (λ (l : List ℕ). is_among l number) reads.2 ∙ binds) in
       by_kind r (e.Earlier number place) place column.name.text column.kind column.digits there (λ h. (bound, h)) (λ scale h. (bound, h))
 
 -- ---- a column of an event that is bound earlier
 
 module _ (scope : Scope) (name text : List ℕ) (here number place : ℕ) (found : PatternName) (column : QueryColumn) (is : scope.here ≡ Some here)
     (named : name_place scope.names name ≡ Some number) (placed : column_place scope.columns text ≡ Some place) (column_is : slice_get scope.columns place ≡ Some column) where
-  pub earlier_verdict : (span : Span) → slice_get scope.names number ≡ Some found → found.element < here → earlier_sort scope span name text ≡ Ok (column_sort column)
-  earlier_verdict span found_is less =
+  pub earlier_verdict : (span : Span) → slice_get scope.names number ≡ Some found → found.negated ≡ false → found.element < here → earlier_sort scope span name text ≡ Ok (column_sort column)
+  earlier_verdict span found_is binds less =
       let columns = column_there scope.columns (column_place scope.columns text) in
       ap (λ o. earlier_in o scope span name text) is
       ∙ ap (λ o. earlier_there span (Some here) (name_there scope.names o) columns) named
       ∙ ap (λ o. earlier_there span (Some here) o columns) found_is
       ∙ ap (λ o. earlier_there span (Some here) (Some found) (column_there scope.columns o)) placed
       ∙ ap (λ o. earlier_there span (Some here) (Some found) o) column_is
+      ∙ ap (λ (b : Bool). if b then Err (f.NeverBound span) else if is_earlier (Some here) (Some found) then Ok (column_sort column) else Err (f.LateReference span)) binds
       ∙ ap (λ (b : Bool). if b then Ok (column_sort column) else Err (f.LateReference span)) (is_before found.element here less)
 
   pub earlier_comes : (event : Event) (bound : BoundEvents) → earlier_datum scope name text event bound ≡ Some (datum (column_sort column) (earlier_column (last_bound number bound) place))

@@ -1,28 +1,30 @@
 -- The checks of a whole query, one part after the other, and the plan of all parts.
-use Rattle.std.proofs.Common.{◌≡◌, ℕ, suc, inl, inr, ◌≤◌, ◌<◌, List, [], ◌∷◌, length, Option, Some, None, Result, Ok, Err, IsErrAnd, refl, sym, ◌∙◌, ap, subst}
+use Rattle.std.proofs.Common.{◌≡◌, ℕ, suc, inl, inr, ◌≤◌, ◌<◌, List, [], ◌∷◌, length, map, Option, Some, None, Result, Ok, Err, IsErrAnd, refl, sym, ◌∙◌, ap, subst}
 use Rattle.std.specs.Prelude.{IfOk, IfErr}
-use Rattle.std.specs.List.{last_or, range_with_len}
+use Rattle.std.specs.List.{AllZip, last_or, range_with_len, flat_map}
 use Rattle.std.proofs.lemmas.List.{length-map}
 use Rattle.std.proofs.lemmas.Result.{err_from_is_err_and}
 use Rattle.sp_plan.specs.declared.plan.Name.{Name}
 use Rattle.sp_plan.specs.declared.plan.Opening.{Opening}
 use Rattle.sp_plan.specs.declared.plan.Plan.{Plan}
-use Rattle.sp_plan.specs.Compiled.{AreApart, IsCompiled}
+use Rattle.sp_plan.specs.Comparable.{Readable, IsComparable}
+use Rattle.sp_plan.specs.Compiled.{AreApart, IsCompiled, OpeningReads}
+use Rattle.sp_plan.specs.Runs.{binds}
 use Rattle.sp_query.specs.declared.query.Query.{Query}
 use Rattle.sp_compile.specs.declared.fault.CompileFault.{CompileFault}
 use Rattle.sp_compile.specs.declared.fault.CompileFault.TheVariants as f
-use Rattle.sp_compile.specs.Answers.{IsNamed}
-use Rattle.sp_compile.specs.Checks.{columns_fault, time_fault, names_fault, last_fault, elements_fault, Defines, length_fault, OpeningFault, consume_fault, Then, stops, goes, Finds, Checks}
+use Rattle.sp_compile.specs.Answers.{IsNamed, bound_names}
+use Rattle.sp_compile.specs.Checks.{columns_fault, time_fault, names_fault, first_fault, last_fault, ends_fault, elements_fault, Defines, length_fault, OpeningFault, consume_fault, Then, stops, goes, Finds, Checks}
 use Rattle.sp_compile.specs.Gathers.{Gathers}
 use Rattle.sp_compile.specs.Naming.{AreNames, Misdefines}
-use Rattle.sp_compile.specs.Scopes.{pattern_names, PatternName}
+use Rattle.sp_compile.specs.Scopes.{pattern_names, binding_from, PatternName}
 use Rattle.sp_compile.specs.Sorts.{first}
 use Rattle.sp_compile.specs.Stages.{NamesPass, Misopens, EndPasses, Misends, plan_of}
-use Rattle.sp_compile.specs.Stands.{plan_column, all_trees, StandForNames, Stands}
+use Rattle.sp_compile.specs.Stands.{plan_column, plan_elements, all_trees, StandForNames, Stands}
 use Rattle.sp_compile.specs.Told.{IsPlanOf, Refuses, IsFound}
 use Rattle.sp_compile.proofs.Apart.{columns_apart, columns_sound, names_apart, gathered_apart, none_apart}
-use Rattle.sp_compile.proofs.Ends.{is_last, wide_sets, is_timed}
-use Rattle.sp_compile.proofs.EarlierNames.{read_earlier}
+use Rattle.sp_compile.proofs.Ends.{is_first, is_last, wide_sets, is_timed}
+use Rattle.sp_compile.proofs.EarlierNames.{read_earlier, binding_is}
 use Rattle.sp_compile.proofs.Limits.{neither, is_named}
 use Rattle.sp_compile.proofs.OneFault.{one_fault}
 use Rattle.sp_compile.proofs.Placed.{numbers_in_order}
@@ -60,10 +62,17 @@ module _ (query : Query) (fault : CompileFault) where
       elements_refuse e = refuses query fault (goes (Some fault) (sym columns) (goes (Some fault) (sym time) (stops fault (sym e))))
 
       pub names_refuse : names_fault [] (pattern_names query) ≡ Some fault → Refuses query fault
-      names_refuse e = elements_refuse (ap (λ o. first o (last_fault (last_or None query.elements))) e)
+      names_refuse e = elements_refuse (ap (λ o. first o (ends_fault query.elements)) e)
 
-      pub last_refuse : names_fault [] (pattern_names query) ≡ None → last_fault (last_or None query.elements) ≡ Some fault → Refuses query fault
-      last_refuse none e = elements_refuse (ap (λ o. first o (last_fault (last_or None query.elements))) none ∙ e)
+      module _ (names : names_fault [] (pattern_names query) ≡ None) where
+        ends_refuse : ends_fault query.elements ≡ Some fault → Refuses query fault
+        ends_refuse e = elements_refuse (ap (λ o. first o (ends_fault query.elements)) names ∙ e)
+
+        pub first_refuse : first_fault query.elements ≡ Some fault → Refuses query fault
+        first_refuse e = ends_refuse (ap (λ o. first o (last_fault (last_or None query.elements))) e)
+
+        pub last_refuse : first_fault query.elements ≡ None → last_fault (last_or None query.elements) ≡ Some fault → Refuses query fault
+        last_refuse none e = ends_refuse (ap (λ o. first o (last_fault (last_or None query.elements))) none ∙ e)
 
 -- ---- behind these
 
@@ -73,7 +82,7 @@ module _ (query : Query) (listed : List PatternName) (named : NamesPass query li
   after_names fault d = goes fault (sym named.columns) (goes fault (sym named.time) (goes fault (sym named.elements) d))
 
   pub names_known : IsNamed query
-  names_known = is_named query named.columns (neither (names_fault [] (pattern_names query)) (last_fault (last_or None query.elements)) named.elements).0
+  names_known = is_named query named.columns (neither (names_fault [] (pattern_names query)) (ends_fault query.elements) named.elements).0
 
   pub defines_refuse : (fault : CompileFault) → Misdefines query fault → Refuses query fault
   defines_refuse f.Memory d = tt
@@ -130,12 +139,27 @@ module _ (query : Query) (listed : List PatternName) (texts : List (List ℕ)) (
     opening = ends.opens.stands;
   }
 
+  -- what predicates read where these names bind events
+  abbrev may_read : ℕ → List ℕ → Readable
+  may_read before binding = record { columns = map plan_column query.columns; texts = length texts; names = before; binding = binding }
+
+  -- the names of the plan that bind events are those of the pattern
+  binding : binding_from 0 (pattern_names query) ≡ flat_map binds (plan_elements 0 query.elements)
+  binding = sym (binding_is query.elements 0 0)
+
+  names_read : AllZip (λ name one. IsComparable (may_read (bound_names (pattern_names query) (Some name.element)) (flat_map binds (plan_elements 0 query.elements))) one.pred) (pattern_names query) planned
+  names_read = subst (λ (l : List ℕ). AllZip (λ name one. IsComparable (may_read (bound_names (pattern_names query) (Some name.element)) l) one.pred) (pattern_names query) planned) binding names.read
+
+  opening_read : OpeningReads (may_read 0 (flat_map binds (plan_elements 0 query.elements))) opening
+  opening_read = subst (λ (l : List ℕ). OpeningReads (may_read 0 l) opening) binding ends.opens.reads
+
   -- and keeps the limits
   plan_compiled : Gathers (all_trees query) [] texts → IsCompiled (plan_of query planned opening texts)
   plan_compiled gathers =
       let known = names_known query listed named in
       let many : length planned ≡ length (pattern_names query) = as_many query texts (pattern_names query) planned names.stand in
-      let single = neither (names_fault [] (pattern_names query)) (last_fault (last_or None query.elements)) named.elements in
+      let single = neither (names_fault [] (pattern_names query)) (ends_fault query.elements) named.elements in
+      let both = neither (first_fault query.elements) (last_fault (last_or None query.elements)) single.1 in
       let fine = fine_length query ends.fits in
       record {
         columns = subst (λ (n : ℕ). n ≤ 64) (sym (length-map query.columns plan_column)) known.columns;
@@ -147,11 +171,12 @@ module _ (query : Query) (listed : List PatternName) (texts : List (List ℕ)) (
         names_apart = names_apart query texts (pattern_names query) planned names.stand single.0;
         elements = numbers_in_order query.elements 0 ∙ ap (λ (n : ℕ). range_with_len 0 n) (sym many);
         sets = wide_sets query.elements 0 named.wide;
-        last = is_last query.elements named.some single.1;
+        first = is_first query.elements named.some both.0;
+        last = is_last query.elements named.some both.1;
         preds = names.within;
-        reads = read_earlier (plan_of query planned opening texts) query.elements planned names.read;
+        reads = read_earlier (plan_of query planned opening texts) query.elements planned names_read;
         opening = ends.opens.within;
-        opening_reads = ends.opens.reads;
+        opening_reads = opening_read;
         windowed = record {
           length_is = length_keeps query.time query.length.0 query.length.1 fine;
           opening_is = ends.opens.opens;

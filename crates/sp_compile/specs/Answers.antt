@@ -15,7 +15,7 @@ use Rattle.sp_compile.specs.declared.fault.CompileFault.{CompileFault}
 use Rattle.sp_compile.specs.declared.fault.CompileFault.TheVariants as f
 use Rattle.sp_compile.specs.declared.sort.Sort.{Sort}
 use Rattle.sp_compile.specs.declared.sort.Sort.TheVariants as s
-use Rattle.sp_compile.specs.Scopes.{Scope, AreOrdered, pattern_names, PatternName}
+use Rattle.sp_compile.specs.Scopes.{Scope, AreOrdered, pattern_names, binding_from, PatternName}
 use Rattle.sp_compile.specs.Checks.{Types, Tests}
 use Rattle.sp_compile.specs.Meaning.{Datum, number, text, Means, Truth}
 use Rattle.sp_compile.specs.Stands.{plan_column}
@@ -52,7 +52,7 @@ bound_names names (Some here) = count_by (λ name. nat_lt name.element here) nam
 
 -- what a predicate of this scope may read of the plan
 abbrev pub readable_in : Scope → List (List ℕ) → Readable
-readable_in scope texts = record { columns = map plan_column scope.columns; texts = length texts; names = bound_names scope.names scope.here }
+readable_in scope texts = record { columns = map plan_column scope.columns; texts = length texts; names = bound_names scope.names scope.here; binding = binding_from 0 scope.names }
 
 -- an expression of the plan is of this sort
 abbrev pub HasSort : Readable → Expr → Sort → Type 0

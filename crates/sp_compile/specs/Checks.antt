@@ -99,13 +99,23 @@ abbrev pub names_fault : List (List ℕ) → List PatternName → Option Compile
 names_fault before [] = None
 names_fault before (name ∷ names) = first (name_fault before name.name) (names_fault (before ++ name.name.text ∷ []) names)
 
+-- of elements of which the first is negated
+abbrev pub first_fault : List QueryElement → Option CompileFault
+first_fault (e.Never name span ∷ elements) = Some (f.NeverEnds span)
+first_fault _ = None
+
 abbrev pub last_fault : Option QueryElement → Option CompileFault
 last_fault (Some (e.Plus name span)) = Some (f.PlusLast span)
+last_fault (Some (e.Never name span)) = Some (f.NeverEnds span)
 last_fault _ = None
 
--- the names, and then the last element
+-- the first element, and then the last
+abbrev pub ends_fault : List QueryElement → Option CompileFault
+ends_fault elements = first (first_fault elements) (last_fault (last_or None elements))
+
+-- the names, and then the elements at both ends
 abbrev pub elements_fault : Query → Option CompileFault
-elements_fault query = first (names_fault [] (pattern_names query)) (last_fault (last_or None query.elements))
+elements_fault query = first (names_fault [] (pattern_names query)) (ends_fault query.elements)
 
 -- the scope of the predicate of a name that is there
 abbrev pub scope_of : Query → Option PatternName → Scope
@@ -152,8 +162,16 @@ abbrev pub OpeningFault : Query → QueryOpening → Option CompileFault → Typ
 OpeningFault query (o.Every step unit span) fault = fault ≡ (if step_is_fine query.length.0 query.length.1 step unit then None else Some (f.BadWindow span))
 OpeningFault query (o.When pred) fault = Tests (scope_of query None) pred fault
 
+-- behind names of these texts, by the name of the pattern: it is there, isn't negated, and comes once
+abbrev pub used_fault : List (List ℕ) → Ident → Option PatternName → Option CompileFault
+used_fault before name None = Some (f.Unknown name.span)
+used_fault before name (Some there) =
+    if there.negated then Some (f.NeverBound name.span)
+    else if is_among before name.text then Some (f.Twice name.span)
+    else None
+
 abbrev pub consumed_fault : Query → List (List ℕ) → Ident → Option CompileFault
-consumed_fault query before name = defined_fault before name (defined query name)
+consumed_fault query before name = used_fault before name (defined query name)
 
 abbrev pub consumed_names_fault : Query → List (List ℕ) → List Ident → Option CompileFault
 consumed_names_fault query before [] = None

@@ -20,7 +20,7 @@ use Rattle.sp_compile.specs.Stands.{StandsForDefinition, StandForNames, is_consu
 abbrev pub defined_in : List (Ident × Tree) → List ℕ → Option (Ident × Tree)
 defined_in defines text = find (λ define. bytes_eq define.0.text text) defines
 
--- the predicate of a name compares like with like, and reads names of earlier elements alone
+-- the predicate of a name compares like with like, and reads names of earlier elements alone, none of them negated
 abbrev pub ReadsBefore : Query → List (List ℕ) → PatternName → Name → Type 0
 ReadsBefore query texts name planned = IsComparable (readable_in (scope_in query (Some name.element)) texts) planned.pred
 
@@ -28,7 +28,7 @@ ReadsBefore query texts name planned = IsComparable (readable_in (scope_in query
 pub record StandsSoFar (query : Query) (texts : List (List ℕ)) (defines : List (Ident × Tree)) (name : PatternName) (planned : Name) : Type 0 where
   pub text : planned.text ≡ name.name.text
   pub pred : StandsForDefinition query texts name (defined_in defines name.name.text) planned.pred
-  pub consumed : planned.consumed ≡ is_consumed query.consume name.name.text
+  pub consumed : planned.consumed ≡ is_consumed query.consume name
   pub reads : ReadsBefore query texts name planned
 
 -- and so do all names

@@ -17,7 +17,7 @@ use Rattle.sp_compile.specs.declared.fault.CompileFault.{CompileFault}
 use Rattle.sp_compile.specs.declared.fault.CompileFault.TheVariants as f
 use Rattle.sp_compile.specs.declared.sort.Sort.{Sort}
 use Rattle.sp_compile.specs.declared.sort.Sort.TheVariants as s
-use Rattle.sp_compile.specs.Scopes.{Scope, column_place, name_place}
+use Rattle.sp_compile.specs.Scopes.{Scope, column_place, name_place, binding_from}
 use Rattle.sp_compile.specs.Sorts.{Verdict, sum_sort, product_sort, negative_sort, operator_sort}
 use Rattle.sp_compile.specs.Meaning.{Datum, number, text, datum_of, combined, negative}
 use Rattle.sp_compile.specs.Answers.{datum, IsBounded, HasSort, bound_names}
@@ -157,9 +157,9 @@ NumberAnswer units scale result = MadeAnswer (Ok (s.Number scale units)) (λ eve
 abbrev pub TextAnswer : List (List ℕ) → List ℕ → Result (Expr × Sort) CompileFault → Type 0
 TextAnswer texts t result = MadeAnswer (Ok s.Text) (λ event bound. Some (text (pos (symbol_of texts t)))) (λ r. r.texts ≡ length texts) result
 
--- what may be read has the columns of this scope, and the names that are bound in it
+-- what may be read has the columns of this scope, and those of its names that are of earlier elements and aren't negated
 abbrev pub Reads : Scope → Readable → Type 0
-Reads scope r = (r.columns ≡ map plan_column scope.columns) × (r.names ≡ bound_names scope.names scope.here)
+Reads scope r = (r.columns ≡ map plan_column scope.columns) × (r.names ≡ bound_names scope.names scope.here) × (r.binding ≡ binding_from 0 scope.names)
 
 -- what a column comes to, by what stands in it
 abbrev pub column_datum : Option QueryColumn → ℤ → Option Datum

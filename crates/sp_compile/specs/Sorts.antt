@@ -58,11 +58,14 @@ abbrev pub name_there : List PatternName → Option ℕ → Option PatternName
 name_there names None = None
 name_there names (Some place) = slice_get names place
 
--- a name that is there, of an earlier element, with a column that is there
+-- a name that is there, not negated and of an earlier element, with a column that is there
 abbrev pub earlier_there : Span → Option ℕ → Option PatternName → Option QueryColumn → Verdict
 earlier_there span here None column = Err (f.Unknown span)
 earlier_there span here (Some name) None = Err (f.Unknown span)
-earlier_there span here (Some name) (Some column) = if is_earlier here (Some name) then Ok (column_sort column) else Err (f.LateReference span)
+earlier_there span here (Some name) (Some column) =
+    if name.negated then Err (f.NeverBound span)
+    else if is_earlier here (Some name) then Ok (column_sort column)
+    else Err (f.LateReference span)
 
 abbrev pub earlier_in : Option ℕ → Scope → Span → List ℕ → List ℕ → Verdict
 earlier_in None scope span name text = Err (f.LateReference span)

@@ -22,6 +22,7 @@ abbrev pub is_wide : QueryElement → Bool
 is_wide (e.One name) = true
 is_wide (e.Plus name span) = true
 is_wide (e.Set names) = nat_le 2 (length names)
+is_wide (e.Never name span) = true
 
 -- The columns, the time and the elements have no fault, and these are the names of the pattern; it is one that a text has.
 pub record NamesPass (query : Query) (listed : List PatternName) : Type 0 where

@@ -1,5 +1,5 @@
 -- When a plan stands for a query: the same columns, names, elements, window, policy and consumed names, one to one, and predicates that hold where those of the query are true.
-use Rattle.std.specs.Prelude.{◌≡◌, ℕ, ◌+◌, pos, Bool, true, false, List, [], ◌∷◌, ◌++◌, length, map, fold, Option, Some, None}
+use Rattle.std.specs.Prelude.{◌≡◌, ℕ, ◌+◌, pos, Bool, false, not, List, [], ◌∷◌, ◌++◌, length, map, fold, Option, Some, None}
 use Rattle.std.specs.List.{find, list_any}
 use Rattle.std.specs.Str.{bytes_eq}
 use Rattle.sp_lex.specs.declared.token.Word.{Word}
@@ -59,6 +59,7 @@ abbrev pub plan_element : ℕ → QueryElement → Element
 plan_element at (e.One name) = p.One at
 plan_element at (e.Plus name span) = p.Plus at
 plan_element at (e.Set names) = p.Set at (length names)
+plan_element at (e.Never name span) = p.Never at
 
 abbrev pub width : QueryElement → ℕ
 width (e.Set names) = length names
@@ -104,16 +105,17 @@ StandsForDefinition query texts name (Some define) pred = HoldsAs (scope_of quer
 abbrev pub definition_of : Query → List ℕ → Option (Ident × Tree)
 definition_of query text = find (λ define. bytes_eq define.0.text text) query.defines
 
-abbrev pub is_consumed : QueryConsume → List ℕ → Bool
-is_consumed u.All text = true
-is_consumed u.None text = false
-is_consumed (u.Names names) text = list_any (λ name. bytes_eq name.text text) names
+-- whether a match consumes the events of a name: ALL is every name that isn't negated
+abbrev pub is_consumed : QueryConsume → PatternName → Bool
+is_consumed u.All name = not name.negated
+is_consumed u.None name = false
+is_consumed (u.Names names) name = list_any (λ other. bytes_eq other.text name.name.text) names
 
 -- A name of the plan stands for a name of the pattern.
 pub record StandsForName (query : Query) (texts : List (List ℕ)) (name : PatternName) (planned : Name) : Type 0 where
   pub text : planned.text ≡ name.name.text
   pub pred : StandsForDefinition query texts name (definition_of query name.name.text) planned.pred
-  pub consumed : planned.consumed ≡ is_consumed query.consume name.name.text
+  pub consumed : planned.consumed ≡ is_consumed query.consume name
 
 -- Names stand for names, one by one.
 abbrev pub StandForNames : Query → List (List ℕ) → List PatternName → List Name → Type 0

@@ -13,7 +13,7 @@ use crate::columns::{columns_fault, schema, time_fault};
 use crate::consume::consume_fault;
 use crate::definitions::definitions;
 use crate::elements::{
-    PlacedName, are_wide, last_fault, names_fault, pattern_names, plan_elements,
+    PlacedName, are_wide, first_fault, last_fault, names_fault, pattern_names, plan_elements,
 };
 use crate::fault::{checked, pass};
 use crate::opening::opening;
@@ -32,6 +32,7 @@ fn named(alloc: Global, query: &Query) -> Result<Vec<PlacedName>, CompileFault>
     pass(time_fault(query.columns.as_slice(), &query.time))?;
     let names = pattern_names(alloc, query.elements.as_slice())?;
     pass(names_fault(&names))?;
+    pass(first_fault(query.elements.as_slice()))?;
     pass(last_fault(query.elements.as_slice()))?;
     if names.is_empty() || !are_wide(query.elements.as_slice()) {
         // No text has such a pattern.

@@ -9,7 +9,7 @@ ghost use Rattle.sp_compile.specs.Stands as stands;
 
 use crate::CompileFault;
 use crate::elements::PlacedName;
-use crate::lookup::given_place;
+use crate::lookup::name_place;
 use sp_plan::Text;
 use sp_query::{Ident, Query, QueryConsume};
 
@@ -20,12 +20,22 @@ fn is_among(names: &[Ident], text: &Text) -> bool
     names.iter().any(|name| name.text.as_str() == text.as_str())
 }
 
-// What is wrong with a name behind these: the pattern has none such, or it stands twice.
+// What is wrong with a name behind these: the pattern has none such, it is negated, or it stands twice.
 fn consumed_fault(names: &[PlacedName], before: &[Ident], name: &Ident) -> Option<CompileFault>
     ensures { (query : Query) → names.now ≡ scopes.pattern_names query
         → result ≡ checks.consumed_fault query (map (λ name. name.text) before.now) name.now }
 {
-    given_place(names, name, is_among(before, &name.text)).err()
+    let Some(place) = name_place(names, &name.text) else {
+        return Some(CompileFault::Unknown(name.span));
+    };
+    let named = &names[place];
+    if named.negated {
+        return Some(CompileFault::NeverBound(name.span));
+    }
+    if is_among(before, &name.text) {
+        return Some(CompileFault::Twice(name.span));
+    }
+    None
 }
 
 /// The first fault of the consumed names, from the left.
@@ -45,13 +55,13 @@ pub(crate) fn consume_fault(query: &Query, names: &[PlacedName]) -> Option<Compi
     None
 }
 
-/// Whether a match consumes the events of this name.
-pub(crate) fn is_consumed(consume: &QueryConsume, text: &Text) -> bool
-    ensures { result ≡ stands.is_consumed consume.now text.now }
+/// Whether a match consumes the events of this name; a negated one has none.
+pub(crate) fn is_consumed(consume: &QueryConsume, named: &PlacedName) -> bool
+    ensures { result ≡ stands.is_consumed consume.now named.now }
 {
     match consume {
-        QueryConsume::All => true,
+        QueryConsume::All => !named.negated,
         QueryConsume::None => false,
-        QueryConsume::Names(names) => is_among(names.as_slice(), text),
+        QueryConsume::Names(names) => is_among(names.as_slice(), &named.name.text),
     }
 }

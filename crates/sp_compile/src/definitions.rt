@@ -42,20 +42,20 @@ fn defined_place(
 }
 
 // A name of the plan without a definition.
-fn undefined_name(alloc: Global, query: &Query, name: &Ident) -> Result<Name, Memory>
+fn undefined_name(alloc: Global, query: &Query, named: &PlacedName) -> Result<Name, Memory>
     ensures { IfOk result
         (λ planned. planned
         ≡ record {
-          text = name.now.text;
+          text = named.now.name.text;
           pred = Always;
           consumed = stands.is_consumed
-              query.now.consume name.now.text;
+              query.now.consume named.now;
         }) }
 {
     Ok(Name {
-        text: name.text.copy(alloc)?,
+        text: named.name.text.copy(alloc)?,
         pred: Pred::Always,
-        consumed: is_consumed(&query.consume, &name.text),
+        consumed: is_consumed(&query.consume, named),
     })
 }
 
@@ -68,7 +68,7 @@ fn undefined_names(alloc: Global, query: &Query, names: &[PlacedName]) -> Result
 {
     let mut planned = Vec::with_capacity(alloc, names.len())?;
     for named in names {
-        planned.push(undefined_name(alloc, query, named.name)?)?;
+        planned.push(undefined_name(alloc, query, named)?)?;
     }
     Ok(planned)
 }

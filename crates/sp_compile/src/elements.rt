@@ -16,11 +16,12 @@ use std::marker::Model;
 /// How many names a pattern may have.
 const MOST_NAMES: usize = 32;
 
-/// A name of the pattern, and the number of its element from 0.
+/// A name of the pattern, the number of its element from 0, and whether it is negated.
 #[derive(Drop)]
 pub(crate) struct PlacedName<'a> {
     pub(crate) name: &'a Ident,
     pub(crate) element: usize,
+    pub(crate) negated: bool,
 }
 
 impl<'a> Model for PlacedName<'a> {
@@ -28,7 +29,8 @@ impl<'a> Model for PlacedName<'a> {
 
     ghost Value = { PatternName };
 
-    ghost view = { λ named. record { name = named.name.now; element = named.element } };
+    ghost view = { λ named.
+        record { name = named.name.now; element = named.element; negated = named.negated } };
 }
 
 /// The names of an element.
@@ -36,8 +38,20 @@ pub(crate) fn names_in(element: &QueryElement) -> &[Ident]
     ensures { result.now ≡ scopes.names_in element.now }
 {
     match element {
-        QueryElement::One(name) | QueryElement::Plus(name, _) => std::slice::from_ref(name),
+        QueryElement::One(name) | QueryElement::Plus(name, _) | QueryElement::Never(name, _) => {
+            std::slice::from_ref(name)
+        }
         QueryElement::Set(names) => names.as_slice(),
+    }
+}
+
+// Whether an element is a negated name.
+fn is_negated(element: &QueryElement) -> bool
+    ensures { result ≡ scopes.is_negated element.now }
+{
+    match element {
+        QueryElement::Never(_, _) => true,
+        _ => false,
     }
 }
 
@@ -50,10 +64,12 @@ pub(crate) fn pattern_names<'a>(
 {
     let mut names = Vec::new(alloc);
     for (number, element) in elements.iter().enumerate() {
+        let negated = is_negated(element);
         for name in names_in(element) {
             names.push(PlacedName {
                 name,
                 element: number,
+                negated,
             })?;
         }
     }
@@ -85,13 +101,24 @@ pub(crate) fn names_fault(names: &[PlacedName]) -> Option<CompileFault>
     None
 }
 
-/// What is wrong with the last element: it is one event or more.
+/// What is wrong with the first element: it is negated.
+pub(crate) fn first_fault(elements: &[QueryElement]) -> Option<CompileFault>
+    ensures { result ≡ checks.first_fault elements.now }
+{
+    match elements {
+        [QueryElement::Never(_, span), ..] => Some(CompileFault::NeverEnds(*span)),
+        _ => None,
+    }
+}
+
+/// What is wrong with the last element: it is one event or more, or negated.
 #[tactic(auto, using(crate::proofs::LastElement::last_is))]
 pub(crate) fn last_fault(elements: &[QueryElement]) -> Option<CompileFault>
     ensures { result ≡ checks.last_fault (last_or None elements.now) }
 {
     match elements.last()? {
         QueryElement::Plus(_, span) => Some(CompileFault::PlusLast(*span)),
+        QueryElement::Never(_, span) => Some(CompileFault::NeverEnds(*span)),
         QueryElement::One(_) | QueryElement::Set(_) => None,
     }
 }
@@ -136,6 +163,7 @@ fn plan_element(first: usize, element: &QueryElement) -> Element
             first,
             count: names.len() as u8,
         },
+        QueryElement::Never(_, _) => Element::Never(first),
     }
 }
 

@@ -26,6 +26,10 @@ pub enum CompileFault {
     BadWindow(Span),
     /// More columns than 64, or names than 32.
     TooMany(Span),
+    /// A negated name at an end of the pattern.
+    NeverEnds(Span),
+    /// A negated name, where one that binds events is needed.
+    NeverBound(Span),
     /// Out of memory.
     Memory,
 }
@@ -63,7 +67,7 @@ impl From<AllocError> for CompileFault {
 }
 
 impl CompileFault {
-    /// The printed code, 21 to 28. Want of memory has none; it gives 0.
+    /// The printed code, 21 to 30. Want of memory has none; it gives 0.
     pub fn code(&self) -> u8
         ensures { result ≡ code_of self.now }
     {
@@ -76,6 +80,8 @@ impl CompileFault {
             CompileFault::TooWide(_) => 26,
             CompileFault::BadWindow(_) => 27,
             CompileFault::TooMany(_) => 28,
+            CompileFault::NeverEnds(_) => 29,
+            CompileFault::NeverBound(_) => 30,
             CompileFault::Memory => 0,
         }
     }
@@ -92,7 +98,9 @@ impl CompileFault {
             | CompileFault::LateReference(span)
             | CompileFault::TooWide(span)
             | CompileFault::BadWindow(span)
-            | CompileFault::TooMany(span) => span.from,
+            | CompileFault::TooMany(span)
+            | CompileFault::NeverEnds(span)
+            | CompileFault::NeverBound(span) => span.from,
             CompileFault::Memory => 0,
         }
     }

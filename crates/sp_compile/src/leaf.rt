@@ -71,7 +71,7 @@ pub(crate) fn own(scope: &Scope, span: Span, text: &Text) -> Result<(Expr, Sort)
     }
 }
 
-// A column of the last event that is bound to an earlier name.
+// A column of the last event that is bound to an earlier name; to a negated one none is.
 pub(crate) fn earlier(
     scope: &Scope,
     span: Span,
@@ -91,6 +91,9 @@ pub(crate) fn earlier(
         return Err(CompileFault::Unknown(span));
     };
     let named = &scope.names[number];
+    if named.negated {
+        return Err(CompileFault::NeverBound(span));
+    }
     if named.element >= here {
         return Err(CompileFault::LateReference(span));
     }

@@ -34,6 +34,8 @@ checks_of query (f.LateReference span) other refuses = refuses
 checks_of query (f.TooWide span) other refuses = refuses
 checks_of query (f.BadWindow span) other refuses = refuses
 checks_of query (f.TooMany span) other refuses = refuses
+checks_of query (f.NeverEnds span) other refuses = refuses
+checks_of query (f.NeverBound span) other refuses = refuses
 
 -- the laws of texts and queries
 pub record TextLaws : Type 0 where

@@ -39,6 +39,8 @@ module _ (text : List ℕ) (utf8 : IsUtf8 text) where
     compile_refused (f.TooWide span) s refuses memory other = fault_refused (f.TooWide span) s refuses (λ e. cc) other
     compile_refused (f.BadWindow span) s refuses memory other = fault_refused (f.BadWindow span) s refuses (λ e. cc) other
     compile_refused (f.TooMany span) s refuses memory other = fault_refused (f.TooMany span) s refuses (λ e. cc) other
+    compile_refused (f.NeverEnds span) s refuses memory other = fault_refused (f.NeverEnds span) s refuses (λ e. cc) other
+    compile_refused (f.NeverBound span) s refuses memory other = fault_refused (f.NeverBound span) s refuses (λ e. cc) other
 
     pub plan_for : (r : Result Plan Refusal) → IfOk r (λ q. IsPlanOf q query) → IfOk r (IsPlanFor text)
     plan_for (Ok q) plan = record { utf8 = utf8; query = query; is_query = is; is_plan = plan }

@@ -15,6 +15,6 @@ loop-named-preserved c =
     let pushed : c.push.new.self.items ≡ items ++ one ∷ [] = search rules in
     let bounded : PredWithin one.pred = subst PredWithin (sym (ap (λ (n : Name). n.pred) c.in_ok-undefined_name.ensures)) tt in (
       λ texts. subst (λ l. StandSoFar query texts [] (take (c.loop-named.named-index + 1) c.args.names.now) l) (sym pushed)
-          (undefined_more query texts c.args.names.now c.loop-named.named-index c.named-item.result c.named.inside.name.now items one (omega arith) c.named-item.is (ap (λ n. n.name) (sym c.named.view_is)) c.in_ok-undefined_name.ensures (c.loop-named.invariant.0 texts)),
+          (undefined_more query texts c.args.names.now c.loop-named.named-index c.named-item.result items one (omega arith) c.named-item.is c.in_ok-undefined_name.ensures (c.loop-named.invariant.0 texts)),
       subst (λ l. All (λ (n : Name). PredWithin n.pred) l) (sym pushed) (All-push (λ (n : Name). PredWithin n.pred) items one c.loop-named.invariant.1 bounded),
     )

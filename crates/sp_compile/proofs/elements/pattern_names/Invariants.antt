@@ -6,4 +6,4 @@ abbrev pub invariant-loop-number : goal.invariant-loop-number
 invariant-loop-number l = l.names.items ++ placed_names l.number (drop l.number l.elements) ≡ placed_names 0 l.elements
 
 abbrev pub invariant-loop-name : goal.invariant-loop-name
-invariant-loop-name l = l.names.items ≡ l.initial.names.items ++ map (in_element l.number) (take l.name-index l.name-items)
+invariant-loop-name l = l.names.items ≡ l.initial.names.items ++ map (in_element l.number l.negated) (take l.name-index l.name-items)
