@@ -17,6 +17,7 @@ fn mark_name(kernel: &Kernel) -> &'static str {
         Kernel::Plus => "plus",
         Kernel::Minus => "minus",
         Kernel::Star => "star",
+        Kernel::Bang => "bang",
         Kernel::Equal => "equal",
         Kernel::Unequal => "unequal",
         Kernel::Less => "less",
