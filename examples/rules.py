@@ -1,8 +1,8 @@
 """An independent reading of the rules in docs/language.md, for the count.py of each example.
 
 It shares nothing with the program: windows are lists of rows, a run is a list of pairs, and each rule is
-looked up anew at each event. A pattern is a list of elements, each (kind, names) with the kind "one", "plus"
-or "set"; a predicate takes the row and the last row bound to each earlier name.
+looked up anew at each event. A pattern is a list of elements, each (kind, names) with the kind "one", "plus",
+"set" or "never", which is a negated name; a predicate takes the row and the last row bound to each earlier name.
 """
 
 
@@ -10,6 +10,8 @@ def take(pattern, predicates, run, row):
     """The name under which a run takes a row, or None."""
     bound = {name: other for name, _, other in run}
     for kind, names in pattern:
+        if kind == "never":
+            continue
         lacking = [name for name in names if name not in bound]
         if lacking:
             for name in lacking:
@@ -24,10 +26,26 @@ def take(pattern, predicates, run, row):
     return None
 
 
+def guards(pattern, run):
+    """The negated names behind the element of a run's last row, where each name of that element has a row."""
+    bound = {name for name, _, _ in run}
+    for place, (kind, names) in enumerate(pattern):
+        if run and kind != "never" and run[-1][0] in names and bound.issuperset(names):
+            behind = [kind == "never" and names[0] for kind, names in pattern[place + 1 :]]
+            return behind[: behind.index(False)] if False in behind else behind
+    return []
+
+
+def ended(pattern, predicates, run, row):
+    """Whether a row that a run doesn't take ends it: it fulfils a name that guards the run."""
+    bound = {name: other for name, _, other in run}
+    return any(predicates[name](row, bound) for name in guards(pattern, run))
+
+
 def runs_over(pattern, predicates, select, consumed, rows):
     """What these (number, row) come to: the runs that are open, those that completed, each in order, and all that
     began, in the order of their beginning. A run is a list of (name, number, row)."""
-    count = sum(len(names) for _, names in pattern)
+    count = sum(len(names) for kind, names in pattern if kind != "never")
 
     def used(run):
         return {number for name, number, _ in run if name in consumed}
@@ -55,7 +73,7 @@ def runs_over(pattern, predicates, select, consumed, rows):
                 run.append((name, number, row))
                 if complete(run):
                     gone |= finish(run)
-            elif select == "LAST" and first is not None:
+            elif (select == "LAST" and first is not None) or ended(pattern, predicates, run, row):
                 runs.remove(run)
                 left = True
         begins = {"FIRST": none_before, "LAST": none_before or left, "EACH": number not in gone and len(runs) < 64}

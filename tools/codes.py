@@ -29,6 +29,8 @@ QUERY_CODES = {
     26: Meaning("TooWide", "a value that may pass 10^36, or have more than 36 decimals", QUERY),
     27: Meaning("BadWindow", "a window, or a step, past its limits", QUERY),
     28: Meaning("TooMany", "column 65, or name 33 of the pattern", QUERY),
+    29: Meaning("NeverEnds", "a negated name as the first or the last element: it has to stand between two others", QUERY),
+    30: Meaning("NeverBound", "a negated name in front of a point or in CONSUME: no event is ever bound to it", QUERY),
 }
 
 # The faults of the input, by their codes.
@@ -85,17 +87,20 @@ Hint = namedtuple("Hint", "code begins wants words")
 COMPARES = "=|<>|<=|>=|<|>"
 HINTS = [
     Hint(1, r'"', None, "A text stands in single quotes, k = 'a', and a column's name in none."),
-    Hint(1, r"!", None, "`Not equal` is <>."),
     Hint(1, r"[/%]", None, "There is no division: x > 2 * y stands for x / 2 > y. There are no comments either."),
     Hint(1, r";", None, "Nothing stands between the clauses, or behind the last one."),
     Hint(1, r"[&|]", None, "The words are AND and OR."),
     Hint(1, r"#", None, "There are no comments."),
-    Hint(1, r"[{}?]", None, "Elements are names, names with +, and SETs of names; none is counted, and none may be absent."),
+    Hint(1, r"[{}?]", None, "Elements are names, names with +, SETs of names and negated names; none is counted, and none may be absent."),
     Hint(1, "[\u2018\u2019\u201c\u201d`\u00b4]", None, "The quote of a text is the straight one, '."),
     Hint(1, "[\u00a0\u2007\u202f\ufeff]", None, "It looks like a blank, and is none: blanks, tabs and line ends are."),
     Hint(1, "[\u2013\u2014\u2212]", None, "The minus is the ASCII one, -."),
     Hint(1, r"[\u0080-\U0010ffff]", "name", "A name has ASCII letters, digits and _ alone: change the table's heading."),
     Hint(11, r"=", "literal", "Equal is one =."),
+    Hint(11, r"!", "=", "`Not equal` is <>."),
+    Hint(11, r"!", "literal", "A ! stands in front of a name of the pattern; a predicate is negated by NOT."),
+    Hint(11, r"!", "name", "A negated name, !N, is an element of its own, and stands in no SET."),
+    Hint(11, r"\+", "SET", "A + stands behind a name alone: neither a SET nor a negated name is taken more than once."),
     Hint(11, COMPARES, ")", "Round parentheses group expressions, square brackets predicates: [k = 'a' OR k = 'b'] AND .."),
     Hint(11, r"AND|OR|NOT", ")", "Round parentheses group expressions, square brackets predicates: [k = 'a' OR k = 'b'] AND .."),
     Hint(11, r"\]", "=", "Square brackets hold a predicate; round parentheses group expressions: (x + 1) * 2 > 5."),

@@ -17,7 +17,7 @@ query   = EVENT "(" column { "," column } ")" [ TIME name ]
           SELECT ( FIRST | LAST | EACH )
           CONSUME ( ALL | NONE | "(" name { "," name } ")" )
 column  = name ( INT | DEC whole | TEXT )
-element = name [ "+" ] | SET "(" name name { name } ")"
+element = name [ "+" ] | SET "(" name name { name } ")" | "!" name
 define  = name AS pred
 pred    = conj { OR conj }
 conj    = atom { AND atom }
@@ -34,7 +34,7 @@ PIECE = re.compile(
     | (?P<word>[A-Za-z_][A-Za-z0-9_]*)
     | (?P<decimal>[0-9]+\.[0-9]+) | (?P<whole>[0-9]+)
     | (?P<literal>'(?:[^']|'')*')
-    | (?P<mark><>|<=|>=|[()\[\],.+*=<>-])""",
+    | (?P<mark><>|<=|>=|[()\[\],.+*=<>!-])""",
     re.VERBOSE,
 )
 
@@ -196,6 +196,12 @@ def time_of(query):
 def names_of(query):
     """The names of the pattern, in its order."""
     return [piece.text for piece in clauses_of(query).get("PATTERN", []) if piece.kind == "name"]
+
+
+def negated_of(query):
+    """The negated names of the pattern, in its order."""
+    pieces = clauses_of(query).get("PATTERN", [])
+    return [piece.text for mark, piece in zip(pieces, pieces[1:]) if mark.text == "!" and piece.kind == "name"]
 
 
 def span_of(query, first, behind):
