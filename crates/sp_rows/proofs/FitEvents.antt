@@ -210,6 +210,13 @@ module _ (q : Plan) (timed : IsTimeOf q.schema.columns q.schema.time) where
 
   -- ---- the row
 
+  -- its time is not below 0
+  pub time_from_nought : (cells : List (List ℕ)) (places : List ℕ) → pos 0 ≤ℤ time_of cells (columns_at q places)
+  time_from_nought cells places = (time_fits cells (columns_at q places) (at_whole 0 q.schema.columns places (λ j. ap (slice_get q.schema.columns) (zero_more j)))).0
+    where
+      zero_more : (j : ℕ) → j ≡ 0 + j
+      zero_more j = omega arith
+
   event_fits : (cells : List (List ℕ)) (texts : List (List ℕ)) (places : List ℕ) → length places ≡ length q.schema.columns → first_fault cells (columns_at q places) ≡ None
       → fits q (record { time = time_of cells (columns_at q places); values = (values_of texts cells (columns_at q places)).0 }) ≡ true
   event_fits cells texts places same none =

@@ -1,5 +1,5 @@
 -- What is kept between rows, and what a row is answered with.
-use Rattle.std.specs.Prelude.{◌≡◌, ℕ, List, Option, Some, None, Result, Ok, Err}
+use Rattle.std.specs.Prelude.{◌≡◌, ℕ, Bool, List, Option, Some, None, Result, Ok, Err}
 use Rattle.std.specs.Option.{option_map}
 use Rattle.std.specs.Arc.{arc_value}
 use Rattle.sp_plan.specs.declared.event.Event.{Event}
@@ -19,6 +19,10 @@ reading places progress = record { places = places; read = progress.read; last =
 -- the plan of the rows
 abbrev pub plan_of : Rows → Plan
 plan_of rows = arc_value rows.plan
+
+-- whether times may go back
+abbrev pub is_loose : Rows → Bool
+is_loose rows = rows.progress.loose
 
 -- how far reading has come
 abbrev pub read_of : Rows → RowsRead

@@ -105,6 +105,11 @@ place_or_none (Some column) = column.place + 1
 abbrev pub time_place : List ColumnAt → ℕ
 time_place columns = place_or_none (find (λ column. column.is_time) columns)
 
+-- the place of the time's cell in the rows, 0 where there is none
+abbrev pub time_place_in : Plan → Option (List ℕ) → ℕ
+time_place_in q None = 0
+time_place_in q (Some places) = time_place (columns_at q places)
+
 -- values with one more, and the texts once it was seen
 abbrev pub with_cell : List Value × List (List ℕ) → Cell → List Value × List (List ℕ)
 with_cell so_far (number n) = (so_far.0 ++ Number n ∷ [], so_far.1)
@@ -164,3 +169,9 @@ by_cells q r (one cells) = row_of_cells q r cells r.places
 -- what the next row gives
 abbrev pub row_result : Plan → RowsRead → List ℕ → RowResult
 row_result q r bytes = by_cells q r (row_cells bytes)
+
+-- the same of rows whose times may go back, or may not: where they may no time is kept, so that none that comes later is before it
+abbrev pub given_if : Bool → RowResult → RowResult
+given_if loose (nothing r) = nothing r
+given_if loose (event e r) = event e (record r { last = if loose then pos 0 else r.last })
+given_if loose (refused f) = refused f

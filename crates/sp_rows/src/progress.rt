@@ -1,5 +1,5 @@
 // What is kept from row to row, but for the places of the columns.
-ghost use Rattle.std.specs.Prelude.{◌≡◌, ◌+◌, ◌<◌, ◌^◌, Some, None, IfOk, IfErr, IfSome, OnOk, OnErr, map, option_map, length, take};
+ghost use Rattle.std.specs.Prelude.{◌≡◌, ◌+◌, ◌<◌, ◌^◌, pos, if◌then◌else◌, Some, None, IfOk, IfErr, IfSome, OnOk, OnErr, map, option_map, length, take};
 ghost use Rattle.sp_rows.specs.Rows as spec;
 ghost use Rattle.sp_rows.specs.Shapes.{column_of, fields_in};
 ghost use Rattle.sp_rows.specs.Progress.{reading, ErrorIs, Gave};
@@ -13,12 +13,14 @@ use crate::values::{RowValues, read_values, time_in};
 use sp_plan::{Event, Memory, Plan, Values};
 use std::alloc::Global;
 
-/// How many rows were read, the last time, and the texts by their numbers.
+/// How many rows were read, the last time, the texts by their numbers, and whether times may go back: the last
+/// time is then 0.
 #[derive(Drop)]
 pub(crate) struct Progress {
     pub(crate) read: u32,
     last: i64,
     texts: Texts,
+    pub(crate) loose: bool,
 }
 
 // A place as a column's number from 1. There is none past the last `u32`.
@@ -31,15 +33,28 @@ fn column_number(place: usize) -> Option<u32>
     }
 }
 
+// A column's number from 1, or 0 where there is none.
+fn number_of(column: &Option<Placed>) -> Option<u32>
+    ensures { IfSome result
+        (λ number. number ≡ spec.place_or_none (option_map column_of column.now)) }
+{
+    match column {
+        None => Some(0),
+        Some(column) => column_number(column.place),
+    }
+}
+
 impl Progress {
     /// No row was read; the texts of the plan have the first numbers.
-    pub(crate) fn new(alloc: Global, plan: &Plan) -> Result<Progress, Memory>
-        ensures { IfOk result (λ progress. reading None progress ≡ spec.start plan.now) }
+    pub(crate) fn new(alloc: Global, plan: &Plan, loose: bool) -> Result<Progress, Memory>
+        ensures start { IfOk result (λ progress. reading None progress ≡ spec.start plan.now) }
+        ensures loose { IfOk result (λ progress. progress.loose ≡ loose) }
     {
         Ok(Progress {
             read: 0,
             last: 0,
             texts: Texts::of(alloc, plan.texts.as_slice())?,
+            loose,
         })
     }
 
@@ -83,20 +98,34 @@ impl Progress {
         }
     }
 
-    /// Takes the next row as the header: the places of the columns of the plan, and the columns with them.
+    // What is kept of the time of an event.
+    fn kept(&self, time: i64) -> i64
+        ensures { result ≡ (if self.now.loose then pos 0 else time) }
+    {
+        if self.loose {
+            return 0;
+        }
+        time
+    }
+
+    /// Takes the next row as the header: the places of the columns of the plan, the columns with them, and the
+    /// number of the time's from 1, or 0.
     pub(crate) fn header(
         &mut self,
         alloc: Global,
         cells: &Fields<'_>,
         plan: &Plan,
-    ) -> Result<(Vec<usize>, Vec<Placed>), RowError>
+    ) -> Result<(Vec<usize>, Vec<Placed>, u32), RowError>
         requires { self.old.read + 1 < 2 ^ 32 }
         ensures header { IfOk result
             (λ given. spec.header_row plan.now (reading None self.old) (fields_in cells.now)
             ≡ spec.nothing (reading (Some given.0.items) self.new)) }
         ensures columns { IfOk result
             (λ given. map column_of given.1.items ≡ spec.columns_at plan.now given.0.items) }
+        ensures time { IfOk result
+            (λ given. given.2 ≡ spec.time_place (spec.columns_at plan.now given.0.items)) }
         ensures read { OnOk result (self.new.read ≡ self.old.read + 1) }
+        ensures loose { self.new.loose ≡ self.old.loose }
         ensures error { IfErr result
             (λ e. ErrorIs (spec.header_row plan.now (reading None self.old) (fields_in cells.now)) e) }
         ensures err { OnErr result (self.new ≡ self.old) }
@@ -110,8 +139,11 @@ impl Progress {
                 let Ok(columns) = place_columns(alloc, plan, places.as_slice()) else {
                     return Err(RowError::Memory);
                 };
+                let Some(time) = number_of(&time_column(plan, places.as_slice())) else {
+                    return Err(RowError::Memory);
+                };
                 self.read += 1;
-                Ok((places, columns))
+                Ok((places, columns, time))
             }
         }
     }
@@ -127,14 +159,16 @@ impl Progress {
         requires { self.old.read + 1 < 2 ^ 32 }
         ensures event { OnOk result
             (Gave
-            (spec.event_row layout.now.plan.now (reading (Some layout.now.places.now) self.old)
-            (fields_in cells.now) layout.now.places.now)
+            (spec.given_if self.old.loose (spec.event_row layout.now.plan.now
+            (reading (Some layout.now.places.now) self.old)
+            (fields_in cells.now) layout.now.places.now))
             (reading (Some layout.now.places.now) self.new) event.new) }
         ensures read { OnOk result (self.new.read ≡ self.old.read + 1) }
         ensures error { IfErr result
             (λ e. ErrorIs
             (spec.event_row layout.now.plan.now (reading (Some layout.now.places.now) self.old)
             (fields_in cells.now) layout.now.places.now) e) }
+        ensures loose { self.new.loose ≡ self.old.loose }
         ensures err { OnErr result (self.new ≡ self.old) }
     {
         let known = self.texts.len();
@@ -156,8 +190,9 @@ impl Progress {
         requires { self.old.read + 1 < 2 ^ 32 }
         ensures event { OnOk result
             (Gave
-            (spec.event_row layout.now.plan.now (reading (Some layout.now.places.now) self.old)
-            (fields_in cells.now) layout.now.places.now)
+            (spec.given_if self.old.loose (spec.event_row layout.now.plan.now
+            (reading (Some layout.now.places.now) self.old)
+            (fields_in cells.now) layout.now.places.now))
             (reading (Some layout.now.places.now) self.new) event.new) }
         ensures read { OnOk result (self.new.read ≡ self.old.read + 1) }
         ensures error { IfErr result
@@ -167,6 +202,7 @@ impl Progress {
         ensures same { OnErr result (self.new.read ≡ self.old.read) }
         ensures last { OnErr result (self.new.last ≡ self.old.last) }
         ensures kept { take (length self.old.texts) self.new.texts ≡ self.old.texts }
+        ensures loose { self.new.loose ≡ self.old.loose }
     {
         let Ok(values) = Values::with_capacity(alloc, layout.columns.len()) else {
             return Err(RowError::Memory);
@@ -181,7 +217,7 @@ impl Progress {
                     return Err(self.back_in_time(time, &time_column(layout.plan, layout.places)));
                 }
                 self.read += 1;
-                self.last = time;
+                self.last = self.kept(time);
                 own.time = time;
                 Ok(())
             }

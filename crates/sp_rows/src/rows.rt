@@ -1,4 +1,4 @@
-ghost use Rattle.std.specs.Prelude.{◌≡◌, ◌<◌, ◌+◌, if◌then◌else◌, is_ok, map, None, IsSome, IfOk, IfErr, OnOk, OnErr};
+ghost use Rattle.std.specs.Prelude.{◌≡◌, ◌<◌, ◌+◌, true, false, if◌then◌else◌, is_ok, map, None, IsSome, IfOk, IfErr, OnOk, OnErr, option_map};
 ghost use Rattle.std.specs.Arc.{arc_value};
 ghost use Rattle.std.specs.Option.{ForSome};
 ghost use Rattle.sp_rows.specs.Rows as spec;
@@ -21,30 +21,60 @@ pub struct Rows {
     places: Option<Vec<usize>>,
     // The columns of the plan at these places, and none before the header.
     columns: Vec<Placed>,
+    // The number of the time's column from 1, or 0.
+    time_column: u32,
     progress: Progress,
     // Room for the places of a row's cells, and for those of a row with quotes.
     nexts: Vec<usize>,
     record: Record,
     ghost placed: { ForSome places (λ own. map column_of columns.items ≡ spec.columns_at (arc_value plan) own.items) },
+    ghost timed: { time_column ≡ spec.time_place_in (arc_value plan) (option_map (λ own. own.items) places) },
 }
 
 impl Rows {
-    ghost use Rattle.sp_rows.specs.Progress.{plan_of, read_of, Answers, no_header, given_as};
+    ghost use Rattle.sp_rows.specs.Progress.{plan_of, read_of, is_loose, Answers, no_header, given_as};
+
+    // No row was read, and times may go back or not.
+    fn begin(alloc: Global, plan: Arc<Plan>, loose: bool) -> Result<Rows, Memory>
+        ensures plan { IfOk result (λ rows. plan_of rows ≡ arc_value plan) }
+        ensures start { IfOk result (λ rows. read_of rows ≡ spec.start (arc_value plan)) }
+        ensures loose { IfOk result (λ rows. is_loose rows ≡ loose) }
+    {
+        let progress = Progress::new(alloc, &plan, loose)?;
+        Ok(Rows {
+            plan,
+            places: None,
+            columns: Vec::new(alloc),
+            time_column: 0,
+            progress,
+            nexts: Vec::new(alloc),
+            record: Record::new(alloc),
+        })
+    }
 
     /// No row was read. The texts of the plan have the first numbers.
     pub fn new(alloc: Global, plan: Arc<Plan>) -> Result<Rows, Memory>
         ensures plan { IfOk result (λ rows. plan_of rows ≡ arc_value plan) }
         ensures start { IfOk result (λ rows. read_of rows ≡ spec.start (arc_value plan)) }
+        ensures strict { IfOk result (λ rows. is_loose rows ≡ false) }
     {
-        let progress = Progress::new(alloc, &plan)?;
-        Ok(Rows {
-            plan,
-            places: None,
-            columns: Vec::new(alloc),
-            progress,
-            nexts: Vec::new(alloc),
-            record: Record::new(alloc),
-        })
+        Rows::begin(alloc, plan, false)
+    }
+
+    /// The same for rows whose times may go back: none is at fault for its time.
+    pub fn loose(alloc: Global, plan: Arc<Plan>) -> Result<Rows, Memory>
+        ensures plan { IfOk result (λ rows. plan_of rows ≡ arc_value plan) }
+        ensures start { IfOk result (λ rows. read_of rows ≡ spec.start (arc_value plan)) }
+        ensures loose { IfOk result (λ rows. is_loose rows ≡ true) }
+    {
+        Rows::begin(alloc, plan, true)
+    }
+
+    /// The number of the time's cell from 1; 0 where the plan has no time, or no header came.
+    pub fn time_column(&self) -> u32
+        ensures { result ≡ spec.time_place_in (plan_of self.now) (read_of self.now).places }
+    {
+        self.time_column
     }
 
     /// The event of the next row, which comes without its line feed; None where the row is blank or the
@@ -55,8 +85,10 @@ impl Rows {
         ensures plan { plan_of self.new ≡ plan_of self.old }
         ensures read { (read_of self.new).read
             ≡ (read_of self.old).read + (if is_ok result then 1 else 0) }
-        ensures answers { Answers (spec.row_result (plan_of self.old) (read_of self.old) row.now)
+        ensures answers { Answers (spec.given_if (is_loose self.old)
+            (spec.row_result (plan_of self.old) (read_of self.old) row.now))
             (read_of self.old) (read_of self.new) result }
+        ensures loose { is_loose self.new ≡ is_loose self.old }
     {
         let mut event = None;
         match self.row_into(alloc, row, &mut event) {
@@ -77,8 +109,10 @@ impl Rows {
         ensures plan { plan_of self.new ≡ plan_of self.old }
         ensures read { (read_of self.new).read
             ≡ (read_of self.old).read + (if is_ok result then 1 else 0) }
-        ensures answers { Answers (spec.row_result (plan_of self.old) (read_of self.old) row.now)
+        ensures answers { Answers (spec.given_if (is_loose self.old)
+            (spec.row_result (plan_of self.old) (read_of self.old) row.now))
             (read_of self.old) (read_of self.new) (given_as result event.new) }
+        ensures loose { is_loose self.new ≡ is_loose self.old }
     {
         let cells = match read_cells(row, &mut self.nexts, &mut self.record) {
             Err(_) => return Err(RowError::Memory),
@@ -102,9 +136,10 @@ impl Rows {
         }
         *event = None;
         match self.progress.header(alloc, &cells, &self.plan) {
-            Ok((places, columns)) => {
+            Ok((places, columns, time)) => {
                 self.places = Some(places);
                 self.columns = columns;
+                self.time_column = time;
                 Ok(())
             }
             Err(error) => Err(error),

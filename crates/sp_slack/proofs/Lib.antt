@@ -1,0 +1,4 @@
+pub mod Sorting
+pub mod Growing
+pub mod Keeping
+pub mod Worked
