@@ -41,7 +41,7 @@ plan_common = search (pred_common, listed.the_sync, text.the_sync, schema.the_fi
 rows_sent : IsSend rows.the_field.row
 rows_sent =
     struct_send (shape rows.the_type)
-    (search (plan_sent, plan_common, sendable, crosses) depth 30, (search (sendable, crosses) depth 30, (search (sendable, crosses) depth 30, (search (sendable, crosses) depth 30, (search (sendable, crosses) depth 30, (search (sendable, crosses) depth 30, tt))))))
+    (search (plan_sent, plan_common, sendable, crosses) depth 30, (search (sendable, crosses) depth 30, (search (sendable, crosses) depth 30, (search (sendable, crosses) depth 30, (search (sendable, crosses) depth 30, (search (sendable, crosses) depth 30, (search (sendable, crosses) depth 30, tt)))))))
 
 events_sent : IsSend events.the_field.row
 events_sent =

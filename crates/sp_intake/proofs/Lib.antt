@@ -8,3 +8,7 @@ pub mod Since
 pub mod Taking
 pub mod Asking
 pub mod Crossing
+pub mod LooseReading
+pub mod LooseGood
+pub mod LooseGrowing
+mod WorkedLoose

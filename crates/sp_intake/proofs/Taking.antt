@@ -18,7 +18,7 @@ use Rattle.sp_ports.specs.declared.stop.Failure.TheVariants.{Row, Limit}
 use Rattle.sp_ports.specs.declared.stop.Stop.TheVariants.{Failed}
 use Rattle.sp_rows.specs.declared.fault.RowFault.{RowFault}
 use Rattle.sp_rows.specs.Codes.{code_of}
-use Rattle.sp_rows.specs.Progress.{plan_of, read_of, Answers}
+use Rattle.sp_rows.specs.Progress.{plan_of, is_loose, read_of, Answers}
 use Rattle.sp_rows.specs.Rows.{RowsRead, RowResult, nothing, event, refused, row_result}
 use Rattle.sp_intake.specs.declared.events.Step.{Step}
 use Rattle.sp_intake.specs.declared.events.Step.TheVariants as step
@@ -140,10 +140,10 @@ module _ (old new : Reader) (ready : IsReady old) where
   }
 
   -- or none
-  pub ready_still : new.count ≡ old.count → plan_of new.rows ≡ plan_of old.rows → read_of new.rows ≡ read_of old.rows → new.cutter.given ≡ old.cutter.given → IsReady new
-  ready_still count plan read cut = record {
+  pub ready_still : new.count ≡ old.count → plan_of new.rows ≡ plan_of old.rows → read_of new.rows ≡ read_of old.rows → is_loose new.rows ≡ is_loose old.rows → new.cutter.given ≡ old.cutter.given → IsReady new
+  ready_still count plan read same cut = record {
     count = count ∙ ready.count ∙ ap (λ (r : RowsRead). r.read) (sym read);
     small = omega (arith, count, ready.small);
     cut = omega (arith, cut, count, ready.cut);
-    suits = suits_still old.rows new.rows ready.suits plan read;
+    suits = suits_still old.rows new.rows ready.suits plan read same;
   }

@@ -1,4 +1,6 @@
 pub mod Reading
+pub mod Loose
+pub mod LooseLaws
 pub mod Reader
 pub mod Following
 pub mod Orderly

@@ -1,5 +1,5 @@
 -- Where a reader of events stands while it goes on.
-use Rattle.std.specs.Prelude.{◌≡◌, ◌≤◌, ℕ, ℤ, ◌∷◌, [], ◌++◌, List, length, Option, Some, None, slice_get}
+use Rattle.std.specs.Prelude.{◌≡◌, ◌≤◌, ℕ, ℤ, false, ◌∷◌, [], ◌++◌, List, length, Option, Some, None, slice_get}
 use Rattle.std.specs.Option.{option_map}
 use Rattle.sp_cut.specs.CutRows.{CutRow}
 use Rattle.sp_cut.specs.Left.{Left}
@@ -7,7 +7,7 @@ use Rattle.sp_plan.specs.declared.event.Event.{Event}
 use Rattle.sp_plan.specs.declared.plan.Kind.TheVariants.{Int}
 use Rattle.sp_ports.specs.declared.stop.Failure.{Failure}
 use Rattle.sp_rows.specs.declared.rows.Rows.{Rows}
-use Rattle.sp_rows.specs.Progress.{plan_of, read_of}
+use Rattle.sp_rows.specs.Progress.{plan_of, is_loose, read_of}
 use Rattle.sp_intake.specs.Reading.{Reading, take_row}
 
 -- what it has left to cut, the rows that it has read, and how many rows and events these were
@@ -25,10 +25,11 @@ last_of rows = (read_of rows).last
 abbrev pub reading_of : List Event → Reader → Reading
 reading_of events reader = record { so_far = read_of reader.rows; events = events; stopped = None }
 
--- The time's column holds whole numbers, and the header's places are as many as the plan's columns.
+-- The time's column holds whole numbers, the header's places are as many as the plan's columns, and times may not go back.
 pub record SuitsPlan (rows : Rows) : Type 0 where
   pub timed : (place : ℕ) → (plan_of rows).schema.time ≡ Some place → option_map (λ column. column.kind) (slice_get (plan_of rows).schema.columns place) ≡ Some Int
   pub placed : (places : List ℕ) → (read_of rows).places ≡ Some places → length places ≡ length (plan_of rows).schema.columns
+  pub strict : is_loose rows ≡ false
 
 -- the count is that of the rows that were read, at most the limit, and as many were cut
 pub record IsReady (reader : Reader) : Type 0 where

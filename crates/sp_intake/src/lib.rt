@@ -1,13 +1,15 @@
 //! The reading of the input: rows from a source, piece by piece, up to its end, to the first row that fails, to a
 //! limit or to a fault of the source. What bytes give stands in `specs/Reading.antt`, what a reading took and left
-//! in `specs/Intake.antt`.
+//! in `specs/Intake.antt`; what they give where events may come out of order in `specs/Loose.antt`.
 #![tactic(auto)]
 
 mod events;
 mod giving;
 mod input;
+mod law;
 
 pub use events::EventReader;
 pub use giving::Input;
 pub use input::{InputEvents, read_input};
+pub use law::{loose_grows, loose_is_good, loose_is_reading};
 pub use sp_ports::{Failure, Stop};
