@@ -1,4 +1,6 @@
 // How much work goes by before an instance is woken.
+ghost use Rattle.std.specs.Prelude.{◌≡◌};
+
 use sp_piece::{Job, Piece};
 
 // So many visits are worth waking an instance: a visit, of an event at an open run, takes some 50 nanoseconds, so these take
@@ -69,7 +71,9 @@ impl Unheard {
     }
 
     /// Whether the job that was taken in last is dear.
-    pub fn is_dear(&self) -> bool {
+    pub fn is_dear(&self) -> bool
+        ensures { result ≡ self.now.dear }
+    {
         self.dear
     }
 
