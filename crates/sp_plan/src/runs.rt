@@ -129,6 +129,7 @@ fn each_asked<R: Binds>(
 }
 
 // Those of the runs that are asked for which a comparison holds, and the place of the first column behind its own.
+#[inline(always)]
 fn tested<R: Binds>(
     by: Compare,
     left: &Expr,
