@@ -2,7 +2,7 @@
 use Rattle.std.proofs.Common.{◌⊎◌, ◌≡◌, ◌≢◌, inl, inr, ℕ, Bool, false, List, refl, sym, subst}
 use Rattle.sp_io.specs.Outside.{ToldFiles, Gave, Grew, GrewWithin}
 use Rattle.sp_answer.specs.declared.status.Status.{Status}
-use Rattle.sp_answer.specs.declared.status.Status.TheVariants.{Done, Memory, Usage, Query, Input, Read, Write, Limited, Schedule}
+use Rattle.sp_answer.specs.declared.status.Status.TheVariants.{Done, DoneLate, Memory, Usage, Query, Input, Read, Write, Limited, Schedule}
 use Rattle.sp_answer.specs.Outcome.{Outcome, Ending, ending, ending_of, line_of}
 use Rattle.sp_answer.specs.Ran.{Outside, ReadsNoFurther, Ran, Made}
 use Rattle.sp_answer.specs.Promise.{Filed, FileTold, Answered, by_memory, by_file, by_refusal, by_run, by_itself, Served}
@@ -62,6 +62,7 @@ module _ (old new : Outside) (text : List ℕ) (told : Type 0) (cut : Type 0) wh
   begins Memory exact cut_off = (cut_off (inl refl)).1
   begins Write exact cut_off = (cut_off (inr refl)).1
   begins Done exact cut_off = grew_whole _ _ _ (exact (λ e. cc) (λ e. cc)).1
+  begins (DoneLate rows) exact cut_off = grew_whole _ _ _ (exact (λ e. cc) (λ e. cc)).1
   begins Usage exact cut_off = grew_whole _ _ _ (exact (λ e. cc) (λ e. cc)).1
   begins (Query code place) exact cut_off = grew_whole _ _ _ (exact (λ e. cc) (λ e. cc)).1
   begins (Input code row column) exact cut_off = grew_whole _ _ _ (exact (λ e. cc) (λ e. cc)).1

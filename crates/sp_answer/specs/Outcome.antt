@@ -2,7 +2,7 @@
 use Rattle.std.specs.Prelude.{ℕ, List, [], ◌++◌, codes}
 use Rattle.std.specs.Fmt.{decimal}
 use Rattle.sp_answer.specs.declared.status.Status.{Status}
-use Rattle.sp_answer.specs.declared.status.Status.TheVariants.{Done, Memory, Usage, Query, Input, Read, Write, Limited, Schedule}
+use Rattle.sp_answer.specs.declared.status.Status.TheVariants.{Done, DoneLate, Memory, Usage, Query, Input, Read, Write, Limited, Schedule}
 
 pub record Outcome : Type 0 where
   pub status : Status
@@ -20,6 +20,7 @@ ending_of o = record { status = o.status; line = o.line }
 -- the number that the program ends with
 abbrev pub number_of : Status → ℕ
 number_of Done = 0
+number_of (DoneLate rows) = 0
 number_of Memory = 1
 number_of Usage = 2
 number_of (Query code place) = 3
@@ -32,6 +33,7 @@ number_of (Schedule line) = 8
 -- the line of a status
 abbrev pub line_of : Status → List ℕ
 line_of Done = []
+line_of (DoneLate rows) = codes "late " ++ (decimal rows ++ codes "\n")
 line_of Memory = codes "memory\n"
 line_of Usage = codes "usage\n"
 line_of (Query code place) = codes "query code " ++ (decimal code ++ (codes " at " ++ (decimal place ++ codes "\n")))

@@ -2,8 +2,8 @@
 use Rattle.std.specs.Prelude.{◌≡◌, ◌≢◌, ◌⊎◌, ◌<◌, ◌≤◌, ℕ, Bool, true, false, List, [], ◌++◌, length}
 use Rattle.sp_base.specs.Limits.{piece_limit}
 use Rattle.sp_io.specs.Outside.{SourceState, SinkState, Gave, Grew, GrewWithin, Rose}
-use Rattle.sp_answer.specs.Outcome.{Outcome, Ending, ending_of, line_of}
-use Rattle.sp_answer.specs.declared.status.Status.TheVariants.{Done, Memory, Read, Write}
+use Rattle.sp_answer.specs.Outcome.{Outcome, Ending, ending_of, line_of, number_of}
+use Rattle.sp_answer.specs.declared.status.Status.TheVariants.{Memory, Read, Write}
 
 -- the input and the output, before a call or after it
 pub record Outside : Type 0 where
@@ -36,8 +36,8 @@ pub record Ran (is_outcome : List ℕ → Bool → Outcome → Type 0) (old new 
   pub exact : end.status ≢ Memory → end.status ≢ Write → (end ≡ ending_of outcome) × Grew old.out.held outcome.text new.out.held
   -- else what was written begins the text, and the line is that of the status
   pub cut_off : (end.status ≡ Memory) ⊎ (end.status ≡ Write) → (end.line ≡ line_of end.status) × GrewWithin old.out.held outcome.text new.out.held
-  -- the input was read to its end
-  pub read_whole : end.status ≡ Done → new.input.ended ≡ true
+  -- status 0 says that the input was read to its end
+  pub read_whole : number_of end.status ≡ 0 → new.input.ended ≡ true
   -- faults come only where counts rose
   pub read_fault : end.status ≡ Read → Rose old.input.faults new.input.faults
   pub write_fault : end.status ≡ Write → Rose old.out.faults new.out.faults × (outcome.text ≢ [])

@@ -9,6 +9,8 @@ use std::alloc::Global;
 pub enum Status {
     /// The command is done, and the input was read to its end.
     Done,
+    /// The same where events that came too late were passed over: in so many rows.
+    DoneLate { rows: u32 },
     Memory,
     Usage,
     /// The query's text has this fault, which stands there.
@@ -29,7 +31,7 @@ impl Status {
         ensures { result ≡ number_of self }
     {
         match self {
-            Status::Done => 0,
+            Status::Done | Status::DoneLate { rows: _ } => 0,
             Status::Memory => 1,
             Status::Usage => 2,
             Status::Query { code: _, place: _ } => 3,
@@ -45,12 +47,13 @@ impl Status {
         }
     }
 
-    /// The line that is written to the error output, none where all went well.
+    /// The line that is written to the error output. `Done` alone has none.
     pub fn line(self, alloc: Global) -> Result<String, Memory>
         ensures { IfOk result (λ line. string_bytes line ≡ line_of self) }
     {
         match self {
             Status::Done => Ok(String::new(alloc)),
+            Status::DoneLate { rows } => format!(in alloc; "late {rows}\n"),
             Status::Memory => String::from_str(alloc, "memory\n"),
             Status::Usage => String::from_str(alloc, "usage\n"),
             Status::Query { code, place } => format!(in alloc; "query code {code} at {place}\n"),
