@@ -16,14 +16,14 @@ behind words = take (length words - 2) (drop 2 words)
 -- what the first two words are, and what stands behind them
 pub drill-by : {A : Type 0} (text : A → Text) (words : List A) (e s : Option ℕ) {first second : A} {speed : Option Speed}
     → 2 ≤ length words → first ≡ get_or words 0 first → second ≡ get_or words 1 second
-    → number 1 event_limit (text first) ≡ e → number 0 4294967295 (text second) ≡ s
+    → number 10 1 event_limit (text first) ≡ e → number 10 0 4294967295 (text second) ≡ s
     → option_and_then speed_in (found drill_options (map text (behind words))) ≡ speed → drill_at (map text words) ≡ drill_of e s speed
 drill-by text [] e s long first second e_is s_is speed_is = absurd (omega arith)
 drill-by text (one ∷ []) e s long first second e_is s_is speed_is = absurd (omega arith)
 drill-by text (one ∷ two ∷ rest) e s long first second e_is s_is speed_is =
     let rest_is : rest ≡ behind (one ∷ two ∷ rest) = sym (take_all (length (one ∷ two ∷ rest) - 2) rest (omega arith)) in
-    let events = ap (λ t. number 1 event_limit (text t)) (sym first) ∙ e_is in
-    let seed = ap (λ t. number 0 4294967295 (text t)) (sym second) ∙ s_is in
+    let events = ap (λ t. number 10 1 event_limit (text t)) (sym first) ∙ e_is in
+    let seed = ap (λ t. number 10 0 4294967295 (text t)) (sym second) ∙ s_is in
     let speed = ap (λ ws. option_and_then speed_in (found drill_options (map text ws))) rest_is ∙ speed_is in
     λ i. drill_of (events i) (seed i) (speed i)
 

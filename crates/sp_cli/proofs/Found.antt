@@ -12,7 +12,7 @@ use Rattle.clap.specs.declared.builder.command.Command.{Command}
 use Rattle.clap.specs.declared.error.Error.{Error}
 use Rattle.clap.specs.declared.error.kind.ErrorKind.TheVariants.{OutOfMemory}
 use Rattle.clap.specs.declared.parser.matches.ArgMatches.{ArgMatches}
-use Rattle.sp_cli.specs.Options.{found, unless_refused, no_options, with_query, with_speed, option, run_options, plain_options, trace_options, drill_options}
+use Rattle.sp_cli.specs.Options.{found, unless_refused, no_options, with_query, with_speed, with_lateness, option, run_options, plain_options, trace_options, drill_options}
 
 -- the options of each command are simple and free
 pub run_free : is_simple_and_free run_options ≡ true
@@ -32,13 +32,13 @@ unfolding drill_options
 drill_free = refl
 
 -- what is made from no options
-pub plain_from : (app : App) → app ≡ no_options → with_query app ≡ plain_options
+pub plain_from : (app with : App) → app ≡ no_options → with ≡ with_query app → with_lateness with ≡ plain_options
 unfolding plain_options
-plain_from app e = ap with_query e
+plain_from app with e same = ap with_lateness (same ∙ ap with_query e)
 
-pub run_from : (app with : App) → app ≡ no_options → with ≡ with_query app → with_speed with ≡ run_options
+pub run_from : (app with more : App) → app ≡ no_options → with ≡ with_query app → more ≡ with_speed with → with_lateness more ≡ run_options
 unfolding run_options
-run_from app with e same = ap with_speed (same ∙ ap with_query e)
+run_from app with more e same last = ap with_lateness (last ∙ ap with_speed (same ∙ ap with_query e))
 
 pub drill_from : (app : App) → app ≡ no_options → with_speed app ≡ drill_options
 unfolding drill_options

@@ -12,8 +12,8 @@ use Rattle.clap.specs.Walk.{Held, Row, Rule, Step, Text, idle, option, next, aft
 use Rattle.clap.specs.Simple.{Shape}
 use Rattle.clap.specs.Kinds.{Kinds, or_else}
 use Rattle.clap.specs.Faults.{flag_word_fault, long_fault, settle_fault, step_fault, word_fault}
-use Rattle.sp_cli.specs.Numbers.{NumberOption, speed_numbers}
-use Rattle.sp_cli.specs.Paired.{IsSpeedName, number, predictor}
+use Rattle.sp_cli.specs.Numbers.{NumberOption, speed_numbers, slack_number}
+use Rattle.sp_cli.specs.Paired.{IsSpeedName, number, predictor, IsLateName, slack, late}
 use Rattle.sp_cli.proofs.Numbers.{first, second}
 use Rattle.sp_cli.proofs.Walked.{IsOption, between, differ, held_at, rule}
 
@@ -136,3 +136,9 @@ speed_option s named are all there w id (number one at) =
     named_option s named one.name are (All-contains (λ (it : NumberOption). is_named named it.name ≡ true) speed_numbers one
     (AllPass-from_list_all (λ (it : NumberOption). is_named named it.name) speed_numbers all) at)
 speed_option s named are all there w id predictor = named_option s named (codes "predictor") are there
+
+-- and that of each option that says which events come too late, and what becomes of them
+pub late_option : (s : Shape) (named : Named) → s.rules ≡ rules_of named → is_named named slack_number.name ≡ true → is_named named (codes "late") ≡ true
+    → (word id : Text) → IsLateName word id → IsOption s word id
+late_option s named are has_slack has_late w id slack = named_option s named slack_number.name are has_slack
+late_option s named are has_slack has_late w id late = named_option s named (codes "late") are has_late

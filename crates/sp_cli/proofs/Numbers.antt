@@ -6,9 +6,9 @@ use Rattle.std.proofs.lemmas.Str.Parse.{numerals_by_value, tells_all_ascii_digit
 use Rattle.sp_cli.specs.Numbers.{number, is_numeral, is_between}
 
 -- the text is the number, from the least to the greatest
-pub record IsNumber (least greatest : ℕ) (text : List ℕ) (n : ℕ) : Type 0 where
+pub record IsNumber (digits least greatest : ℕ) (text : List ℕ) (n : ℕ) : Type 0 where
   pub numeral : IsNumeral 10 text
-  pub short : length text ≤ 10
+  pub short : length text ≤ digits
   pub is : n ≡ digits_value 10 text
   pub above : least ≤ n
   pub below : n ≤ greatest
@@ -37,34 +37,34 @@ lt_from a b h = search arith
 pub le_from : (a b : ℕ) → nat_le a b ≡ true → a ≤ b
 le_from a b h = search arith
 
-pub number-told : (least greatest : ℕ) (text : List ℕ) (n : ℕ) → IsNumber least greatest text n → number least greatest text ≡ Some n
-number-told least greatest text n told =
-    let digits : all_ascii_digits text ≡ true = (numerals_by_value (λ ds. all_ascii_digits ds ≡ true) tells_all_ascii_digits).from text told.numeral.1 in
-    let numeral : is_numeral text ≡ true = both (nat_lt 0 (length text)) (nat_le (length text) 10 && all_ascii_digits text) (lt_true 0 (length text) told.numeral.0)
-    (both (nat_le (length text) 10) (all_ascii_digits text) (le_true (length text) 10 told.short) digits) in
+pub number-told : (digits least greatest : ℕ) (text : List ℕ) (n : ℕ) → IsNumber digits least greatest text n → number digits least greatest text ≡ Some n
+number-told digits least greatest text n told =
+    let all_digits : all_ascii_digits text ≡ true = (numerals_by_value (λ ds. all_ascii_digits ds ≡ true) tells_all_ascii_digits).from text told.numeral.1 in
+    let numeral : is_numeral digits text ≡ true = both (nat_lt 0 (length text)) (nat_le (length text) digits && all_ascii_digits text) (lt_true 0 (length text) told.numeral.0)
+    (both (nat_le (length text) digits) (all_ascii_digits text) (le_true (length text) digits told.short) all_digits) in
     let between : is_between least greatest (digits_value 10 text) ≡ true = both (nat_le least (digits_value 10 text)) (nat_le (digits_value 10 text) greatest)
     (le_true least (digits_value 10 text) (omega (arith, told.above, told.is))) (le_true (digits_value 10 text) greatest (omega (arith, told.below, told.is))) in
-    ap (λ t. cond t (Some (digits_value 10 text)) None) (both (is_numeral text) (is_between least greatest (digits_value 10 text)) numeral between) ∙ ap (λ v. Some v) (sym told.is)
+    ap (λ t. cond t (Some (digits_value 10 text)) None) (both (is_numeral digits text) (is_between least greatest (digits_value 10 text)) numeral between) ∙ ap (λ v. Some v) (sym told.is)
 
-untold_by : (least greatest : ℕ) (text : List ℕ) → (is_numeral text && is_between least greatest (digits_value 10 text) ≡ true → ⊥) → (t : Bool)
-    → is_numeral text && is_between least greatest (digits_value 10 text) ≡ t → cond t (Some (digits_value 10 text)) None ≡ None
-untold_by least greatest text never true e = absurd (never e)
-untold_by least greatest text never false e = refl
+untold_by : (digits least greatest : ℕ) (text : List ℕ) → (is_numeral digits text && is_between least greatest (digits_value 10 text) ≡ true → ⊥) → (t : Bool)
+    → is_numeral digits text && is_between least greatest (digits_value 10 text) ≡ t → cond t (Some (digits_value 10 text)) None ≡ None
+untold_by digits least greatest text never true e = absurd (never e)
+untold_by digits least greatest text never false e = refl
 
-pub number-untold : (least greatest : ℕ) (text : List ℕ) → ((n : ℕ) → IsNumber least greatest text n → ⊥) → number least greatest text ≡ None
-number-untold least greatest text none = untold_by least greatest text never (is_numeral text && is_between least greatest (digits_value 10 text)) refl
+pub number-untold : (digits least greatest : ℕ) (text : List ℕ) → ((n : ℕ) → IsNumber digits least greatest text n → ⊥) → number digits least greatest text ≡ None
+number-untold digits least greatest text none = untold_by digits least greatest text never (is_numeral digits text && is_between least greatest (digits_value 10 text)) refl
   where
-    never : is_numeral text && is_between least greatest (digits_value 10 text) ≡ true → ⊥
+    never : is_numeral digits text && is_between least greatest (digits_value 10 text) ≡ true → ⊥
     never e =
-        let numeral = first (is_numeral text) (is_between least greatest (digits_value 10 text)) e in
-        let between = second (is_numeral text) (is_between least greatest (digits_value 10 text)) e in
-        let short = second (nat_lt 0 (length text)) (nat_le (length text) 10 && all_ascii_digits text) numeral in
+        let numeral = first (is_numeral digits text) (is_between least greatest (digits_value 10 text)) e in
+        let between = second (is_numeral digits text) (is_between least greatest (digits_value 10 text)) e in
+        let short = second (nat_lt 0 (length text)) (nat_le (length text) digits && all_ascii_digits text) numeral in
         none (digits_value 10 text) (record {
           numeral = (
-            lt_from 0 (length text) (first (nat_lt 0 (length text)) (nat_le (length text) 10 && all_ascii_digits text) numeral),
-            (numerals_by_value (λ ds. all_ascii_digits ds ≡ true) tells_all_ascii_digits).to text (second (nat_le (length text) 10) (all_ascii_digits text) short),
+            lt_from 0 (length text) (first (nat_lt 0 (length text)) (nat_le (length text) digits && all_ascii_digits text) numeral),
+            (numerals_by_value (λ ds. all_ascii_digits ds ≡ true) tells_all_ascii_digits).to text (second (nat_le (length text) digits) (all_ascii_digits text) short),
           );
-          short = le_from (length text) 10 (first (nat_le (length text) 10) (all_ascii_digits text) short);
+          short = le_from (length text) digits (first (nat_le (length text) digits) (all_ascii_digits text) short);
           is = refl;
           above = le_from least (digits_value 10 text) (first (nat_le least (digits_value 10 text)) (nat_le (digits_value 10 text) greatest) between);
           below = le_from (digits_value 10 text) greatest (second (nat_le least (digits_value 10 text)) (nat_le (digits_value 10 text) greatest) between);

@@ -1,12 +1,12 @@
 -- Words in pairs as whole commands, from what is found at them.
 use Rattle.std.proofs.Common.{◌≡◌, List, ◌∙◌, ap}
-use Rattle.std.specs.Prelude.{option_and_then, option_map, codes}
+use Rattle.std.specs.Prelude.{option_and_then, codes}
 use Rattle.clap.specs.Walk.{Row, Text, first_of}
 use Rattle.sp_base.specs.Limits.{event_limit}
 use Rattle.sp_cli.specs.Numbers.{number}
-use Rattle.sp_cli.specs.Commands.{plain, source_by, live_by, speed_by, run_of, trace_of, drill_of, source_in, live_in, speed_in, run_in, plain_in, trace_in}
+use Rattle.sp_cli.specs.Commands.{source_by, live_by, speed_by, slack_by, late_by, run_of, plain_of, trace_of, drill_of, source_in, live_in, speed_in, slack_in, late_in, run_in, plain_in, trace_in}
 use Rattle.sp_cli.specs.Paired.{PairsAreFound, value_of}
-use Rattle.sp_cli.specs.PairedCommands.{source_said, live_said, speed_said, PairsAreCommands}
+use Rattle.sp_cli.specs.PairedCommands.{source_said, live_said, speed_said, slack_said, late_said, PairsAreCommands}
 
 -- where each option is found that is said, it says the same
 module _ (rows : List Row) (said : List (Text × Text)) (are : (id : Text) → first_of id rows ≡ value_of id said) where
@@ -19,19 +19,25 @@ module _ (rows : List Row) (said : List (Text × Text)) (are : (id : Text) → f
   speed_same : speed_in rows ≡ speed_said said
   speed_same = λ i. speed_by (λ id. are id i)
 
+  slack_same : slack_in rows ≡ slack_said said
+  slack_same = λ i. slack_by (λ id. are id i)
+
+  late_same : late_in rows ≡ late_said said
+  late_same = λ i. late_by (λ id. are id i)
+
 pub pairs_are_commands : PairsAreFound → PairsAreCommands
 pairs_are_commands finds = record {
   run = λ words said pairs.
       let at = finds.run words said pairs in
-      ap (option_and_then run_in) at.1 ∙ (λ i. run_of (source_same at.0 said at.2 i) (speed_same at.0 said at.2 i));
+      ap (option_and_then run_in) at.1 ∙ (λ i. run_of (source_same at.0 said at.2 i) (speed_same at.0 said at.2 i) (slack_same at.0 said at.2 i) (late_same at.0 said at.2 i));
   plain = λ words said pairs.
       let at = finds.plain words said pairs in
-      ap (option_and_then plain_in) at.1 ∙ ap (option_map plain) (source_same at.0 said at.2);
+      ap (option_and_then plain_in) at.1 ∙ (λ i. plain_of (source_same at.0 said at.2 i) (slack_same at.0 said at.2 i) (late_same at.0 said at.2 i));
   trace = λ words said pairs.
       let at = finds.trace words said pairs in
       ap (option_and_then trace_in) at.1 ∙ (λ i. trace_of (source_same at.0 said at.2 i) (at.2 (codes "schedule") i) (live_same at.0 said at.2 i));
   drill = λ events seed words said pairs.
       let at = finds.drill words said pairs in
       let speed = ap (option_and_then speed_in) at.1 ∙ speed_same at.0 said at.2 in
-      ap (drill_of (number 1 event_limit events) (number 0 4294967295 seed)) speed;
+      ap (drill_of (number 10 1 event_limit events) (number 10 0 4294967295 seed)) speed;
 }

@@ -10,10 +10,10 @@ use Rattle.clap.specs.Facts.{explicit_source}
 use Rattle.clap.specs.Simple.{App, Shape, built, entered, names_of}
 use Rattle.clap.specs.Kinds.{check_kinds, or_else}
 use Rattle.clap.specs.Faults.{built_fault, check_fault, default_fault, defaults_fault, entered_fault, given_default_fault, settle_fault, walk_fault}
-use Rattle.sp_cli.specs.Numbers.{NumberOption, live_number, speed_numbers}
+use Rattle.sp_cli.specs.Numbers.{NumberOption, live_number, speed_numbers, slack_number}
 use Rattle.sp_cli.specs.Options.{found, unless_refused, run_options, plain_options, trace_options, drill_options}
-use Rattle.sp_cli.specs.Paired.{FindsPairs, PairsAreFound, IsSourceName, query, file, IsSpeedName, IsRunName, source, speed, IsTraceName, schedule, live, value_of}
-use Rattle.sp_cli.proofs.Named.{Named, named_option, right_none, rules_of, speed_option}
+use Rattle.sp_cli.specs.Paired.{FindsPairs, PairsAreFound, IsSourceName, query, file, IsSpeedName, IsLateName, IsRunName, IsPlainName, source, speed, lateness, IsTraceName, schedule, live, value_of}
+use Rattle.sp_cli.proofs.Named.{Named, late_option, named_option, right_none, rules_of, speed_option}
 use Rattle.sp_cli.proofs.Walked.{Ends, IsOption, absent_at_first, between, held_at, row, rows, ends}
 
 -- ---- what is left out
@@ -123,12 +123,15 @@ optional_of : (named : Named) → AreOptional (rules_of named)
 optional_of [] = tt
 optional_of (one ∷ named) = (refl, refl, optional_of named)
 
--- the options that say where a query stands, and those that say how a run works
+-- the options that say where a query stands, those that say how a run works, and those that say which events come too late, and what becomes of them
 abbrev sources : Named
 sources = (Some 113, codes "query") ∷ (Some 102, codes "file") ∷ []
 
 abbrev speeds : Named
 speeds = map (λ (one : NumberOption). (None, one.name)) speed_numbers ++ (None, codes "predictor") ∷ []
+
+abbrev lates : Named
+lates = (None, slack_number.name) ∷ (None, codes "late") ∷ []
 
 -- ---- `plain`
 
@@ -146,12 +149,16 @@ plain_all = refl
 
 plain_bare : IsBare plain_shape
 unfolding plain_options plain_shape
-plain_bare = record { help = refl; below = refl; optional = optional_of sources }
+plain_bare = record { help = refl; below = refl; optional = optional_of (sources ++ lates) }
 
 plain_source : (word id : Text) → IsSourceName word id → IsOption plain_shape word id
 unfolding clap_on_literals plain_options plain_shape
 plain_source word id query = record { letter = Some 113; ours = refl; step = λ rs pending. refl; passes = λ rs pending. right_none (settle_fault plain_shape.rules plain_shape.args_override_self (held_at rs pending)) }
 plain_source word id file = record { letter = Some 102; ours = refl; step = λ rs pending. refl; passes = λ rs pending. right_none (settle_fault plain_shape.rules plain_shape.args_override_self (held_at rs pending)) }
+
+plain_late : (word id : Text) → IsLateName word id → IsOption plain_shape word id
+unfolding plain_options plain_shape
+plain_late = late_option plain_shape (sources ++ lates) refl refl refl
 
 -- ---- `drill`
 
@@ -191,7 +198,7 @@ run_all = refl
 
 run_bare : IsBare run_shape
 unfolding run_options run_shape
-run_bare = record { help = refl; below = refl; optional = optional_of (sources ++ speeds) }
+run_bare = record { help = refl; below = refl; optional = optional_of (sources ++ speeds ++ lates) }
 
 run_source : (word id : Text) → IsSourceName word id → IsOption run_shape word id
 unfolding clap_on_literals run_options run_shape
@@ -200,7 +207,11 @@ run_source word id file = record { letter = Some 102; ours = refl; step = λ rs 
 
 run_speed : (word id : Text) → IsSpeedName word id → IsOption run_shape word id
 unfolding run_options run_shape
-run_speed = speed_option run_shape (sources ++ speeds) refl refl refl
+run_speed = speed_option run_shape (sources ++ speeds ++ lates) refl refl refl
+
+run_late : (word id : Text) → IsLateName word id → IsOption run_shape word id
+unfolding run_options run_shape
+run_late = late_option run_shape (sources ++ speeds ++ lates) refl refl refl
 
 -- ---- `trace`
 
@@ -237,13 +248,18 @@ trace_known word id live = named_option trace_shape traces live_number.name refl
 run_known : (word id : Text) → IsRunName word id → IsOption run_shape word id
 run_known word id (source w i name) = run_source w i name
 run_known word id (speed w i name) = run_speed w i name
+run_known word id (lateness w i name) = run_late w i name
+
+plain_known : (word id : Text) → IsPlainName word id → IsOption plain_shape word id
+plain_known word id (source w i name) = plain_source w i name
+plain_known word id (lateness w i name) = plain_late w i name
 
 -- ---- all of them
 
 pub pairs_are_found : PairsAreFound
 pairs_are_found = record {
   run = finds run_options run_shape run_built run_all run_bare IsRunName run_known;
-  plain = finds plain_options plain_shape plain_built plain_all plain_bare IsSourceName plain_source;
+  plain = finds plain_options plain_shape plain_built plain_all plain_bare IsPlainName plain_known;
   trace = finds trace_options trace_shape trace_built trace_all trace_bare IsTraceName trace_known;
   drill = finds drill_options drill_shape drill_built drill_all drill_bare IsSpeedName drill_speed;
 }

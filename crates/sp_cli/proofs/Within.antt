@@ -1,15 +1,16 @@
 -- The numbers of a command are within their limits.
-use Rattle.std.proofs.Common.{◌≡◌, ℕ, Bool, true, false, cond, List, [], ◌∷◌, Option, Some, None, ◌&&◌, nat_le, if◌then◌else◌, refl, ap, subst}
+use Rattle.std.proofs.Common.{◌≡◌, ℕ, ℤ, pos, Bool, true, false, cond, List, [], ◌∷◌, Option, Some, None, ◌&&◌, nat_le, if◌then◌else◌, refl, ap, subst, arith}
 use Rattle.std.specs.Prelude.{codes, option_and_then, option_map, unwrap_or}
 use Rattle.std.specs.List.{list_all}
 use Rattle.std.specs.Str.{bytes_eq}
 use Rattle.std.specs.Str.Parse.{digits_value}
 use Rattle.clap.specs.Walk.{Row, Text, first_of}
 use Rattle.sp_base.specs.Limits.{event_limit}
-use Rattle.sp_cli.specs.Numbers.{NumberOption, number, number_said, put_number, numbers_said, live_number, speed_numbers, is_numeral, is_between}
+use Rattle.sp_slack.specs.declared.late.LateRule.{LateRule}
+use Rattle.sp_cli.specs.Numbers.{NumberOption, number, number_said, put_number, numbers_said, live_number, speed_numbers, slack_number, is_numeral, is_between}
 use Rattle.sp_cli.specs.Options.{found, run_options, plain_options, trace_options, drill_options}
-use Rattle.sp_cli.specs.Commands.{Command, QuerySource, Speed, run, plain, trace, drill, numbers_of, speed_of, predictor_by, live_in, source_in, speed_in, run_of, trace_of, drill_of, run_in, plain_in, trace_in, drill_at, run_at, plain_at, trace_at}
-use Rattle.sp_cli.specs.Limits.{IsBetween, IsNumberOf, AreNumbersOf, IsSpeedWithin, IsWithin, NumbersAreWithin}
+use Rattle.sp_cli.specs.Commands.{Command, QuerySource, Speed, run, plain, trace, drill, numbers_of, speed_of, predictor_by, live_in, source_in, speed_in, slack_in, late_in, run_of, plain_of, trace_of, drill_of, run_in, plain_in, trace_in, drill_at, run_at, plain_at, trace_at}
+use Rattle.sp_cli.specs.Limits.{IsBetween, IsNumberOf, AreNumbersOf, IsSpeedWithin, IsSlackWithin, IsWithin, NumbersAreWithin}
 use Rattle.sp_cli.proofs.Numbers.{first, second, le_from}
 
 -- the value of an option that is there
@@ -30,11 +31,11 @@ of_test : (least greatest v : ℕ) (t : Bool) → (t ≡ true → IsBetween leas
 of_test least greatest v true h = has_some (IsBetween least greatest) v (h refl)
 of_test least greatest v false h = has_none (IsBetween least greatest)
 
-number_within : (least greatest : ℕ) (text : List ℕ) → Has (IsBetween least greatest) (number least greatest text)
-number_within least greatest text =
+number_within : (digits least greatest : ℕ) (text : List ℕ) → Has (IsBetween least greatest) (number digits least greatest text)
+number_within digits least greatest text =
     let v = digits_value 10 text in
-    of_test least greatest v (is_numeral text && is_between least greatest v) (λ e.
-    let between = second (is_numeral text) (is_between least greatest v) e in
+    of_test least greatest v (is_numeral digits text && is_between least greatest v) (λ e.
+    let between = second (is_numeral digits text) (is_between least greatest v) e in
     (le_from least v (first (nat_le least v) (nat_le v greatest) between), le_from v greatest (second (nat_le least v) (nat_le v greatest) between)))
 
 -- an option may say what it is where it is left out
@@ -44,7 +45,7 @@ is_fine one = is_between one.least one.greatest one.left_out
 said_within : (one : NumberOption) → is_fine one ≡ true → (said : Option (List ℕ)) → Has (IsNumberOf one) (number_said one said)
 said_within one fine None = has_some (IsNumberOf one) one.left_out
     (le_from one.least one.left_out (first (nat_le one.least one.left_out) (nat_le one.left_out one.greatest) fine), le_from one.left_out one.greatest (second (nat_le one.least one.left_out) (nat_le one.left_out one.greatest) fine))
-said_within one fine (Some text) = number_within one.least one.greatest text
+said_within one fine (Some text) = number_within one.digits one.least one.greatest text
 
 put_within : (one : NumberOption) (others : List NumberOption) (a : Option ℕ) (s : Option (List ℕ)) → Has (IsNumberOf one) a → Has (AreNumbersOf others) s
     → Has (AreNumbersOf (one ∷ others)) (put_number a s)
@@ -76,14 +77,28 @@ speed_within rows =
     let text_of : Text → Option Text = λ name. first_of name rows in
     speed_of_within (numbers_said text_of speed_numbers) (predictor_by text_of) (numbers_within text_of speed_numbers refl)
 
-run_within : (query : Option QuerySource) (speed : Option Speed) → Has IsSpeedWithin speed → Has IsWithin (run_of query speed)
-run_within None speed h = has_none IsWithin
-run_within (Some query) None h = has_none IsWithin
-run_within (Some query) (Some speed) h = has_some IsWithin (run query speed) (h speed refl)
+slack_of_within : (said : Option ℕ) → Has (IsNumberOf slack_number) said → Has IsSlackWithin (option_map pos said)
+slack_of_within None h = has_none IsSlackWithin
+slack_of_within (Some n) h = let within = h n refl in has_some IsSlackWithin (pos n) (search arith, search arith)
 
-plain_within : (query : Option QuerySource) → Has IsWithin (option_map plain query)
-plain_within None = has_none IsWithin
-plain_within (Some query) = has_some IsWithin (plain query) tt
+slack_within : (rows : List Row) → Has IsSlackWithin (slack_in rows)
+slack_within rows =
+    let said = first_of slack_number.name rows in
+    slack_of_within (number_said slack_number said) (said_within slack_number refl said)
+
+run_within : (query : Option QuerySource) (speed : Option Speed) (slack : Option ℤ) (late : Option LateRule) → Has IsSpeedWithin speed → Has IsSlackWithin slack
+    → Has IsWithin (run_of query speed slack late)
+run_within None speed slack late hs h = has_none IsWithin
+run_within (Some query) None slack late hs h = has_none IsWithin
+run_within (Some query) (Some speed) None late hs h = has_none IsWithin
+run_within (Some query) (Some speed) (Some slack) None hs h = has_none IsWithin
+run_within (Some query) (Some speed) (Some slack) (Some late) hs h = has_some IsWithin (run query speed slack late) (hs speed refl, h slack refl)
+
+plain_within : (query : Option QuerySource) (slack : Option ℤ) (late : Option LateRule) → Has IsSlackWithin slack → Has IsWithin (plain_of query slack late)
+plain_within None slack late h = has_none IsWithin
+plain_within (Some query) None late h = has_none IsWithin
+plain_within (Some query) (Some slack) None h = has_none IsWithin
+plain_within (Some query) (Some slack) (Some late) h = has_some IsWithin (plain query slack late) (h slack refl)
 
 trace_within : (query : Option QuerySource) (schedule : Option Text) (live : Option ℕ) → Has (IsNumberOf live_number) live → Has IsWithin (trace_of query schedule live)
 trace_within None schedule live h = has_none IsWithin
@@ -105,8 +120,8 @@ behind P read h (Some rows) = h rows
 drill_at_within : (words : List Text) → Has IsWithin (drill_at words)
 drill_at_within [] = has_none IsWithin
 drill_at_within (events ∷ []) = has_none IsWithin
-drill_at_within (events ∷ seed ∷ words) = drill_within (number 1 event_limit events) (number 0 4294967295 seed) (option_and_then speed_in (found drill_options words))
-    (number_within 1 event_limit events) (number_within 0 4294967295 seed) (behind IsSpeedWithin speed_in speed_within (found drill_options words))
+drill_at_within (events ∷ seed ∷ words) = drill_within (number 10 1 event_limit events) (number 10 0 4294967295 seed) (option_and_then speed_in (found drill_options words))
+    (number_within 10 1 event_limit events) (number_within 10 0 4294967295 seed) (behind IsSpeedWithin speed_in speed_within (found drill_options words))
 
 either : (b : Bool) (one other : Option Command) → Has IsWithin one → Has IsWithin other → Has IsWithin (if b then one else other)
 either true one other h k = h
@@ -115,8 +130,8 @@ either false one other h k = k
 pub numbers_are_within : NumbersAreWithin
 numbers_are_within [] = has_none IsWithin
 numbers_are_within (name ∷ words) =
-    let runs = behind IsWithin run_in (λ rows. run_within (source_in rows) (speed_in rows) (speed_within rows)) (found run_options words) in
-    let plains = behind IsWithin plain_in (λ rows. plain_within (source_in rows)) (found plain_options words) in
+    let runs = behind IsWithin run_in (λ rows. run_within (source_in rows) (speed_in rows) (slack_in rows) (late_in rows) (speed_within rows) (slack_within rows)) (found run_options words) in
+    let plains = behind IsWithin plain_in (λ rows. plain_within (source_in rows) (slack_in rows) (late_in rows) (slack_within rows)) (found plain_options words) in
     let traces = behind IsWithin trace_in (λ rows. trace_within (source_in rows) (first_of (codes "schedule") rows) (live_in rows) (live_within rows)) (found trace_options words) in
     let is_drill = bytes_eq name (codes "drill") in
     let is_trace = bytes_eq name (codes "trace") in

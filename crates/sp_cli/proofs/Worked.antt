@@ -1,7 +1,9 @@
 -- The definition of words tried on rows, by computation.
-use Rattle.std.proofs.Common.{◌≡◌, ◌==◌, ℕ, List, [], ◌∷◌, Option, Some, None, if◌then◌else◌, map, refl}
+use Rattle.std.proofs.Common.{◌≡◌, ◌==◌, ℕ, pos, List, [], ◌∷◌, Option, Some, None, if◌then◌else◌, map, refl}
 use Rattle.std.specs.Prelude.{codes}
 use Rattle.clap.proofs.OnLiterals.{clap_on_literals}
+use Rattle.sp_slack.specs.declared.late.LateRule.{LateRule}
+use Rattle.sp_slack.specs.declared.late.LateRule.TheVariants.{Refuse, Drop}
 use Rattle.sp_cli.specs.Options.{found, run_options, plain_options, trace_options, drill_options}
 use Rattle.sp_cli.specs.Commands.{Command, QuerySource, Speed, run, plain, trace, drill, text, file, command_of}
 
@@ -31,11 +33,21 @@ rotating rotate = record usual { rotate = rotate }
 abbrev q : QuerySource
 q = text (codes "Q")
 
+-- `plain` of a source in order
+abbrev of_order : QuerySource → Option Command
+of_order source = Some (plain source (pos 0) Refuse)
+
 abbrev plain_q : Option Command
-plain_q = Some (plain q)
+plain_q = of_order q
 
 abbrev run_q : Speed → Option Command
-run_q how = Some (run q how)
+run_q how = Some (run q how (pos 0) Refuse)
+
+abbrev run_behind : ℕ → LateRule → Option Command
+run_behind slack late = Some (run q usual (pos slack) late)
+
+abbrev plain_behind : ℕ → LateRule → Option Command
+plain_behind slack late = Some (plain q (pos slack) late)
 
 each_spelling_of_a_short_option :
     map of (codes "plain -q Q" ∷ codes "plain -qQ" ∷ codes "plain -q=Q" ∷ [])
@@ -45,7 +57,7 @@ each_spelling_of_a_short_option = refl
 
 each_spelling_of_a_long_option :
     map of (codes "plain --query Q" ∷ codes "plain --query=Q" ∷ codes "plain --file Q" ∷ [])
-    ≡ plain_q ∷ plain_q ∷ Some (plain (file (codes "Q"))) ∷ []
+    ≡ plain_q ∷ plain_q ∷ of_order (file (codes "Q")) ∷ []
 unfolding clap_on_literals found plain_options
 each_spelling_of_a_long_option = refl
 
@@ -57,13 +69,13 @@ a_closing_pair_of_hyphens = refl
 
 an_empty_value_is_one :
     map of (codes "plain --query=" ∷ codes "plain -q " ∷ codes "plain -q= " ∷ [])
-    ≡ Some (plain (text [])) ∷ Some (plain (text [])) ∷ None ∷ []
+    ≡ of_order (text []) ∷ of_order (text []) ∷ None ∷ []
 unfolding clap_on_literals found plain_options
 an_empty_value_is_one = refl
 
 a_value_that_begins_with_a_hyphen :
     map of (codes "plain -f -" ∷ codes "plain -q -Q" ∷ codes "plain -q --file" ∷ codes "plain --query=-Q" ∷ [])
-    ≡ Some (plain (file (codes "-"))) ∷ None ∷ None ∷ Some (plain (text (codes "-Q"))) ∷ []
+    ≡ of_order (file (codes "-")) ∷ None ∷ None ∷ of_order (text (codes "-Q")) ∷ []
 unfolding clap_on_literals found plain_options
 a_value_that_begins_with_a_hyphen = refl
 
@@ -127,6 +139,30 @@ rotate_within_limits :
 unfolding clap_on_literals found run_options
 rotate_within_limits = refl
 
+slack_within_limits :
+    map of (codes "run -q Q --slack 0" ∷ codes "run -q Q --slack 1000000000000000" ∷ codes "run -q Q --slack 1000000000000001" ∷ codes "run -q Q --slack 9999999999999999" ∷ [])
+    ≡ run_q usual ∷ run_behind 1000000000000000 Refuse ∷ None ∷ None ∷ []
+unfolding clap_on_literals found run_options
+slack_within_limits = refl
+
+slack_of_one_to_sixteen_digits :
+    map of (codes "run -q Q --slack 0000000000000007" ∷ codes "run -q Q --slack 00000000000000007" ∷ codes "run -q Q --slack +7" ∷ codes "run -q Q --slack -7" ∷ codes "run -q Q --slack=" ∷ codes "run -q Q --slack 1 --slack 1" ∷ [])
+    ≡ run_behind 7 Refuse ∷ None ∷ None ∷ None ∷ None ∷ None ∷ []
+unfolding clap_on_literals found run_options
+slack_of_one_to_sixteen_digits = refl
+
+late_is_one_of_two_words :
+    map of (codes "run -q Q --late refuse" ∷ codes "run -q Q --late drop" ∷ codes "run -q Q --late Drop" ∷ codes "run -q Q --late drops" ∷ codes "run -q Q --late=" ∷ codes "run -q Q --late" ∷ codes "run -q Q --late drop --late drop" ∷ [])
+    ≡ run_q usual ∷ run_behind 0 Drop ∷ None ∷ None ∷ None ∷ None ∷ None ∷ []
+unfolding clap_on_literals found run_options
+late_is_one_of_two_words = refl
+
+the_same_of_plain :
+    map of (codes "plain --late drop -q Q --slack=2" ∷ codes "plain -q Q --slack 1000000000000000" ∷ codes "plain -q Q --slack 1000000000000001" ∷ codes "plain -q Q --late keep" ∷ codes "plain -q Q --slack 1 --slack 1" ∷ [])
+    ≡ plain_behind 2 Drop ∷ plain_behind 1000000000000000 Refuse ∷ None ∷ None ∷ None ∷ []
+unfolding clap_on_literals found plain_options
+the_same_of_plain = refl
+
 one_to_ten_digits :
     map of (codes "run -q Q --live 0000000007" ∷ codes "run -q Q --live 00000000007" ∷ codes "run -q Q --live=" ∷ [])
     ≡ run_q (speed 2 7 64 (codes "markov")) ∷ None ∷ None ∷ []
@@ -146,8 +182,8 @@ unfolding clap_on_literals found run_options
 an_option_twice = refl
 
 the_options_of_a_trace :
-    map of (codes "trace -q Q --schedule S" ∷ codes "trace --live=4096 --schedule=S -f F" ∷ codes "trace -q Q" ∷ codes "trace -q Q --schedule S --live 4097" ∷ codes "trace -q Q --schedule S --batch 1" ∷ codes "trace -q Q --schedule S --rotate 1" ∷ [])
-    ≡ Some (trace q (codes "S") 64) ∷ Some (trace (file (codes "F")) (codes "S") 4096) ∷ None ∷ None ∷ None ∷ None ∷ []
+    map of (codes "trace -q Q --schedule S" ∷ codes "trace --live=4096 --schedule=S -f F" ∷ codes "trace -q Q" ∷ codes "trace -q Q --schedule S --live 4097" ∷ codes "trace -q Q --schedule S --batch 1" ∷ codes "trace -q Q --schedule S --rotate 1" ∷ codes "trace -q Q --schedule S --slack 1" ∷ codes "trace -q Q --schedule S --late drop" ∷ [])
+    ≡ Some (trace q (codes "S") 64) ∷ Some (trace (file (codes "F")) (codes "S") 4096) ∷ None ∷ None ∷ None ∷ None ∷ None ∷ None ∷ []
 unfolding clap_on_literals found trace_options
 the_options_of_a_trace = refl
 
@@ -158,7 +194,7 @@ unfolding clap_on_literals found drill_options
 the_words_of_a_drill = refl
 
 both_numbers_of_a_drill :
-    map of (codes "drill" ∷ codes "drill 8" ∷ codes "drill +8 7" ∷ codes "drill 8 +7" ∷ codes "drill 8 7 -q Q" ∷ codes "drill --live 1 8 7" ∷ codes "drill 8 7 9" ∷ [])
-    ≡ None ∷ None ∷ None ∷ None ∷ None ∷ None ∷ None ∷ []
+    map of (codes "drill" ∷ codes "drill 8" ∷ codes "drill +8 7" ∷ codes "drill 8 +7" ∷ codes "drill 8 7 -q Q" ∷ codes "drill --live 1 8 7" ∷ codes "drill 8 7 9" ∷ codes "drill 8 7 --slack 1" ∷ codes "drill 8 7 --late drop" ∷ [])
+    ≡ None ∷ None ∷ None ∷ None ∷ None ∷ None ∷ None ∷ None ∷ None ∷ []
 unfolding clap_on_literals found drill_options
 both_numbers_of_a_drill = refl

@@ -1,11 +1,13 @@
 -- Which command words are.
-use Rattle.std.specs.Prelude.{ℕ, List, [], ◌∷◌, Option, Some, None, if◌then◌else◌, option_and_then, option_map, string_bytes, unwrap_or, codes}
+use Rattle.std.specs.Prelude.{ℕ, ℤ, pos, List, [], ◌∷◌, Option, Some, None, if◌then◌else◌, option_and_then, option_map, string_bytes, unwrap_or, codes}
 use Rattle.std.specs.Str.{bytes_eq}
 use Rattle.clap.specs.Walk.{Row, Text, first_of, rows_of}
 use Rattle.clap.specs.Matches.{found_of}
 use Rattle.clap.specs.declared.parser.matches.ArgMatches.{ArgMatches}
 use Rattle.sp_base.specs.Limits.{event_limit}
-use Rattle.sp_cli.specs.Numbers.{NumberOption, number, number_said, numbers_said, live_number, speed_numbers}
+use Rattle.sp_slack.specs.declared.late.LateRule.{LateRule}
+use Rattle.sp_slack.specs.declared.late.LateRule.TheVariants.{Refuse, Drop}
+use Rattle.sp_cli.specs.Numbers.{NumberOption, number, number_said, numbers_said, live_number, speed_numbers, slack_number}
 use Rattle.sp_cli.specs.Options.{found, run_options, plain_options, trace_options, drill_options}
 use Rattle.sp_cli.specs.declared.command.Command.{Command as FoundCommand}
 use Rattle.sp_cli.specs.declared.command.Command.TheVariants as c
@@ -38,10 +40,11 @@ speed_of (instances ∷ live ∷ batch ∷ rotate ∷ []) predictor =
     Some (record { instances = instances; live = live; batch = batch; predictor = predictor; rotate = rotate })
 speed_of _ predictor = None
 
--- a run of a query, the same window by window, a run of the machine over a schedule's file, or a run over generated rows
+-- A run of a query, the same window by window, a run of the machine over a schedule's file, or a run over generated rows. The first two say how
+-- far behind the greatest time before it an event may come, and what becomes of one that comes later.
 pub data Command : Type 0 where
-  run : (query : QuerySource) → (speed : Speed) → Command
-  plain : (query : QuerySource) → Command
+  run : (query : QuerySource) → (speed : Speed) → (slack : ℤ) → (late : LateRule) → Command
+  plain : (query : QuerySource) → (slack : ℤ) → (late : LateRule) → Command
   trace : (query : QuerySource) → (schedule : Text) → (live : ℕ) → Command
   drill : (events : ℕ) → (seed : ℕ) → (speed : Speed) → Command
 
@@ -52,7 +55,13 @@ one_source None (Some name) = Some (file name)
 one_source None None = None
 one_source (Some content) (Some name) = None
 
--- what options say of where the query stands, of how many versions may be live, and of how a run works, by the text that stands for each name
+-- a late event ends the reading, or is passed over: the first where no word says it
+abbrev pub late_named : Option Text → Option LateRule
+late_named None = Some Refuse
+late_named (Some word) = if bytes_eq word (codes "refuse") then Some Refuse else (if bytes_eq word (codes "drop") then Some Drop else None)
+
+-- what options say of where the query stands, of how many versions may be live, of how a run works, and of events that come too late, by the text
+-- that stands for each name
 abbrev pub source_by : (Text → Option Text) → Option QuerySource
 source_by text_of = one_source (text_of (codes "query")) (text_of (codes "file"))
 
@@ -65,6 +74,12 @@ predictor_by text_of = unwrap_or (text_of (codes "predictor")) (codes "markov")
 abbrev pub speed_by : (Text → Option Text) → Option Speed
 speed_by text_of = option_and_then (λ numbers. speed_of numbers (predictor_by text_of)) (numbers_said text_of speed_numbers)
 
+abbrev pub slack_by : (Text → Option Text) → Option ℤ
+slack_by text_of = option_map pos (number_said slack_number (text_of slack_number.name))
+
+abbrev pub late_by : (Text → Option Text) → Option LateRule
+late_by text_of = late_named (text_of (codes "late"))
+
 -- the same of options that were found
 abbrev pub source_in : List Row → Option QuerySource
 source_in rows = source_by (λ name. first_of name rows)
@@ -75,9 +90,19 @@ live_in rows = live_by (λ name. first_of name rows)
 abbrev pub speed_in : List Row → Option Speed
 speed_in rows = speed_by (λ name. first_of name rows)
 
-abbrev pub run_of : Option QuerySource → Option Speed → Option Command
-run_of (Some query) (Some speed) = Some (run query speed)
-run_of _ _ = None
+abbrev pub slack_in : List Row → Option ℤ
+slack_in rows = slack_by (λ name. first_of name rows)
+
+abbrev pub late_in : List Row → Option LateRule
+late_in rows = late_by (λ name. first_of name rows)
+
+abbrev pub run_of : Option QuerySource → Option Speed → Option ℤ → Option LateRule → Option Command
+run_of (Some query) (Some speed) (Some slack) (Some late) = Some (run query speed slack late)
+run_of _ _ _ _ = None
+
+abbrev pub plain_of : Option QuerySource → Option ℤ → Option LateRule → Option Command
+plain_of (Some query) (Some slack) (Some late) = Some (plain query slack late)
+plain_of _ _ _ = None
 
 abbrev pub trace_of : Option QuerySource → Option Text → Option ℕ → Option Command
 trace_of (Some query) (Some schedule) (Some live) = Some (trace query schedule live)
@@ -89,10 +114,10 @@ drill_of _ _ _ = None
 
 -- the command of each name, by what is found behind it
 abbrev pub run_in : List Row → Option Command
-run_in rows = run_of (source_in rows) (speed_in rows)
+run_in rows = run_of (source_in rows) (speed_in rows) (slack_in rows) (late_in rows)
 
 abbrev pub plain_in : List Row → Option Command
-plain_in rows = option_map plain (source_in rows)
+plain_in rows = plain_of (source_in rows) (slack_in rows) (late_in rows)
 
 abbrev pub trace_in : List Row → Option Command
 trace_in rows = trace_of (source_in rows) (first_of (codes "schedule") rows) (live_in rows)
@@ -110,7 +135,7 @@ trace_at words = option_and_then trace_in (found trace_options words)
 -- the two words behind `drill` are its events and its seed
 abbrev pub drill_at : List Text → Option Command
 drill_at (events ∷ seed ∷ words) =
-    drill_of (number 1 event_limit events) (number 0 4294967295 seed) (option_and_then speed_in (found drill_options words))
+    drill_of (number 10 1 event_limit events) (number 10 0 4294967295 seed) (option_and_then speed_in (found drill_options words))
 drill_at _ = None
 
 abbrev pub command_at : Text → List Text → Option Command
@@ -144,10 +169,10 @@ speed_seen read = record {
 }
 
 abbrev pub number_seen : FoundNumber → NumberOption
-number_seen one = record { name = one.name.now; least = one.least; greatest = one.greatest; left_out = one.left_out }
+number_seen one = record { name = one.name.now; digits = 10; least = one.least; greatest = one.greatest; left_out = one.left_out }
 
 abbrev pub seen : FoundCommand → Command
-seen (c.Run query speed) = run (source_seen query) (speed_seen speed)
-seen (c.Plain query) = plain (source_seen query)
+seen (c.Run query speed slack late) = run (source_seen query) (speed_seen speed) slack late
+seen (c.Plain query slack late) = plain (source_seen query) slack late
 seen (c.Trace query schedule live) = trace (source_seen query) (string_bytes schedule) live
 seen (c.Drill events seed speed) = drill events seed (speed_seen speed)

@@ -1,8 +1,8 @@
 -- The limits of a command's numbers.
-use Rattle.std.specs.Prelude.{◌≡◌, ◌≤◌, ℕ, List, [], ◌∷◌, Some}
+use Rattle.std.specs.Prelude.{◌≡◌, ◌≤◌, ◌≤ℤ◌, pos, ℕ, ℤ, List, [], ◌∷◌, Some}
 use Rattle.clap.specs.Walk.{Text}
 use Rattle.sp_base.specs.Limits.{event_limit}
-use Rattle.sp_cli.specs.Numbers.{NumberOption, live_number, speed_numbers}
+use Rattle.sp_cli.specs.Numbers.{NumberOption, live_number, speed_numbers, slack_number}
 use Rattle.sp_cli.specs.Commands.{Command, run, plain, trace, drill, Speed, numbers_of, command_of}
 
 abbrev pub IsBetween : ℕ → ℕ → ℕ → Type 0
@@ -21,10 +21,14 @@ AreNumbersOf _ _ = ⊥
 abbrev pub IsSpeedWithin : Speed → Type 0
 IsSpeedWithin speed = AreNumbersOf speed_numbers (numbers_of speed)
 
+-- the slack is between the least and the greatest that its option may say
+abbrev pub IsSlackWithin : ℤ → Type 0
+IsSlackWithin slack = (pos slack_number.least ≤ℤ slack) × (slack ≤ℤ pos slack_number.greatest)
+
 -- each number of the command is within its limits
 abbrev pub IsWithin : Command → Type 0
-IsWithin (run query speed) = IsSpeedWithin speed
-IsWithin (plain query) = Unit {0}
+IsWithin (run query speed slack late) = IsSpeedWithin speed × IsSlackWithin slack
+IsWithin (plain query slack late) = IsSlackWithin slack
 IsWithin (trace query schedule live) = IsNumberOf live_number live
 IsWithin (drill events seed speed) = IsBetween 1 event_limit events × IsBetween 0 4294967295 seed × IsSpeedWithin speed
 

@@ -5,7 +5,7 @@ use Rattle.clap.specs.Simple.{App, matches_of, new_app, new_rule, on_top, with_r
 use Rattle.clap.specs.Faults.{fault_of}
 use Rattle.clap.specs.Kinds.{Kinds}
 use Rattle.clap.specs.declared.builder.action.ArgAction.TheVariants.{Set}
-use Rattle.sp_cli.specs.Numbers.{NumberOption, speed_numbers}
+use Rattle.sp_cli.specs.Numbers.{NumberOption, speed_numbers, slack_number}
 
 -- an option of one text, by its long name
 abbrev pub option : Text → Rule
@@ -30,11 +30,15 @@ with_number app one = with_rule app (option one.name)
 abbrev pub with_speed : App → App
 with_speed app = with_rule (fold with_number app speed_numbers) (option (codes "predictor"))
 
+-- which events come too late, and what becomes of them
+abbrev pub with_lateness : App → App
+with_lateness app = with_rule (with_number app slack_number) (option (codes "late"))
+
 unfoldable pub run_options : App
-run_options = with_speed (with_query no_options)
+run_options = with_lateness (with_speed (with_query no_options))
 
 unfoldable pub plain_options : App
-plain_options = with_query no_options
+plain_options = with_lateness (with_query no_options)
 
 unfoldable pub trace_options : App
 trace_options = with_rule (with_rule (with_query no_options) (option (codes "schedule"))) (option (codes "live"))

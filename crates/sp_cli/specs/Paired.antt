@@ -4,7 +4,7 @@ use Rattle.std.specs.List.{All, Contains}
 use Rattle.std.specs.Str.{bytes_eq}
 use Rattle.clap.specs.Simple.{App}
 use Rattle.clap.specs.Walk.{Row, Text, first_of}
-use Rattle.sp_cli.specs.Numbers.{NumberOption, speed_numbers}
+use Rattle.sp_cli.specs.Numbers.{NumberOption, speed_numbers, slack_number}
 use Rattle.sp_cli.specs.Options.{found, run_options, plain_options, trace_options, drill_options}
 
 -- the options that say where a query stands, by their short names
@@ -17,9 +17,19 @@ pub data IsSpeedName : Text → Text → Type 0 where
   number : (one : NumberOption) → Contains speed_numbers one → IsSpeedName (45 ∷ 45 ∷ one.name) one.name
   predictor : IsSpeedName (codes "--predictor") (codes "predictor")
 
+-- the options that say which events come too late, and what becomes of them
+pub data IsLateName : Text → Text → Type 0 where
+  slack : IsLateName (45 ∷ 45 ∷ slack_number.name) slack_number.name
+  late : IsLateName (codes "--late") (codes "late")
+
 pub data IsRunName : Text → Text → Type 0 where
   source : (word id : Text) → IsSourceName word id → IsRunName word id
   speed : (word id : Text) → IsSpeedName word id → IsRunName word id
+  lateness : (word id : Text) → IsLateName word id → IsRunName word id
+
+pub data IsPlainName : Text → Text → Type 0 where
+  source : (word id : Text) → IsSourceName word id → IsPlainName word id
+  lateness : (word id : Text) → IsLateName word id → IsPlainName word id
 
 pub data IsTraceName : Text → Text → Type 0 where
   source : (word id : Text) → IsSourceName word id → IsTraceName word id
@@ -46,6 +56,6 @@ FindsPairs app IsName = (words : List Text) (said : List (Text × Text)) → Are
 -- The options of each command may be written in pairs, in any order.
 pub record PairsAreFound : Type 0 where
   pub run : FindsPairs run_options IsRunName
-  pub plain : FindsPairs plain_options IsSourceName
+  pub plain : FindsPairs plain_options IsPlainName
   pub trace : FindsPairs trace_options IsTraceName
   pub drill : FindsPairs drill_options IsSpeedName

@@ -1,6 +1,7 @@
 // What the words of a command line ask for, or why they ask for nothing.
 ghost use Rattle.std.specs.Prelude.{◌≡◌};
 
+use sp_slack::LateRule;
 use std::alloc::AllocError;
 
 /// Where a query stands: in a text, or in the file of this name.
@@ -29,14 +30,19 @@ pub struct Speed {
 /// What the words ask for.
 #[derive(Debug, Drop, PartialEq)]
 pub enum Command {
-    /// A query over the input, by the speculative engine.
+    /// A query over the input, by the speculative engine. An event may come behind the greatest time before it, by
+    /// the slack, 0 to 1,000,000,000,000,000; the rule says what becomes of one that comes later.
     Run {
         query: QuerySource,
         speed: Speed,
+        slack: i64,
+        late: LateRule,
     },
     /// The same window by window.
     Plain {
         query: QuerySource,
+        slack: i64,
+        late: LateRule,
     },
     /// The machine over the schedule in the file of this name, with so many live versions at most: 1 to 4096.
     Trace {

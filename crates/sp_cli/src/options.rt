@@ -2,7 +2,7 @@
 ghost use Rattle.std.specs.Prelude.{◌≡◌, Some, None, true, false, fold, map, IfOk, IfErr, string_bytes};
 ghost use Rattle.clap.specs.Words.{app_of, rule_of, with_rule, is_simple_and_free};
 ghost use Rattle.sp_cli.specs.Commands.{number_seen, rows_in};
-ghost use Rattle.sp_cli.specs.Options.{option, no_options, with_query, with_number, with_speed, found};
+ghost use Rattle.sp_cli.specs.Options.{option, no_options, with_query, with_number, with_speed, with_lateness, found};
 ghost use Rattle.sp_cli.specs.Options as specs;
 
 use crate::command::UsageFault;
@@ -89,12 +89,24 @@ fn with_speed<'a>(
     with_text(alloc, command, "predictor")
 }
 
+// With the options that say which events come too late, and what becomes of them.
+fn with_lateness<'a>(
+    alloc: Global,
+    command: clap::Command<'a>,
+) -> Result<clap::Command<'a>, AllocError>
+    ensures { IfOk result (λ more. app_of more ≡ specs.with_lateness (app_of command.entry)) }
+{
+    let command = with_text(alloc, command, "slack")?;
+    with_text(alloc, command, "late")
+}
+
 /// The options of `run`.
 pub(crate) fn run_options<'a>(alloc: Global) -> Result<clap::Command<'a>, AllocError>
     ensures options { IfOk result (λ command. app_of command ≡ specs.run_options) }
     ensures simple { IfOk result (λ command. is_simple_and_free (app_of command) ≡ true) }
 {
-    with_speed(alloc, with_query(alloc, bare(alloc))?)
+    let command = with_query(alloc, bare(alloc))?;
+    with_lateness(alloc, with_speed(alloc, command)?)
 }
 
 /// The options of `plain`.
@@ -102,7 +114,7 @@ pub(crate) fn plain_options<'a>(alloc: Global) -> Result<clap::Command<'a>, Allo
     ensures options { IfOk result (λ command. app_of command ≡ specs.plain_options) }
     ensures simple { IfOk result (λ command. is_simple_and_free (app_of command) ≡ true) }
 {
-    with_query(alloc, bare(alloc))
+    with_lateness(alloc, with_query(alloc, bare(alloc))?)
 }
 
 /// The options of `trace`.

@@ -4,7 +4,7 @@ ghost use Rattle.sp_cli.specs.Commands.{command_of, run_at, plain_at, trace_at, 
 
 use crate::command::{Command, UsageFault};
 use crate::options::{drill_options, find_options, plain_options, run_options, trace_options};
-use crate::values::{live_in, number_of, source_in, speed_in, value_of};
+use crate::values::{late_in, live_in, number_of, slack_in, source_in, speed_in, value_of};
 use sp_base::limits::EVENT_LIMIT;
 use std::alloc::Global;
 
@@ -17,7 +17,14 @@ fn read_run(alloc: Global, words: &[String]) -> Result<Command, UsageFault>
     let matches = find_options(run_options(alloc)?, words)?;
     let query = source_in(alloc, &matches)?;
     let speed = speed_in(alloc, &matches)?;
-    Ok(Command::Run { query, speed })
+    let slack = slack_in(&matches)?;
+    let late = late_in(&matches)?;
+    Ok(Command::Run {
+        query,
+        speed,
+        slack,
+        late,
+    })
 }
 
 // What stands behind `plain`.
@@ -29,7 +36,9 @@ fn read_plain(alloc: Global, words: &[String]) -> Result<Command, UsageFault>
 {
     let matches = find_options(plain_options(alloc)?, words)?;
     let query = source_in(alloc, &matches)?;
-    Ok(Command::Plain { query })
+    let slack = slack_in(&matches)?;
+    let late = late_in(&matches)?;
+    Ok(Command::Plain { query, slack, late })
 }
 
 // What stands behind `trace`.

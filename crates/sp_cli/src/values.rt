@@ -1,5 +1,5 @@
 // What the values of options say.
-ghost use Rattle.std.specs.Prelude.{◌≡◌, Some, None, IfOk, IfErr, OnOk, OnErr, length, map, option_map};
+ghost use Rattle.std.specs.Prelude.{◌≡◌, ◌≤◌, Some, None, IfOk, IfErr, OnOk, OnErr, length, map, option_map};
 ghost use Rattle.clap.specs.Words.{first_of};
 ghost use Rattle.sp_cli.specs.Numbers.{number, number_said, numbers_said};
 ghost use Rattle.sp_cli.specs.Numbers as listed;
@@ -8,11 +8,12 @@ ghost use Rattle.sp_cli.specs.Commands as specs;
 
 use crate::command::{QuerySource, Speed, UsageFault};
 use clap::ArgMatches;
-use sp_base::limits::{BATCH_LIMIT, LIVE_LIMIT, ROTATE_LIMIT};
+use sp_base::limits::{BATCH_LIMIT, LIVE_LIMIT, NUMBER_LIMIT, ROTATE_LIMIT};
+use sp_slack::LateRule;
 use std::alloc::Global;
 
-/// A number that an option says: the option's name, the least and the greatest that it may be, and what it is
-/// where the option is left out.
+/// A number of one to ten digits that an option says: the option's name, the least and the greatest that it may
+/// be, and what it is where the option is left out.
 #[derive(Clone, Copy, Drop)]
 pub(crate) struct NumberOption {
     pub(crate) name: &'static str,
@@ -44,19 +45,32 @@ pub(crate) fn speed_numbers() -> &'static [NumberOption]
 // The most digits of a number.
 const DIGITS: usize = 10;
 
-/// The number from the least to the greatest that the text writes: one to ten digits.
-pub(crate) fn number_of(text: &str, least: u32, greatest: u32) -> Result<u32, UsageFault>
-    ensures ok { IfOk result (λ n. number least greatest text.now ≡ Some n) }
-    ensures usage { IfErr result (λ _. number least greatest text.now ≡ None) }
+// The most digits of the slack.
+const SLACK_DIGITS: usize = 16;
+
+// The number of one to so many digits, from the least to the greatest, that the text writes.
+fn long_number_of(text: &str, digits: usize, least: u64, greatest: u64) -> Result<u64, UsageFault>
+    ensures ok { IfOk result (λ n. number digits least greatest text.now ≡ Some n) }
+    ensures within { IfOk result (λ n. n ≤ greatest) }
+    ensures usage { IfErr result (λ _. number digits least greatest text.now ≡ None) }
 {
     // a sign is no digit, though a number may be read behind it
-    if text.len() > DIGITS || text.as_bytes().first() == Some(&b'+') {
+    if text.len() > digits || text.as_bytes().first() == Some(&b'+') {
         return Err(UsageFault::Usage);
     }
-    match text.parse::<u32>() {
+    match text.parse::<u64>() {
         Ok(n) if least <= n && n <= greatest => Ok(n),
         _ => Err(UsageFault::Usage),
     }
+}
+
+/// The number from the least to the greatest that the text writes: one to ten digits.
+pub(crate) fn number_of(text: &str, least: u32, greatest: u32) -> Result<u32, UsageFault>
+    ensures ok { IfOk result (λ n. number 10 least greatest text.now ≡ Some n) }
+    ensures usage { IfErr result (λ _. number 10 least greatest text.now ≡ None) }
+{
+    let n = long_number_of(text, DIGITS, u64::from(least), u64::from(greatest))?;
+    Ok(n as u32)
 }
 
 /// The value of the option of this name, where it is there.
@@ -100,6 +114,30 @@ pub(crate) fn source_in(alloc: Global, matches: &ArgMatches<'_>) -> Result<Query
         (Some(text), None) => Ok(QuerySource::Text(String::from_str(alloc, text)?)),
         (None, Some(name)) => Ok(QuerySource::File(String::from_str(alloc, name)?)),
         _ => Err(UsageFault::Usage),
+    }
+}
+
+/// How far behind the greatest time before it an event may come.
+pub(crate) fn slack_in(matches: &ArgMatches<'_>) -> Result<i64, UsageFault>
+    ensures ok { IfOk result (λ slack. specs.slack_in (rows_in matches.now) ≡ Some slack) }
+    ensures usage { IfErr result (λ _. specs.slack_in (rows_in matches.now) ≡ None) }
+{
+    let Some(text) = value_of(matches, "slack") else {
+        return Ok(0);
+    };
+    let slack = long_number_of(text, SLACK_DIGITS, 0, NUMBER_LIMIT)?;
+    Ok(slack as i64)
+}
+
+/// What becomes of an event that comes later.
+pub(crate) fn late_in(matches: &ArgMatches<'_>) -> Result<LateRule, UsageFault>
+    ensures ok { IfOk result (λ rule. specs.late_in (rows_in matches.now) ≡ Some rule) }
+    ensures usage { IfErr result (λ _. specs.late_in (rows_in matches.now) ≡ None) }
+{
+    match value_of(matches, "late") {
+        None | Some("refuse") => Ok(LateRule::Refuse),
+        Some("drop") => Ok(LateRule::Drop),
+        Some(_) => Err(UsageFault::Usage),
     }
 }
 

@@ -1,9 +1,10 @@
 use Rattle.clap.specs.Words.{app_of}
-use Rattle.sp_cli.specs.Options.{with_speed, run_options}
+use Rattle.sp_cli.specs.Options.{with_lateness, run_options}
 use Rattle.sp_cli.proofs.Found.{made_as, made_free, run_free, run_from}
 use Rattle.sp_cli.proofs.options.run_options.Goals as goal
 
 pub returns : goal.returns
 returns c =
-    let made = made_as c.with_speed.result (with_speed (app_of c.in_ok-with_query.field-0)) run_options (run_from (app_of c.bare.result) (app_of c.in_ok-with_query.field-0) c.bare.ensures c.in_ok-with_query.ensures) c.with_speed.ensures in
-    record { options = made; simple = made_free c.with_speed.result run_options run_free made }
+    let made = made_as c.with_lateness.result (with_lateness (app_of c.in_ok-with_speed.field-0)) run_options
+    (run_from (app_of c.bare.result) (app_of c.in_ok-command.command) (app_of c.in_ok-with_speed.field-0) c.bare.ensures c.in_ok-command.ensures c.in_ok-with_speed.ensures) c.with_lateness.ensures in
+    record { options = made; simple = made_free c.with_lateness.result run_options run_free made }
