@@ -9,7 +9,7 @@ use std::alloc::Global;
 pub enum Status {
     /// The command is done, and the input was read to its end.
     Done,
-    /// The same where events that came too late were passed over: in so many rows.
+    /// The same where events that come too late are passed over: so many rows were, which may be none.
     DoneLate { rows: u32 },
     Memory,
     Usage,
