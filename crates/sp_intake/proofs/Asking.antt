@@ -1,19 +1,21 @@
 -- What an input had given when it last asked its source.
-use Rattle.std.proofs.Common.{◌≡◌, ◌⊎◌, inl, inr, ◌≤◌, ℕ, List, [], ◌++◌, length, refl, sym, ◌∙◌, ap, subst, append_assoc, length-append, arith}
+use Rattle.std.proofs.Common.{◌≡◌, ◌⊎◌, ◌+◌, inl, inr, ◌≤◌, ℕ, false, List, [], ◌++◌, length, refl, sym, ◌∙◌, ap, subst, append_assoc, length-append, arith}
 use Rattle.std.proofs.lemmas.List.{append-nil}
 use Rattle.sp_base.specs.Limits.{event_limit}
+use Rattle.sp_plan.specs.Compiled.{IsTimeOf}
 use Rattle.sp_plan.specs.declared.event.Event.{Event}
 use Rattle.sp_plan.specs.declared.plan.Plan.{Plan}
 use Rattle.sp_ports.specs.Giving.{AreGood}
 use Rattle.sp_io.specs.Outside.{SourceState}
-use Rattle.sp_intake.specs.declared.events.State.{State}
-use Rattle.sp_intake.specs.declared.events.State.TheVariants.{Going}
+use Rattle.sp_intake.specs.declared.reader.State.{State}
+use Rattle.sp_intake.specs.declared.reader.State.TheVariants.{Going}
 use Rattle.sp_intake.specs.Laws.{reads_more, gives_good, asked_gives}
 use Rattle.sp_intake.specs.Pieces.{TakesPiece, Asked, AskedSoFar, AsksFrom}
 use Rattle.sp_intake.specs.Reader.{Reader}
-use Rattle.sp_intake.specs.Reading.{Reading, read}
-use Rattle.sp_intake.specs.Standing.{Standing, going, IsHungry, Leads, Since, Reads, Gives, stop_in}
-use Rattle.sp_intake.proofs.Since.{settled_read, read_goes, reads_going}
+use Rattle.sp_intake.specs.Loose.{Loose, kept, loose}
+use Rattle.sp_intake.specs.LooseLaws.{punctual}
+use Rattle.sp_intake.specs.Standing.{Standing, going, HasRead, HasReadBy, IsHungry, Leads, Since, Reads, Gives, stop_in}
+use Rattle.sp_intake.proofs.Since.{settled_read, read_goes, reads_going, on_time_events, on_time_goes, on_time_read}
 
 -- what is given of bytes that were there, behind what was given before
 pub reads_still : (a b c : Standing) (bytes : List ℕ) (xs ys : List Event) → length (xs ++ ys) ≤ event_limit → Reads a bytes xs b → Reads b [] ys c → Reads a bytes (xs ++ ys) c
@@ -35,7 +37,7 @@ reads_further source state next old new first events is still before told =
 
 module _ (old here new : Standing) (before events : List Event) where
   -- more was given, and the source was not asked
-  pub asked_still : (more : List Event) → new.reader.given ≤ event_limit → Reads here [] more new → Asked old before events here → Asked old before (events ++ more) new
+  pub asked_still : (more : List Event) → new.reader.given + new.reader.late ≤ event_limit → Reads here [] more new → Asked old before events here → Asked old before (events ++ more) new
   asked_still more small reads (inl none) =
       let few : length (events ++ more) ≤ event_limit = omega (arith, length-append events more, none.1.count, reads.count, small) in
       inl (none.0, reads_still old here new [] events more few none.1 reads)
@@ -80,22 +82,25 @@ either_gives old before events new (inl asked) = asked_gives old before events n
 either_gives old before events new (inr asked) = asked_gives old events events new asked
 
 -- more was given, and the source was not asked
-pub either_still : (old here new : Standing) (before events more : List Event) → new.reader.given ≤ event_limit → Reads here [] more new → Asked old before events here ⊎ Asked old events events here
+pub either_still : (old here new : Standing) (before events more : List Event) → new.reader.given + new.reader.late ≤ event_limit → Reads here [] more new → Asked old before events here ⊎ Asked old events events here
     → Asked old before (events ++ more) new ⊎ Asked old events (events ++ more) new
 either_still old here new before events more small reads (inl asked) = inl (asked_still old here new before events more small reads asked)
 either_still old here new before events more small reads (inr asked) = inr (asked_still old here new events events more small reads asked)
 
--- what was given when the source was last asked is just what the bytes before the last piece give
-pub asks_from : (q : Plan) (first : Standing) → Since q first.source [] [] first → AsksFrom q first.source first
-asks_from q first since before events last asked = by asked
+-- without a slack, what was given when the source was last asked is just what the bytes before the last piece give
+pub asks_from : (q : Plan) → IsTimeOf q.schema.columns q.schema.time → (first : Standing) → Since q punctual first.source [] [] first → AsksFrom q first.source first
+asks_from q timed first since before events last asked = by asked
   where
     good : AreGood q events
-    good = subst (λ (p : Plan). AreGood p events) since.plan (gives_good first last events (asked_gives first before events last asked))
+    good = subst (λ (p : Plan). AreGood p events) since.plan (gives_good first last events since.lateness (asked_gives first before events last asked))
+
+    on_time : (taken : List ℕ) → HasReadBy (kept q punctual) first.source last.source taken events (stop_in last.state) → HasRead q first.source last.source taken events (stop_in last.state)
+    on_time taken = on_time_read q timed first.source last.source taken events (stop_in last.state)
 
     by : Asked first before events last → AskedSoFar q first.source last.source before events (stop_in last.state)
     by (inl none) = record {
       taken = [];
-      has = (none.1.since q first.source [] [] since).has;
+      has = on_time [] (none.1.since q punctual first.source [] [] since).has;
       good = good;
       last = record {
         front = [];
@@ -107,21 +112,22 @@ asks_from q first since before events last asked = by asked
       are = none.0;
     }
     by (inr behind) =
-        let one : Since q first.source behind.front before behind.between = behind.first.since q first.source [] [] since in
-        let two : Since q first.source (behind.front ++ behind.piece) (before ++ behind.others) last = behind.last.since q first.source behind.front before one in
-        let all : Since q first.source (behind.front ++ behind.piece) events last = subst (λ (l : List Event). Since q first.source (behind.front ++ behind.piece) l last) (sym behind.are) two in
-        let leads : Leads q behind.front before behind.between = one.leads behind.going in
-        let settled = settled_read q behind.front before behind.between leads behind.hungry.settled in
+        let taken = behind.front ++ behind.piece in
+        let one : Since q punctual first.source behind.front before behind.between = behind.first.since q punctual first.source [] [] since in
+        let two : Since q punctual first.source taken (before ++ behind.others) last = behind.last.since q punctual first.source behind.front before one in
+        let all : Since q punctual first.source taken events last = subst (λ (l : List Event). Since q punctual first.source taken l last) (sym behind.are) two in
+        let leads : Leads q punctual behind.front before behind.between = one.leads behind.going in
+        let settled = settled_read q punctual behind.front before behind.between leads behind.hungry.settled in
         record {
-          taken = behind.front ++ behind.piece;
-          has = all.has;
+          taken = taken;
+          has = on_time taken all.has;
           good = good;
           last = record {
             front = behind.front;
             piece = behind.piece;
             are = refl;
             short = behind.short;
-            goes_on = read_goes q behind.front before behind.between leads behind.hungry.settled behind.hungry.open_;
+            goes_on = on_time_goes q timed behind.front (read_goes q punctual behind.front before behind.between leads behind.hungry.settled behind.hungry.open_);
           };
-          are = ap (λ (r : Reading). r.events) (settled ∙ ap (read q behind.front) (leads.ended ∙ behind.hungry.open_));
+          are = ap (λ (r : Loose). r.reading.events) (settled ∙ ap (loose q punctual behind.front) (leads.ended ∙ behind.hungry.open_)) ∙ on_time_events q timed behind.front false;
         }

@@ -17,6 +17,7 @@ use Rattle.sp_plan.specs.contracts.plan.Expr as expr
 use Rattle.sp_plan.specs.contracts.plan.Pred as pred
 use Rattle.sp_plan.specs.contracts.plan.Plan as plan
 use Rattle.sp_rows.specs.contracts.rows.Rows as rows
+use Rattle.sp_intake.specs.contracts.reader.RowReader as reader
 use Rattle.sp_intake.specs.contracts.events.EventReader as events
 use Rattle.sp_intake.specs.contracts.giving.Input as input
 
@@ -43,10 +44,13 @@ rows_sent =
     struct_send (shape rows.the_type)
     (search (plan_sent, plan_common, sendable, crosses) depth 30, (search (sendable, crosses) depth 30, (search (sendable, crosses) depth 30, (search (sendable, crosses) depth 30, (search (sendable, crosses) depth 30, (search (sendable, crosses) depth 30, (search (sendable, crosses) depth 30, tt)))))))
 
+reader_sent : IsSend reader.the_field.row
+reader_sent =
+    struct_send (shape reader.the_type)
+    (search (sendable, crosses) depth 30, (rows_sent, (search (sendable, crosses) depth 30, (search (sendable, crosses) depth 30, (search (sendable, crosses) depth 30, (search (sendable, crosses) depth 30, (search (sendable, crosses) depth 30, (search (sendable, crosses) depth 30, (search (sendable, crosses) depth 30, tt)))))))))
+
 events_sent : IsSend events.the_field.row
-events_sent =
-    struct_send (shape events.the_type)
-    (search (sendable, crosses) depth 30, (rows_sent, (search (sendable, crosses) depth 30, (search (sendable, crosses) depth 30, (search (sendable, crosses) depth 30, (search (sendable, crosses) depth 30, tt))))))
+events_sent = struct_send (shape events.the_type) (reader_sent, (search (sendable, crosses) depth 30, tt))
 
 pub input_sent : (l : NamedLft) (S : RattleType) → IsSend S → IsSend (input.the_row l S)
 input_sent l S sent =

@@ -1,7 +1,6 @@
 pub mod AllGiven
 pub mod FitReading
 pub mod Gave
-pub mod Growing
 pub mod Leading
 pub mod Suiting
 pub mod Since

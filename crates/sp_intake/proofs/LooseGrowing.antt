@@ -18,6 +18,7 @@ use Rattle.sp_ports.specs.declared.stop.Failure.TheVariants.{Limit}
 use Rattle.sp_intake.specs.Reading.{stopped_by}
 use Rattle.sp_intake.specs.Loose.{Lateness, Loose, start, reads_on, is_full, filled, with_late, with_event, with_result, with_row, take_row, loose}
 use Rattle.sp_intake.specs.LooseLaws.{LooseGrowsTo}
+use Rattle.sp_intake.specs.Standing.{IsFront}
 use Rattle.sp_intake.proofs.LooseGood.{kept_timely}
 
 -- none of the events behind some is late where none of them all is
@@ -79,6 +80,10 @@ module _ (q : Plan) (l : Lateness) where
   rows_follow : (rs : List CutRow) (r : Loose) → Follows r (fold (take_row q l) r rs)
   rows_follow [] r = still r r refl refl
   rows_follow (next ∷ rs) r = follows_on r (take_row q l r next) (fold (take_row q l) (take_row q l r next) rs) (row_follows r next) (rows_follow rs (take_row q l r next))
+
+  -- the events that were given come first
+  pub rows_grow : (r : Loose) (rs : List CutRow) → IsFront r.reading.events (fold (take_row q l) r rs).reading.events
+  rows_grow r rs = let follows = rows_follow rs r in (follows.others, follows.events)
 
   bytes_follow : (front more : List ℕ) (ended : Bool) → Follows (loose q l front false) (loose q l (front ++ more) ended)
   bytes_follow front more ended =

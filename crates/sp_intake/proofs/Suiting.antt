@@ -1,6 +1,6 @@
 -- What is read of a row suits the plan.
-use Rattle.std.proofs.Common.{◌≡◌, ℕ, Bool, false, List, [], ◌∷◌, length, refl, sym, ◌∙◌, ap, subst}
-use Rattle.std.specs.Prelude.{Option, Some, None, Result, slice_get}
+use Rattle.std.proofs.Common.{◌≡◌, ◌==◌, ◌&&◌, ℕ, pos, ◌+◌, ◌≤ℤ◌, Bool, true, false, List, length, refl, sym, ◌∙◌, ap, subst, arith}
+use Rattle.std.specs.Prelude.{Option, Some, None, is_none, find, int_lt, int_le, slice_get, if◌then◌else◌}
 use Rattle.std.specs.Option.{option_map}
 use Rattle.sp_plan.specs.Compiled.{IsTimeOf}
 use Rattle.sp_plan.specs.declared.event.Event.{Event}
@@ -9,14 +9,17 @@ use Rattle.sp_plan.specs.declared.plan.Kind.{Kind}
 use Rattle.sp_plan.specs.declared.plan.Kind.TheVariants.{Int}
 use Rattle.sp_plan.specs.declared.plan.Plan.{Plan}
 use Rattle.sp_rows.specs.declared.rows.Rows.{Rows}
-use Rattle.sp_rows.specs.Progress.{plan_of, is_loose, read_of, Answers}
-use Rattle.sp_rows.proofs.Answered.{given_strict}
-use Rattle.sp_rows.specs.declared.fault.RowError.{RowError}
-use Rattle.sp_rows.specs.Rows.{RowsRead, RowResult, nothing, event, row_result, given_if}
+use Rattle.std.specs.List.{list_all, zip}
+use Rattle.std.proofs.lemmas.Int.{ints}
+use Rattle.sp_base.specs.Limits.{number_limit}
+use Rattle.sp_plan.specs.Events.{fits, fits_column}
+use Rattle.sp_rows.specs.declared.fault.RowKind.{RowKind}
+use Rattle.sp_rows.specs.declared.fault.RowKind.TheVariants.{BackInTime}
+use Rattle.sp_rows.specs.Cells.{RowCells, blank, one, several, row_cells}
+use Rattle.sp_rows.specs.Progress.{plan_of, is_loose, read_of}
+use Rattle.sp_rows.specs.Rows.{RowsRead, RowResult, nothing, event, refused, ColumnAt, columns_at, first_fault, time_of, time_place, values_of, refused_at, event_or_fault, header_or_fault, place_of, row_of_cells, by_cells, row_result, given_if}
 use Rattle.sp_rows.proofs.FitEvents.{PlacesFit, GivesFit, row_fits}
-use Rattle.sp_intake.specs.Following.{ComeNext}
-use Rattle.sp_intake.specs.Orderly.{none_next, one_next, same_next}
-use Rattle.sp_intake.specs.Reader.{last_of, SuitsPlan}
+use Rattle.sp_intake.specs.Reader.{SuitsPlan}
 
 time_is : (columns : List Column) (place : ℕ) (found : Option Column) → slice_get columns place ≡ found → option_map (λ column. column.kind) found ≡ Some Int → IsTimeOf columns (Some place)
 time_is columns place (Some column) is kind = (column, is, cc kind)
@@ -35,11 +38,11 @@ placed_of q None placed = tt
 placed_of q (Some places) placed = placed places refl
 
 -- what was read so far fits, with a plan that has the time
-pub suits_with : (rows : Rows) → IsTimeOf (plan_of rows).schema.columns (plan_of rows).schema.time → PlacesFit (plan_of rows) (read_of rows).places → is_loose rows ≡ false → SuitsPlan rows
-suits_with rows timed placed strict = record {
+pub suits_with : (rows : Rows) → IsTimeOf (plan_of rows).schema.columns (plan_of rows).schema.time → PlacesFit (plan_of rows) (read_of rows).places → is_loose rows ≡ true → SuitsPlan rows
+suits_with rows timed placed loose = record {
   timed = λ place is. timed_at (plan_of rows).schema.columns place (subst (IsTimeOf (plan_of rows).schema.columns) is timed);
   placed = λ places is. subst (PlacesFit (plan_of rows)) is placed;
-  strict = strict;
+  loose = loose;
 }
 
 pub suits_time : (rows : Rows) → SuitsPlan rows → IsTimeOf (plan_of rows).schema.columns (plan_of rows).schema.time
@@ -51,42 +54,94 @@ suits_places rows suits = placed_of (plan_of rows) (read_of rows).places suits.p
 -- the plan is the same, and the places fit it
 pub suits_as : (old new : Rows) → SuitsPlan old → plan_of new ≡ plan_of old → PlacesFit (plan_of old) (read_of new).places → is_loose new ≡ is_loose old → SuitsPlan new
 suits_as old new suits plan placed same =
-    suits_with new (subst (λ (q : Plan). IsTimeOf q.schema.columns q.schema.time) (sym plan) (suits_time old suits)) (subst (λ (q : Plan). PlacesFit q (read_of new).places) (sym plan) placed) (same ∙ suits.strict)
+    suits_with new (subst (λ (q : Plan). IsTimeOf q.schema.columns q.schema.time) (sym plan) (suits_time old suits)) (subst (λ (q : Plan). PlacesFit q (read_of new).places) (sym plan) placed) (same ∙ suits.loose)
 
 -- what was read is the same
 pub suits_still : (old new : Rows) → SuitsPlan old → plan_of new ≡ plan_of old → read_of new ≡ read_of old → is_loose new ≡ is_loose old → SuitsPlan new
 suits_still old new suits plan is same =
     suits_as old new suits plan (subst (λ (r : RowsRead). PlacesFit (plan_of old) r.places) (sym is) (suits_places old suits)) same
 
--- a row gives what it gives, since times may not go back
-pub strict_is : (rows : Rows) (given : RowResult) → SuitsPlan rows → given_if (is_loose rows) given ≡ given
-strict_is rows given suits = ap (λ (loose : Bool). given_if loose given) suits.strict ∙ given_strict given
+-- ---- a row that gives an event leaves the places
 
-pub strict_answers : (rows : Rows) (given : RowResult) (before after : RowsRead) (r : Result (Option Event) RowError) → SuitsPlan rows → Answers (given_if (is_loose rows) given) before after r → Answers given before after r
-strict_answers rows given before after r suits = subst (λ (x : RowResult). Answers x before after r) (strict_is rows given suits)
+abbrev KeepsPlaces : RowsRead → RowResult → Type 0
+KeepsPlaces r (nothing so_far) = Unit {0}
+KeepsPlaces r (event e so_far) = so_far.places ≡ r.places
+KeepsPlaces r (refused f) = Unit {0}
 
-module _ (old new : Rows) (suits : SuitsPlan old) (bytes : List ℕ) (given : RowResult) (is : row_result (plan_of old) (read_of old) bytes ≡ given) where
-  gives_fit : GivesFit (plan_of old) (read_of old) given
-  gives_fit = subst (GivesFit (plan_of old) (read_of old)) is (row_fits (plan_of old) (suits_time old suits) (read_of old) bytes (suits_places old suits))
+module _ (q : Plan) (r : RowsRead) (cells : List (List ℕ)) where
+  keeps_event : (columns : List ColumnAt) (found : Option (RowKind × ℕ)) → KeepsPlaces r (event_or_fault r cells columns found)
+  keeps_event columns (Some found) = tt
+  keeps_event columns None = by (int_lt (time_of cells columns) r.last)
+    where
+      by : (b : Bool) → KeepsPlaces r (if b then refused_at r (BackInTime r.last (time_of cells columns)) (time_place columns)
+          else event (record { time = time_of cells columns; values = (values_of r.texts cells columns).0 }) (record r { read = r.read + 1; last = time_of cells columns; texts = (values_of r.texts cells columns).1 }))
+      by true = tt
+      by false = refl
+
+  keeps_header : (lacking : Option Column) → KeepsPlaces r (header_or_fault q r cells lacking)
+  keeps_header (Some column) = tt
+  keeps_header None = tt
+
+  keeps_cells : (places : Option (List ℕ)) → KeepsPlaces r (row_of_cells q r cells places)
+  keeps_cells None = keeps_header (find (λ column. is_none (place_of cells column)) q.schema.columns)
+  keeps_cells (Some places) = keeps_event (columns_at q places) (first_fault cells (columns_at q places))
+
+keeps_row : (q : Plan) (r : RowsRead) (cells : RowCells) → KeepsPlaces r (by_cells q r cells)
+keeps_row q r blank = tt
+keeps_row q r several = tt
+keeps_row q r (one cells) = keeps_cells q r cells r.places
+
+-- ---- what a row gives where times may go back
+
+-- an event fits the plan, and the places fit it
+abbrev LooseFit : Plan → RowsRead → RowResult → Type 0
+LooseFit q r (nothing so_far) = PlacesFit q so_far.places
+LooseFit q r (event e so_far) = (fits q e ≡ true) × (so_far.places ≡ r.places)
+LooseFit q r (refused f) = Unit {0}
+
+loose_fit : (q : Plan) (r : RowsRead) (given : RowResult) → GivesFit q r given → KeepsPlaces r given → LooseFit q r (given_if true given)
+loose_fit q r (nothing so_far) fit keeps = fit.1
+loose_fit q r (event e so_far) fit keeps = (fit.0, keeps)
+loose_fit q r (refused f) fit keeps = tt
+
+module _ (old : Rows) (suits : SuitsPlan old) (bytes : List ℕ) (given : RowResult) (is : given_if (is_loose old) (row_result (plan_of old) (read_of old) bytes) ≡ given) where
+  -- what the next row gives, in the words of the reading
+  pub loose_is : given_if true (row_result (plan_of old) (read_of old) bytes) ≡ given
+  loose_is = sym (ap (λ (loose : Bool). given_if loose (row_result (plan_of old) (read_of old) bytes)) suits.loose) ∙ is
+
+  gives_fit : LooseFit (plan_of old) (read_of old) given
+  gives_fit =
+      subst (LooseFit (plan_of old) (read_of old)) loose_is
+      (loose_fit (plan_of old) (read_of old) (row_result (plan_of old) (read_of old) bytes) (row_fits (plan_of old) (suits_time old suits) (read_of old) bytes (suits_places old suits)) (keeps_row (plan_of old) (read_of old) (row_cells bytes)))
+
+third_and_fourth : (a b c d : Bool) → (a && b && c && d) ≡ true → (c ≡ true) × (d ≡ true)
+third_and_fourth true true true true is = (refl, refl)
+third_and_fourth true true true false is = absurd (cc is)
+third_and_fourth true true false d is = absurd (cc is)
+third_and_fourth true false c d is = absurd (cc is)
+third_and_fourth false b c d is = absurd (cc is)
+
+-- the time of an event that fits is 0 to the greatest number
+pub time_between : (q : Plan) (e : Event) → fits q e ≡ true → (pos 0 ≤ℤ e.time) × (e.time ≤ℤ pos number_limit)
+time_between q e fit =
+    let both : (int_le (pos 0) e.time ≡ true) × (int_le e.time (pos number_limit) ≡ true) =
+    third_and_fourth (length q.schema.columns == length e.values) (list_all fits_column (zip q.schema.columns e.values)) (int_le (pos 0) e.time) (int_le e.time (pos number_limit)) fit in
+    let low = both.0 in
+    let high = both.1 in
+    (grind (arith, ints, low), grind (arith, ints, high))
 
 -- a row that gives no event
-module _ (old new : Rows) (suits : SuitsPlan old) (bytes : List ℕ) (is : row_result (plan_of old) (read_of old) bytes ≡ nothing (read_of new)) where
+module _ (old new : Rows) (suits : SuitsPlan old) (bytes : List ℕ) (is : given_if (is_loose old) (row_result (plan_of old) (read_of old) bytes) ≡ nothing (read_of new)) where
   pub nothing_suits : plan_of new ≡ plan_of old → is_loose new ≡ is_loose old → SuitsPlan new
-  nothing_suits plan same = suits_as old new suits plan (gives_fit old new suits bytes (nothing (read_of new)) is).1 same
-
-  pub nothing_next : ComeNext (plan_of old) (last_of old) [] (last_of new)
-  nothing_next = same_next (plan_of old) (last_of old) (last_of new) (gives_fit old new suits bytes (nothing (read_of new)) is).0
+  nothing_suits plan same = suits_as old new suits plan (gives_fit old suits bytes (nothing (read_of new)) is) same
 
 -- a row that gives an event
-module _ (old new : Rows) (suits : SuitsPlan old) (bytes : List ℕ) (e : Event) (is : row_result (plan_of old) (read_of old) bytes ≡ event e (read_of new)) where
+module _ (old new : Rows) (suits : SuitsPlan old) (bytes : List ℕ) (e : Event) (is : given_if (is_loose old) (row_result (plan_of old) (read_of old) bytes) ≡ event e (read_of new)) where
+  pub event_fits : fits (plan_of old) e ≡ true
+  event_fits = (gives_fit old suits bytes (event e (read_of new)) is).0
+
+  pub event_places : (read_of new).places ≡ (read_of old).places
+  event_places = (gives_fit old suits bytes (event e (read_of new)) is).1
+
   pub event_suits : plan_of new ≡ plan_of old → is_loose new ≡ is_loose old → SuitsPlan new
-  event_suits plan same = suits_as old new suits plan (gives_fit old new suits bytes (event e (read_of new)) is).3 same
-
-  pub event_next : ComeNext (plan_of old) (last_of old) (e ∷ []) (last_of new)
-  event_next =
-      let fit = gives_fit old new suits bytes (event e (read_of new)) is in
-      one_next (plan_of old) (last_of old) (last_of new) e fit.0 fit.1 fit.2
-
-  -- the event is past the limit, and was not given
-  pub event_passed : ComeNext (plan_of old) (last_of old) [] (last_of new)
-  event_passed = let given = event_next in none_next (plan_of old) (last_of old) (last_of new) given.onward
+  event_suits plan same = suits_as old new suits plan (subst (PlacesFit (plan_of old)) (sym event_places) (suits_places old suits)) same

@@ -5,17 +5,21 @@ use Rattle.sp_base.specs.Limits.{piece_limit, event_limit}
 use Rattle.sp_io.specs.Outside.{SourceState, Gave, Rose}
 use Rattle.sp_plan.specs.Events.{AllFit, NeverGoesBack}
 use Rattle.sp_plan.specs.declared.plan.Plan.{Plan}
-use Rattle.sp_intake.specs.Reading.{read, stop_of}
+use Rattle.sp_intake.specs.Reading.{Way, read, stop_of}
 use Rattle.sp_intake.specs.declared.input.InputEvents.{InputEvents}
 use Rattle.sp_ports.specs.declared.stop.Stop.TheVariants.{Open}
 
 -- Reading ends with the piece in which it stops: what was taken before the last piece had not stopped it.
-pub record TakesNoFurther (q : Plan) (taken : List ℕ) : Type 0 where
+pub record StopsInPiece (way : Way) (taken : List ℕ) : Type 0 where
   pub front : List ℕ
   pub piece : List ℕ
   pub are : taken ≡ front ++ piece
   pub short : length piece ≤ piece_limit
-  pub goes_on : (read q front false).stopped ≡ None
+  pub goes_on : (way front false).stopped ≡ None
+
+-- the same of a reading in which times may not go back
+abbrev pub TakesNoFurther : Plan → List ℕ → Type 0
+TakesNoFurther q = StopsInPiece (read q)
 
 -- A reading of the input: the bytes that it took and, where memory did not run out, the events that they give and why it stopped.
 pub record ReadsInput (q : Plan) (old new : SourceState) (result : Result InputEvents AllocError) : Type 0 where

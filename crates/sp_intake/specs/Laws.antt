@@ -1,5 +1,5 @@
 -- Laws of what an input gives: where it was not asked it gave nothing, what it gives is good, and what it gives from one standing on comes behind what it gave before.
-use Rattle.std.specs.Prelude.{◌≤◌, ℕ, List, [], ◌++◌, length, refl}
+use Rattle.std.specs.Prelude.{◌≡◌, ◌≤◌, ℕ, List, [], ◌++◌, length, refl}
 use Rattle.std.proofs.Common.{inl, inr, sym, ◌∙◌, subst, append_assoc, length-append, arith}
 use Rattle.std.proofs.lemmas.Int.{ints}
 use Rattle.std.proofs.lemmas.List.{append-nil}
@@ -9,6 +9,7 @@ use Rattle.sp_plan.specs.declared.plan.Plan.{Plan}
 use Rattle.sp_ports.specs.Giving.{AreGood}
 use Rattle.sp_rows.specs.Progress.{plan_of}
 use Rattle.sp_intake.specs.Following.{ComeNext}
+use Rattle.sp_intake.specs.LooseLaws.{punctual}
 use Rattle.sp_intake.specs.Orderly.{none_next, next_more}
 use Rattle.sp_intake.specs.Pieces.{Asked}
 use Rattle.sp_intake.specs.Reader.{last_of}
@@ -17,33 +18,35 @@ use Rattle.sp_intake.specs.Standing.{Standing, Since, Reads, Gives}
 pub reads_none : (now : Standing) → Reads now [] [] now
 reads_none now = record {
   plan = refl;
+  lateness = refl;
   count = omega arith;
   few = omega arith;
-  next = none_next (plan_of now.reader.rows) (last_of now.reader.rows) (last_of now.reader.rows) (omega (arith, ints));
-  since = λ q origin taken first since.
-      subst (λ (bytes : List ℕ). Since q origin bytes (first ++ []) now) (sym (append-nil taken))
-      (subst (λ (events : List Event). Since q origin taken events now) (sym (append-nil first)) since);
+  next = λ on_time. none_next (plan_of now.reader.rows) (last_of now.reader) (last_of now.reader) (omega (arith, ints));
+  since = λ q l origin taken first since.
+      subst (λ (bytes : List ℕ). Since q l origin bytes (first ++ []) now) (sym (append-nil taken))
+      (subst (λ (events : List Event). Since q l origin taken events now) (sym (append-nil first)) since);
 }
 
 -- one reading behind another
 pub reads_more : (a b c : Standing) (front piece : List ℕ) (xs ys : List Event) → length (xs ++ ys) ≤ event_limit → Reads a front xs b → Reads b piece ys c → Reads a (front ++ piece) (xs ++ ys) c
 reads_more a b c front piece xs ys few one two = record {
   plan = two.plan ∙ one.plan;
+  lateness = two.lateness ∙ one.lateness;
   count = omega (arith, length-append xs ys, one.count, two.count);
   few = few;
-  next = next_more (plan_of a.reader.rows) (last_of a.reader.rows) (last_of b.reader.rows) (last_of c.reader.rows) xs ys one.next
-      (subst (λ (q : Plan). ComeNext q (last_of b.reader.rows) ys (last_of c.reader.rows)) one.plan two.next);
-  since = λ q origin taken first since.
-      subst (λ (bytes : List ℕ). Since q origin bytes (first ++ (xs ++ ys)) c) (append_assoc taken front piece)
-      (subst (λ (events : List Event). Since q origin ((taken ++ front) ++ piece) events c) (append_assoc first xs ys)
-      (two.since q origin (taken ++ front) (first ++ xs) (one.since q origin taken first since)));
+  next = λ on_time. next_more (plan_of a.reader.rows) (last_of a.reader) (last_of b.reader) (last_of c.reader) xs ys (one.next on_time)
+      (subst (λ (q : Plan). ComeNext q (last_of b.reader) ys (last_of c.reader)) one.plan (two.next (one.lateness ∙ on_time)));
+  since = λ q l origin taken first since.
+      subst (λ (bytes : List ℕ). Since q l origin bytes (first ++ (xs ++ ys)) c) (append_assoc taken front piece)
+      (subst (λ (events : List Event). Since q l origin ((taken ++ front) ++ piece) events c) (append_assoc first xs ys)
+      (two.since q l origin (taken ++ front) (first ++ xs) (one.since q l origin taken first since)));
 }
 
 pub gives_none : (now : Standing) → Gives now [] now
 gives_none now = ([], reads_none now)
 
-pub gives_good : (old new : Standing) (events : List Event) → Gives old events new → AreGood (plan_of old.reader.rows) events
-gives_good old new events gives = record { good = (gives.1.next.fit, gives.1.next.ordered); few = gives.1.few }
+pub gives_good : (old new : Standing) (events : List Event) → old.reader.lateness ≡ punctual → Gives old events new → AreGood (plan_of old.reader.rows) events
+gives_good old new events on_time gives = let next = gives.1.next on_time in record { good = (next.fit, next.ordered); few = gives.1.few }
 
 pub asked_none : (now : Standing) → Asked now [] [] now
 asked_none now = inl (refl, reads_none now)

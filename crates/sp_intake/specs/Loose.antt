@@ -11,7 +11,7 @@ use Rattle.sp_slack.specs.HeldBack.{is_late}
 use Rattle.sp_slack.specs.declared.late.LateRule.{LateRule}
 use Rattle.sp_slack.specs.declared.late.LateRule.TheVariants.{Refuse, Drop}
 use Rattle.sp_ports.specs.declared.stop.Failure.TheVariants.{Row, Limit}
-use Rattle.sp_intake.specs.Reading.{Reading, stopped_by, without_row}
+use Rattle.sp_intake.specs.Reading.{Reading, Way, stopped_by, without_row}
 use Rattle.sp_intake.specs.Reading as strict
 
 -- how far behind the greatest time before it an event may come, and what becomes of one that comes later
@@ -70,3 +70,7 @@ take_row q l r next =
 -- What the rows of the input give: the events that were kept, and how many were passed over.
 abbrev pub loose : Plan → Lateness → List ℕ → Bool → Loose
 loose q l bytes ended = fold (take_row q l) (start q) (rows bytes ended)
+
+-- the events that were kept, as a way of reading
+abbrev pub kept : Plan → Lateness → Way
+kept q l bytes ended = (loose q l bytes ended).reading

@@ -5,7 +5,7 @@ use Rattle.sp_io.specs.Outside.{SourceState}
 use Rattle.sp_plan.specs.declared.event.Event.{Event}
 use Rattle.sp_plan.specs.declared.plan.Plan.{Plan}
 use Rattle.sp_ports.specs.Giving.{AreGood}
-use Rattle.sp_intake.specs.declared.events.State.TheVariants.{Going}
+use Rattle.sp_intake.specs.declared.reader.State.TheVariants.{Going}
 use Rattle.sp_ports.specs.declared.stop.Stop.{Stop}
 use Rattle.sp_intake.specs.Intake.{TakesNoFurther}
 use Rattle.sp_intake.specs.Reading.{read}

@@ -69,3 +69,7 @@ stop_or r ended None = if not ended then Open else end_stop r.so_far.places
 -- why reading stops: a failure, the end of the input, or neither; ended input without a header is faulty
 abbrev pub stop_of : Reading → Bool → Stop
 stop_of r ended = stop_or r ended r.stopped
+
+-- a way of reading: what bytes give, where the input ends behind them or goes on
+abbrev pub Way : Type 0
+Way = List ℕ → Bool → Reading

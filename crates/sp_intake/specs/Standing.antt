@@ -9,17 +9,19 @@ use Rattle.sp_plan.specs.declared.plan.Plan.{Plan}
 use Rattle.sp_ports.specs.Giving.{AreGood}
 use Rattle.sp_ports.specs.Stopping.{is_end}
 use Rattle.sp_rows.specs.Progress.{plan_of}
-use Rattle.sp_intake.specs.declared.events.State.{State}
-use Rattle.sp_intake.specs.declared.events.State.TheVariants.{Going, Stopped, Broken}
-use Rattle.sp_intake.specs.declared.events.Step.{Step}
-use Rattle.sp_intake.specs.declared.events.Step.TheVariants as step
+use Rattle.sp_intake.specs.declared.reader.State.{State}
+use Rattle.sp_intake.specs.declared.reader.State.TheVariants.{Going, Stopped, Broken}
+use Rattle.sp_intake.specs.declared.reader.Step.{Step}
+use Rattle.sp_intake.specs.declared.reader.Step.TheVariants as step
 use Rattle.sp_ports.specs.declared.stop.Stop.{Stop}
 use Rattle.sp_ports.specs.declared.stop.Stop.TheVariants.{Open}
 use Rattle.sp_intake.specs.Coming.{comes_to, ends_as, IsSettled}
 use Rattle.sp_intake.specs.Following.{ComeNext}
-use Rattle.sp_intake.specs.Intake.{TakesNoFurther}
-use Rattle.sp_intake.specs.Reader.{Reader, last_of, event_in}
-use Rattle.sp_intake.specs.Reading.{read, stop_of}
+use Rattle.sp_intake.specs.Intake.{StopsInPiece}
+use Rattle.sp_intake.specs.Loose.{Lateness, kept, loose}
+use Rattle.sp_intake.specs.LooseLaws.{punctual}
+use Rattle.sp_intake.specs.Reader.{Reader, WereGiven, last_of, event_in}
+use Rattle.sp_intake.specs.Reading.{Way, read, stop_of}
 
 -- an input, its source seen by its state
 pub record Standing : Type 0 where
@@ -47,16 +49,20 @@ abbrev pub IsFront : List Event → List Event → Type 0
 IsFront first events = (others : List Event) × (events ≡ first ++ others)
 
 -- From one state of a source to another these bytes were taken, and these events given: the first of those that the bytes give, or all of them, where reading stopped.
-pub record HasRead (q : Plan) (before after : SourceState) (taken : List ℕ) (events : List Event) (why : Option Stop) : Type 0 where
+pub record HasReadBy (way : Way) (before after : SourceState) (taken : List ℕ) (events : List Event) (why : Option Stop) : Type 0 where
   pub gave : Gave before.left taken after.left
-  pub no_further : TakesNoFurther q taken
-  pub front : IsFront events (read q taken after.ended).events
-  pub all : IfSome why (λ stop. events ≡ (read q taken after.ended).events)
-  pub stop : IfSome why (λ stop. stop ≡ stop_of (read q taken after.ended) after.ended)
+  pub no_further : StopsInPiece way taken
+  pub front : IsFront events (way taken after.ended).events
+  pub all : IfSome why (λ stop. events ≡ (way taken after.ended).events)
+  pub stop : IfSome why (λ stop. stop ≡ stop_of (way taken after.ended) after.ended)
   -- the source failed exactly where the reading stops open
   pub fault : why ≡ Some Open → Rose before.faults after.faults
   pub told : before.faults < after.faults → why ≡ Some Open
   pub never_falls : before.faults ≤ after.faults
+
+-- the same of a reading in which times may not go back
+abbrev pub HasRead : Plan → SourceState → SourceState → List ℕ → List Event → Option Stop → Type 0
+HasRead q = HasReadBy (read q)
 
 -- What an input has read of its source, where it gave these events, and whether and why it stopped.
 pub record ReadSoFar (q : Plan) (before after : SourceState) (events : List Event) (why : Option Stop) : Type 0 where
@@ -65,25 +71,28 @@ pub record ReadSoFar (q : Plan) (before after : SourceState) (events : List Even
   pub good : AreGood q events
 
 -- an input that goes on leads where the bytes taken do, with all that may come
-pub record Leads (q : Plan) (taken : List ℕ) (events : List Event) (now : Standing) : Type 0 where
-  pub count : now.reader.given ≡ length events
+pub record Leads (q : Plan) (l : Lateness) (taken : List ℕ) (events : List Event) (now : Standing) : Type 0 where
+  pub given : WereGiven events now.reader
   pub ended : now.source.ended ≡ now.reader.cutter.ended
-  pub coming : now.reader.cutter.ended ≡ false → (more : List ℕ) (ended : Bool) → comes_to events now.reader more ended ≡ read q (taken ++ more) ended
-  pub ends : now.reader.cutter.ended ≡ true → ends_as events now.reader ≡ read q taken true
+  pub coming : now.reader.cutter.ended ≡ false → (more : List ℕ) (ended : Bool) → comes_to events now.reader more ended ≡ loose q l (taken ++ more) ended
+  pub ends : now.reader.cutter.ended ≡ true → ends_as events now.reader ≡ loose q l taken true
 
--- since its source stood so an input has taken these bytes, and given these events
-pub record Since (q : Plan) (origin : SourceState) (taken : List ℕ) (events : List Event) (now : Standing) : Type 0 where
+-- since its source stood so an input has taken these bytes, given these events, and passed over as many as it counted
+pub record Since (q : Plan) (l : Lateness) (origin : SourceState) (taken : List ℕ) (events : List Event) (now : Standing) : Type 0 where
   pub plan : plan_of now.reader.rows ≡ q
-  pub has : HasRead q origin now.source taken events (stop_in now.state)
-  pub leads : now.state ≡ Going → Leads q taken events now
+  pub lateness : now.reader.lateness ≡ l
+  pub has : HasReadBy (kept q l) origin now.source taken events (stop_in now.state)
+  pub late : IfSome (stop_in now.state) (λ stop. now.reader.late ≡ (loose q l taken now.source.ended).late)
+  pub leads : now.state ≡ Going → Leads q l taken events now
 
--- From one standing to another an input took these bytes of its source and gave these events: whatever it was read from before, these come behind those.
+-- From one standing to another an input took these bytes of its source and gave these events: whatever it was read from before, these come behind those. Without a slack their times never go back.
 pub record Reads (old : Standing) (bytes : List ℕ) (events : List Event) (new : Standing) : Type 0 where
   pub plan : plan_of new.reader.rows ≡ plan_of old.reader.rows
+  pub lateness : new.reader.lateness ≡ old.reader.lateness
   pub count : new.reader.given ≡ old.reader.given + length events
   pub few : length events ≤ event_limit
-  pub next : ComeNext (plan_of old.reader.rows) (last_of old.reader.rows) events (last_of new.reader.rows)
-  pub since : (q : Plan) (origin : SourceState) (taken : List ℕ) (first : List Event) → Since q origin taken first old → Since q origin (taken ++ bytes) (first ++ events) new
+  pub next : old.reader.lateness ≡ punctual → ComeNext (plan_of old.reader.rows) (last_of old.reader) events (last_of new.reader)
+  pub since : (q : Plan) (l : Lateness) (origin : SourceState) (taken : List ℕ) (first : List Event) → Since q l origin taken first old → Since q l origin (taken ++ bytes) (first ++ events) new
 
 -- from one standing to another an input gave these events
 abbrev pub Gives : Standing → List Event → Standing → Type 0

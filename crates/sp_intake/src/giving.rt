@@ -1,16 +1,13 @@
 ghost use Rattle.std.specs.Prelude.{◌≡◌};
 ghost use Rattle.sp_intake.specs.Standing.{Gives, stop_in, is_whole};
-ghost use Rattle.sp_intake.specs.Pieces.{TakesPiece, Asked};
+ghost use Rattle.sp_intake.specs.Pieces.{Asked};
 ghost use Rattle.sp_intake.specs.Asked.{standing, IsAsking};
-ghost use Rattle.sp_intake.specs.ReadAll.{ReadsAll};
 
-use crate::events::{EventReader, Step};
-use crate::input::InputEvents;
+use crate::events::EventReader;
 use sp_base::limits::PIECE_LIMIT;
 use sp_io::Source;
-use sp_plan::Memory;
 use sp_ports::{Intake, Next};
-use std::alloc::{AllocError, Global};
+use std::alloc::Global;
 
 /// The input of a source as an intake: the events that its rows give, one a call. The source is asked for
 /// a piece of 4,096 bytes only where no whole row is left of those before. After a faulty row, a limit or
@@ -37,40 +34,6 @@ impl<'a, S: Source> Input<'a, S> {
         }
     }
 
-    // Asks the source for a piece, which the events are read of next.
-    fn ask(&mut self)
-        requires asks { IsAsking self.old.events }
-        ensures takes { TakesPiece (standing (S.state self.old.source.now) self.old.events)
-            (standing (S.state self.new.source.now) self.new.events) }
-        ensures stops { self.new.events.stops ≡ self.old.events.stops }
-        ensures same { self.new.source.ghost_name ≡ self.old.source.ghost_name }
-    {
-        let read = self.source.read(&mut self.piece);
-        self.events.take(&self.piece, read);
-    }
-
-    /// All that it gives. Each event goes from the one room that rows are read into to the list's end.
-    pub(crate) fn read_all(&mut self, alloc: Global) -> Result<InputEvents, Memory>
-        ensures same { self.new.source.ghost_name ≡ self.old.source.ghost_name }
-        ensures all { ReadsAll (standing (S.state self.old.source.now) self.old.events)
-            (standing (S.state self.new.source.now) self.new.events) result }
-    {
-        let mut events = Vec::new(alloc);
-        let mut room = None;
-        for _ in 0..u64::MAX {
-            match self.events.poll(alloc, &mut room)? {
-                Step::Event => {
-                    if let Some(event) = room.take() {
-                        events.push(event)?;
-                    }
-                }
-                Step::Ask => self.ask(),
-                Step::Stop(stop) => return Ok(InputEvents { events, stop }),
-            }
-        }
-        Err(AllocError)
-    }
-
     /// The source, as it stands now.
     pub fn into_source(self) -> &'a mut S
         ensures same { result.ghost_name ≡ self.entry.source.ghost_name }
@@ -89,17 +52,17 @@ impl<'a, S: Source> Intake for Input<'a, S> {
 
     ghost token = { λ input. input.source.ghost_name };
 
-    ghost ended = { λ input. is_whole (stop_in input.events.state) };
+    ghost ended = { λ input. is_whole (stop_in input.events.rows.state) };
 
     ghost stops = { λ input. input.events.stops };
 
-    ghost cause = { λ input. stop_in input.events.state };
+    ghost cause = { λ input. stop_in input.events.rows.state };
 
     ghost gave = { λ old events new. Gives (standing (S.state old.source.now) old.events) events (standing (S.state new.source.now) new.events) };
 
     ghost gave_none = { λ input. law.gives_none (standing (S.state input.source.now) input.events) };
 
-    ghost good = { λ old events new gave. law.gives_good (standing (S.state old.source.now) old.events) (standing (S.state new.source.now) new.events) events gave };
+    ghost good = { λ old events new gave. law.gives_good (standing (S.state old.source.now) old.events) (standing (S.state new.source.now) new.events) events old.events.on_time gave };
 
     ghost asked = { λ old before events new. Asked (standing (S.state old.source.now) old.events) before events (standing (S.state new.source.now) new.events) };
 
@@ -107,14 +70,13 @@ impl<'a, S: Source> Intake for Input<'a, S> {
 
     ghost asked_gave = { λ old before events new asked. law.asked_gives (standing (S.state old.source.now) old.events) before events (standing (S.state new.source.now) new.events) asked };
 
-    ghost must_ask = { λ input. IsAsking input.events };
+    ghost must_ask = { λ input. IsAsking input.events.rows };
 
     fn next(&mut self, alloc: Global) -> Next {
         for _ in 0..u64::MAX {
             if let Some(next) = self.events.at_hand(alloc) {
                 return next;
             }
-            // As `ask` does, of which the prover takes no call here: an intake may go to another thread.
             let read = self.source.read(&mut self.piece);
             self.events.take(&self.piece, read);
         }

@@ -3,11 +3,12 @@ ghost use Rattle.std.specs.Arc.{arc_value};
 ghost use Rattle.sp_plan.specs.Compiled.{IsCompiled};
 ghost use Rattle.sp_intake.specs.Intake.{ReadsInput};
 
-use crate::events::EventReader;
-use crate::giving::Input;
+use crate::all::read_all;
+use crate::reader::RowReader;
 use sp_io::Source;
 use sp_plan::{Event, Memory, Plan};
 use sp_ports::Stop;
+use sp_slack::LateRule;
 use std::alloc::Global;
 use std::sync::Arc;
 
@@ -29,9 +30,6 @@ pub fn read_input<S: Source>(
     requires not_ended { (S.state input.old).ended ≡ false }
     ensures { ReadsInput (arc_value plan.now) (S.state input.old) (S.state input.new) result }
 {
-    let mut reading = Input::over(input, EventReader::new(alloc, plan)?);
-    let given = reading.read_all(alloc);
-    // The reference that comes back is used, which ties it to the one that was lent.
-    let _source = reading.into_source();
-    given
+    let mut rows = RowReader::new(alloc, plan, 0, LateRule::Refuse)?;
+    read_all(alloc, &mut rows, input)
 }

@@ -3,10 +3,12 @@
 //! in `specs/Intake.antt`; what they give where events may come out of order in `specs/Loose.antt`.
 #![tactic(auto)]
 
+mod all;
 mod events;
 mod giving;
 mod input;
 mod law;
+mod reader;
 
 pub use events::EventReader;
 pub use giving::Input;

@@ -1,16 +1,13 @@
-use Rattle.std.proofs.Common.{rules}
+use Rattle.std.proofs.Common.{refl}
 use Rattle.std.specs.Arc.{arc_value}
-use Rattle.sp_intake.specs.Asked.{standing}
-use Rattle.sp_intake.specs.Standing.{ReadsFrom}
+use Rattle.sp_intake.specs.Asked.{rows_standing}
 use Rattle.sp_intake.proofs.AllGiven.{reads_input}
+use Rattle.sp_intake.proofs.Since.{reads_from}
 use Rattle.sp_intake.proofs.input.read_input.Goals as goal
 
 pub returns : goal.returns
 returns g c =
     let q = arc_value c.args.plan.now in
-    let before = g.S.Source.state c.args.input.now in
-    let made = c.over-reading.result in
-    let last = c.read_all-given.new.self in
-    let old = standing (g.S.Source.state made.source.now) made.events in
-    let from : ReadsFrom q before old = rw (c.over-reading.ensures.events, c.over-reading.ensures.source) (c.in_ok-new.ensures.fresh before c.requires.not_ended) in
-    reads_input q before _ old (standing (g.S.Source.state last.source.now) last.events) c.read_all-given.result from c.read_all-given.ensures.all (search rules)
+    let first = rows_standing (g.S.Source.state c.args.input.now) c.in_ok-rows.rows in
+    let last = rows_standing (g.S.Source.state c.read_all.new.input) c.read_all.new.rows in
+    reads_input q first.source last.source first last c.read_all.result (reads_from q c.requires.compiled.time first (c.in_ok-rows.ensures.since first.source c.requires.not_ended)) c.read_all.ensures.all refl

@@ -1,6 +1,6 @@
 use Rattle.std.proofs.Common.{[], ap}
 use Rattle.sp_ports.specs.Giving.{given_at}
-use Rattle.sp_intake.specs.declared.events.State.{State}
+use Rattle.sp_intake.specs.declared.reader.State.{State}
 use Rattle.sp_intake.specs.Asked.{standing}
 use Rattle.sp_intake.specs.Standing.{stop_in, is_whole}
 use Rattle.sp_intake.proofs.Asking.{asked_still}
@@ -15,7 +15,7 @@ returns-clause-given g c from events before =
     let source = g.S.Source.state c.args.self.now.source.now in
     let old = standing source c.args.self.now.events in
     let new = standing source c.at_hand.new.self in
-    gives_more (standing (g.S.Source.state from.source.now) from.events) old new events (given_at c.at_hand.result) c.at_hand.new.self.few before ([], c.at_hand.ensures.reads source)
+    gives_more (standing (g.S.Source.state from.source.now) from.events) old new events (given_at c.at_hand.result) c.at_hand.new.self.rows.few before ([], c.at_hand.ensures.reads source)
 
 pub returns-clause-event : goal.returns-clause-event
 returns-clause-event g c given is =
@@ -27,4 +27,4 @@ returns-clause-asked g c from before events asked =
     let source = g.S.Source.state c.args.self.now.source.now in
     let old = standing source c.args.self.now.events in
     let new = standing source c.at_hand.new.self in
-    asked_still (standing (g.S.Source.state from.source.now) from.events) old new before events (given_at c.at_hand.result) c.at_hand.new.self.few (c.at_hand.ensures.reads source) asked
+    asked_still (standing (g.S.Source.state from.source.now) from.events) old new before events (given_at c.at_hand.result) c.at_hand.new.self.rows.few (c.at_hand.ensures.reads source) asked

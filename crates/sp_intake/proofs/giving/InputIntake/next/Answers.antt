@@ -3,7 +3,7 @@ use Rattle.std.specs.Prelude.{Option, Some, None}
 use Rattle.sp_io.specs.Outside.{Rose}
 use Rattle.sp_ports.specs.Giving.{given_by, given_at}
 use Rattle.sp_ports.specs.declared.intake.Next.{Next}
-use Rattle.sp_intake.specs.declared.events.State.{State}
+use Rattle.sp_intake.specs.declared.reader.State.{State}
 use Rattle.sp_intake.specs.Asked.{standing}
 use Rattle.sp_intake.specs.Standing.{Reads, Gives, WasRead, stop_in, is_whole}
 use Rattle.sp_intake.proofs.Asking.{asked_piece, either_gives, either_still}
@@ -23,7 +23,7 @@ returns-in-Some-clause-given g c from events before =
     let old = standing (g.S.Source.state c.args.self.now.source.now) c.args.self.now.events in
     let here = standing source c.loop.self.events in
     let new = standing source c.at_hand.new.self in
-    let few = c.at_hand.new.self.few in
+    let few = c.at_hand.new.self.rows.few in
     let given = given_by c.in-Some.next in
     gives_more (standing (g.S.Source.state from.source.now) from.events) old new events given few before
     (gives_more old here new [] given few c.loop.invariant.gives ([], c.in-Some.ensures.reads source))
@@ -34,7 +34,7 @@ returns-in-Some-clause-asked g c from before events asked =
     let first = standing (g.S.Source.state from.source.now) from.events in
     let here = standing source c.loop.self.events in
     let new = standing source c.at_hand.new.self in
-    either_still first here new before events (given_by c.in-Some.next) c.at_hand.new.self.few (c.in-Some.ensures.reads source) (c.loop.invariant.asked first before events asked)
+    either_still first here new before events (given_by c.in-Some.next) c.at_hand.new.self.rows.few (c.in-Some.ensures.reads source) (c.loop.invariant.asked first before events asked)
 
 pub returns-in-Some-clause-event : goal.returns-in-Some-clause-event
 returns-in-Some-clause-event g c given is =
@@ -50,7 +50,7 @@ pub returns-clause-given : goal.returns-clause-given
 returns-clause-given g c from events before =
     let old = standing (g.S.Source.state c.args.self.now.source.now) c.args.self.now.events in
     let here = standing (g.S.Source.state c.loop.self.source.now) c.loop.self.events in
-    gives_more (standing (g.S.Source.state from.source.now) from.events) old here events [] c.loop.self.events.few before c.loop.invariant.gives
+    gives_more (standing (g.S.Source.state from.source.now) from.events) old here events [] c.loop.self.events.rows.few before c.loop.invariant.gives
 
 pub loop-preserved : goal.loop-preserved
 loop-preserved g c =

@@ -13,7 +13,7 @@ invariant-loop g l =
     record {
       gives : Gives old [] here;
       asked : (from : Standing) (before events : List Event) → Asked from before events old → Asked from before events here ⊎ Asked from events events here;
-      ended : is_whole (stop_in l.self.events.state) ≡ is_whole (stop_in l.initial.self.events.state);
+      ended : is_whole (stop_in l.self.events.rows.state) ≡ is_whole (stop_in l.initial.self.events.rows.state);
       stops : l.self.events.stops ≡ l.initial.self.events.stops;
       token : l.self.source.ghost_name ≡ l.initial.self.source.ghost_name;
       size : length l.self.piece ≡ piece_limit;

@@ -1,10 +1,10 @@
 use Rattle.std.proofs.Common.{arith}
 use Rattle.sp_intake.specs.Standing.{WasRead}
-use Rattle.sp_intake.proofs.giving.Input.ask.Goals as goal
+use Rattle.sp_intake.proofs.all.ask.Goals as goal
 
-pub returns-clause-takes : goal.returns-clause-takes
-returns-clause-takes g c =
-    let before = g.S.Source.state c.args.self.now.source.now in
+pub returns : goal.returns
+returns g c =
+    let before = g.S.Source.state c.args.input.now in
     let next = g.S.Source.state c.read-read.new.self in
     let read = c.read-read.ensures in
     let was : WasRead before c.read-read.new.into c.read-read.result next = record {
@@ -18,4 +18,4 @@ returns-clause-takes g c =
       fault = read.fault;
       never_falls = read.never_falls;
     } in
-    c.take.ensures.takes before next was
+    record { takes = c.take.ensures.takes before next was }

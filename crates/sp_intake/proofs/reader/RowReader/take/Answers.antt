@@ -2,11 +2,11 @@ use Rattle.std.proofs.Common.{◌≡◌, ◌≢◌, ℕ, ◌<◌, [], take, fals
 use Rattle.std.specs.Prelude.{⊤, Result, Ok, Err, OnOk, is_err}
 use Rattle.std.specs.declared.alloc.AllocError.{AllocError}
 use Rattle.sp_io.specs.Outside.{Gave}
-use Rattle.sp_intake.specs.declared.events.State.TheVariants.{Stopped, Broken}
+use Rattle.sp_intake.specs.declared.reader.State.TheVariants.{Stopped, Broken}
 use Rattle.sp_ports.specs.declared.stop.Stop.TheVariants.{Open}
 use Rattle.sp_intake.specs.Asked.{reader_of}
 use Rattle.sp_intake.proofs.Since.{few_taken, reads_open, reads_piece, reads_lost, reads_end, reads_going, reads_on}
-use Rattle.sp_intake.proofs.events.EventReader.take.Goals as goal
+use Rattle.sp_intake.proofs.reader.RowReader.take.Goals as goal
 
 -- what holds where a call succeeds
 where_ok : {P : Type 0} (r : Result ⊤ AllocError) → is_err r ≡ false → OnOk r P → P

@@ -1,0 +1,217 @@
+use Rattle.std.proofs.Common.{◌≡◌, ◌==◌, ◌+◌, ◌≤ℤ◌, false, pos, [], ◌∷◌, Some, refl, sym, ◌∙◌, ap, subst, arith, to_z, of_z, w64}
+use Rattle.std.specs.Prelude.{ℕ, ℤ}
+use Rattle.std.proofs.lemmas.Bool.Decides.{nat_tests}
+use Rattle.std.proofs.lemmas.Int.{ints, to_z-of_z}
+use Rattle.sp_base.specs.Limits.{event_limit, number_limit}
+use Rattle.sp_cut.specs.Answer.{Begins}
+use Rattle.sp_cut.specs.CutRows.{row, long_row, open_quote}
+use Rattle.sp_cut.specs.Left.{Left}
+use Rattle.sp_cut.specs.Span.{LiesNext, bytes_at}
+use Rattle.sp_ports.specs.declared.stop.Failure.{Failure}
+use Rattle.sp_ports.specs.declared.stop.Failure.TheVariants.{Row, Limit}
+use Rattle.sp_rows.specs.Codes.{code_of}
+use Rattle.sp_rows.specs.Progress.{plan_of, is_loose, read_of}
+use Rattle.sp_rows.specs.Rows.{row_result, refused, event, nothing, given_if}
+use Rattle.sp_slack.specs.HeldBack.{with_time}
+use Rattle.sp_intake.specs.declared.reader.Fate.TheVariants.{Kept, PassedOver, Refused}
+use Rattle.sp_intake.specs.Asked.{reader_of}
+use Rattle.sp_intake.specs.Orderly.{same_next}
+use Rattle.sp_intake.specs.Reader.{Reader, last_of, Fails, fate}
+use Rattle.sp_intake.proofs.Since.{SameGiven}
+use Rattle.sp_intake.proofs.Suiting.{event_fits, time_between}
+use Rattle.sp_intake.proofs.Taking.{begins_at, full_fails, refused_fails, nothing_takes, kept_takes, kept_timely, not_full, passed_takes, event_fails, comes_next, row_suits, reads_refused, reads_row, ready_row}
+use Rattle.sp_intake.proofs.reader.RowReader.take_row.Goals as goal
+
+-- a reader that changed in its rows alone gave nothing
+still : (old : Reader) (cutter : Left) → SameGiven old (record old { cutter = cutter })
+still old cutter = record { plan = refl; lateness = refl; given = refl; late = refl; greatest = refl }
+
+pub returns-in-Err-LongRow-clause-reads : goal.returns-in-Err-LongRow-clause-reads
+returns-in-Err-LongRow-clause-reads c source =
+    let old = reader_of c.args.self.now in
+    let begins : Begins old.cutter long_row = (rw c.in-Err-LongRow.field-0-is at c.in-Err-LongRow.ensures.fault).0 in
+    reads_refused c.rows_stay.ensures source old (record old { cutter = c.find_row.new.self }) long_row c.refusal.result c.failed.result c.args.event.now c.failed.ensures begins (c.refusal.ensures.long refl)
+    (still old c.find_row.new.self)
+
+pub returns-in-Err-OpenQuote-clause-reads : goal.returns-in-Err-OpenQuote-clause-reads
+returns-in-Err-OpenQuote-clause-reads c source =
+    let old = reader_of c.args.self.now in
+    let begins : Begins old.cutter open_quote = (rw c.in-Err-OpenQuote.field-0-is at c.in-Err-OpenQuote.ensures.fault).0 in
+    reads_refused c.rows_stay.ensures source old (record old { cutter = c.find_row.new.self }) open_quote c.refusal-in-Err-OpenQuote.result c.failed-in-Err-OpenQuote.result c.args.event.now c.failed-in-Err-OpenQuote.ensures begins
+    (c.refusal-in-Err-OpenQuote.ensures.open refl) (still old c.find_row.new.self)
+
+pub returns-then-self-eq-ROWS-clause-reads : goal.returns-then-self-eq-ROWS-clause-reads
+returns-then-self-eq-ROWS-clause-reads c source =
+    let old = reader_of c.args.self.now in
+    let mid = c.find_row.new.self in
+    let next : LiesNext old.cutter c.in-Ok-Some.span = rw c.in-Ok-Some.field-0-is at c.in-Ok-Some.ensures.found in
+    let bytes = bytes_at mid c.in-Ok-Some.span in
+    reads_refused c.rows_stay.ensures source old (record old { cutter = mid }) (row bytes) (Limit 2097152) c.failed-then-self-eq-ROWS.result c.args.event.now c.failed-then-self-eq-ROWS.ensures
+    (begins_at old.cutter mid c.in-Ok-Some.span bytes c.find_row.ensures.unchanged refl next) (full_fails old (c.args.self.now.sound c.requires.going) (row bytes) c.if-self-eq-ROWS.true) (still old mid)
+
+pub returns-in-Err-Fault-clause-reads : goal.returns-in-Err-Fault-clause-reads
+returns-in-Err-Fault-clause-reads c source =
+    let old = reader_of c.args.self.now in
+    let mid = c.find_row.new.self in
+    let new : Reader = record old { cutter = mid; rows = c.row_into.new.self } in
+    let fault = c.in-Err-Fault.fault in
+    let bytes = c.row_at.result.now in
+    let next : LiesNext old.cutter c.in-Ok-Some.span = rw c.in-Ok-Some.field-0-is at c.in-Ok-Some.ensures.found in
+    let ready = c.args.self.now.sound c.requires.going in
+    let told : (given_if (is_loose old.rows) (row_result (plan_of old.rows) (read_of old.rows) bytes) ≡ refused fault) × (read_of new.rows ≡ read_of old.rows) = rw c.in-Err-Fault.field-0-is at c.in-Err-Fault.ensures.answers in
+    let made : c.failure_at.result ≡ Row (code_of fault.kind) fault.row fault.column = rw c.in-Err-Fault.field-0-is at c.failure_at.ensures in
+    let fails : Fails (row bytes) c.failure_at.result old =
+    subst (λ (f : Failure). Fails (row bytes) f old) (sym made) (refused_fails old ready c.if-self-eq-ROWS.false bytes fault told.0) in
+    reads_refused c.rows_stay.ensures source old new (row bytes) c.failure_at.result c.failed-in-Err-Fault.result c.row_into.new.event c.failed-in-Err-Fault.ensures
+    (begins_at old.cutter mid c.in-Ok-Some.span bytes c.find_row.ensures.unchanged c.row_at.ensures next) fails (record { plan = c.row_into.ensures.plan; lateness = refl; given = refl; late = refl; greatest = refl })
+
+pub invariant_of-self-2 : goal.invariant_of-self-2
+invariant_of-self-2 c =
+    let s = c.args.self.now in
+    let old = reader_of s in
+    let new : Reader = record old { cutter = c.pass.new.self; rows = c.row_into.new.self; count = old.count + 1 } in
+    let ready = s.sound c.requires.going in
+    record {
+      sound = λ going_on. ready_row old new ready c.if-self-eq-ROWS.false refl c.in-Ok.ensures.read (c.pass.ensures.given ∙ ap (λ (l : Left). l.given + 1) c.find_row.ensures.unchanged)
+          (row_suits old.rows new.rows ready.suits c.row_at.result.now c.row_into.new.event c.in-Ok.ensures.answers c.row_into.ensures.plan c.row_into.ensures.loose);
+      few = s.few;
+      timed = s.timed;
+      least_slack = s.least_slack;
+      most_slack = s.most_slack;
+    }
+
+pub returns-in_default-clause-reads : goal.returns-in_default-clause-reads
+returns-in_default-clause-reads c source =
+    let old = reader_of c.args.self.now in
+    let new : Reader = record old { cutter = c.pass.new.self; rows = c.row_into.new.self; count = old.count + 1 } in
+    let ready = c.args.self.now.sound c.requires.going in
+    let bytes = c.row_at.result.now in
+    let is : given_if (is_loose old.rows) (row_result (plan_of old.rows) (read_of old.rows) bytes) ≡ nothing (read_of new.rows) = rw c.in_default.is at c.in-Ok.ensures.answers in
+    reads_row source old new c.find_row.new.self c.in-Ok-Some.span bytes [] c.find_row.ensures.unchanged c.row_at.ensures c.pass.ensures c.row_into.ensures.plan refl (omega arith) refl
+    (nothing_takes old ready c.if-self-eq-ROWS.false bytes new is refl) (λ on_time. same_next (plan_of old.rows) (last_of old) (last_of new) refl) (omega arith)
+
+pub invariant_of-self-in-PassedOver : goal.invariant_of-self-in-PassedOver
+invariant_of-self-in-PassedOver c =
+    let s = c.args.self.now in
+    let old = reader_of s in
+    let mid : Reader = record old { cutter = c.pass.new.self; rows = c.row_into.new.self; count = old.count + 1 } in
+    let new : Reader = record mid { late = old.late + 1 } in
+    let ready = s.sound c.requires.going in
+    let bytes = c.row_at.result.now in
+    let e = c.in-Some.given in
+    let is : given_if (is_loose old.rows) (row_result (plan_of old.rows) (read_of old.rows) bytes) ≡ event e (read_of mid.rows) = rw c.in-Some.is at c.in-Ok.ensures.answers in
+    let between = time_between (plan_of old.rows) e (event_fits old.rows mid.rows ready.suits bytes e is) in
+    let same : to_z w64 (of_z w64 e.time) ≡ e.time = to_z-of_z w64 e.time (omega (arith, ints, between)) in
+    let passed : fate mid e ≡ PassedOver = sym (c.fate.ensures e (sym same)) ∙ c.in-PassedOver.is in
+    let open_ : (old.given + old.late == event_limit) ≡ false = not_full mid e (λ failure stops. absurd (cc (passed, stops))) in
+    let few = s.few in
+    record {
+      sound = λ going_on. ready_row old new ready c.if-self-eq-ROWS.false refl c.in-Ok.ensures.read (c.pass.ensures.given ∙ ap (λ (l : Left). l.given + 1) c.find_row.ensures.unchanged)
+          (row_suits old.rows new.rows ready.suits bytes c.row_into.new.event c.in-Ok.ensures.answers c.row_into.ensures.plan c.row_into.ensures.loose);
+      few = grind (arith, nat_tests, open_, few);
+      timed = s.timed;
+      least_slack = s.least_slack;
+      most_slack = s.most_slack;
+    }
+
+pub returns-in-PassedOver-clause-reads : goal.returns-in-PassedOver-clause-reads
+returns-in-PassedOver-clause-reads c source =
+    let old = reader_of c.args.self.now in
+    let mid : Reader = record old { cutter = c.pass.new.self; rows = c.row_into.new.self; count = old.count + 1 } in
+    let new : Reader = record mid { late = old.late + 1 } in
+    let ready = c.args.self.now.sound c.requires.going in
+    let bytes = c.row_at.result.now in
+    let e = c.in-Some.given in
+    let is : given_if (is_loose old.rows) (row_result (plan_of old.rows) (read_of old.rows) bytes) ≡ event e (read_of mid.rows) = rw c.in-Some.is at c.in-Ok.ensures.answers in
+    let between = time_between (plan_of old.rows) e (event_fits old.rows mid.rows ready.suits bytes e is) in
+    let same : to_z w64 (of_z w64 e.time) ≡ e.time = to_z-of_z w64 e.time (omega (arith, ints, between)) in
+    let passed : fate mid e ≡ PassedOver = sym (c.fate.ensures e (sym same)) ∙ c.in-PassedOver.is in
+    reads_row source old new c.find_row.new.self c.in-Ok-Some.span bytes [] c.find_row.ensures.unchanged c.row_at.ensures c.pass.ensures c.row_into.ensures.plan refl (omega arith) refl
+    (passed_takes old ready c.if-self-eq-ROWS.false bytes mid e is (ap (λ (n : ℕ). n + 1) ready.count) c.row_into.ensures.plan refl refl refl refl passed new refl refl)
+    (λ on_time. same_next (plan_of old.rows) (last_of old) (last_of new) refl) (omega arith)
+
+pub returns-in-Refused-clause-reads : goal.returns-in-Refused-clause-reads
+returns-in-Refused-clause-reads c source =
+    let old = reader_of c.args.self.now in
+    let mid : Reader = record old { cutter = c.pass.new.self; rows = c.row_into.new.self; count = old.count + 1 } in
+    let ready = c.args.self.now.sound c.requires.going in
+    let bytes = c.row_at.result.now in
+    let e = c.in-Some.given in
+    let next : LiesNext old.cutter c.in-Ok-Some.span = rw c.in-Ok-Some.field-0-is at c.in-Ok-Some.ensures.found in
+    let is : given_if (is_loose old.rows) (row_result (plan_of old.rows) (read_of old.rows) bytes) ≡ event e (read_of mid.rows) = rw c.in-Some.is at c.in-Ok.ensures.answers in
+    let between = time_between (plan_of old.rows) e (event_fits old.rows mid.rows ready.suits bytes e is) in
+    let same : to_z w64 (of_z w64 e.time) ≡ e.time = to_z-of_z w64 e.time (omega (arith, ints, between)) in
+    let stops : fate mid e ≡ Refused c.in-Refused.failure = sym (c.fate.ensures e (sym same)) ∙ c.in-Refused.is in
+    reads_refused c.rows_stay.ensures source old mid (row bytes) c.in-Refused.failure c.failed-in-Refused.result (Some e) c.failed-in-Refused.ensures
+    (begins_at old.cutter c.find_row.new.self c.in-Ok-Some.span bytes c.find_row.ensures.unchanged c.row_at.ensures next)
+    (event_fails old ready c.if-self-eq-ROWS.false bytes mid e is (ap (λ (n : ℕ). n + 1) ready.count) c.row_into.ensures.plan refl refl refl refl c.in-Refused.failure stops)
+    (record { plan = c.row_into.ensures.plan; lateness = refl; given = refl; late = refl; greatest = refl })
+
+pub greatest_with-requires-clause-low : goal.greatest_with-requires-clause-low
+greatest_with-requires-clause-low c =
+    let old = reader_of c.args.self.now in
+    let ready = c.args.self.now.sound c.requires.going in
+    let e = c.in-Some.given in
+    let is : given_if (is_loose old.rows) (row_result (plan_of old.rows) (read_of old.rows) c.row_at.result.now) ≡ event e (read_of c.row_into.new.self) = rw c.in-Some.is at c.in-Ok.ensures.answers in
+    let between = time_between (plan_of old.rows) e (event_fits old.rows c.row_into.new.self ready.suits c.row_at.result.now e is) in
+    let same : to_z w64 (of_z w64 e.time) ≡ e.time = to_z-of_z w64 e.time (omega (arith, ints, between)) in
+    subst (λ (t : ℤ). pos 0 ≤ℤ t) (sym same) between.0
+
+pub greatest_with-requires-clause-high : goal.greatest_with-requires-clause-high
+greatest_with-requires-clause-high c =
+    let old = reader_of c.args.self.now in
+    let ready = c.args.self.now.sound c.requires.going in
+    let e = c.in-Some.given in
+    let is : given_if (is_loose old.rows) (row_result (plan_of old.rows) (read_of old.rows) c.row_at.result.now) ≡ event e (read_of c.row_into.new.self) = rw c.in-Some.is at c.in-Ok.ensures.answers in
+    let between = time_between (plan_of old.rows) e (event_fits old.rows c.row_into.new.self ready.suits c.row_at.result.now e is) in
+    let same : to_z w64 (of_z w64 e.time) ≡ e.time = to_z-of_z w64 e.time (omega (arith, ints, between)) in
+    subst (λ (t : ℤ). t ≤ℤ pos number_limit) (sym same) between.1
+
+pub invariant_of-self-3 : goal.invariant_of-self-3
+invariant_of-self-3 c =
+    let s = c.args.self.now in
+    let old = reader_of s in
+    let mid : Reader = record old { cutter = c.pass.new.self; rows = c.row_into.new.self; count = old.count + 1 } in
+    let g = to_z w64 (of_z w64 c.greatest_with.result) in
+    let new : Reader = record mid { given = old.given + 1; greatest = Some g } in
+    let ready = s.sound c.requires.going in
+    let bytes = c.row_at.result.now in
+    let e = c.in-Some.given in
+    let is : given_if (is_loose old.rows) (row_result (plan_of old.rows) (read_of old.rows) bytes) ≡ event e (read_of mid.rows) = rw c.in-Some.is at c.in-Ok.ensures.answers in
+    let between = time_between (plan_of old.rows) e (event_fits old.rows mid.rows ready.suits bytes e is) in
+    let same : to_z w64 (of_z w64 e.time) ≡ e.time = to_z-of_z w64 e.time (omega (arith, ints, between)) in
+    let kept : fate mid e ≡ Kept = sym (c.fate.ensures e (sym same)) ∙ c.in-Kept.is in
+    let open_ : (old.given + old.late == event_limit) ≡ false = not_full mid e (λ failure stops. absurd (cc (kept, stops))) in
+    let few = s.few in
+    let made = c.greatest_with.ensures in
+    let itself : g ≡ c.greatest_with.result = to_z-of_z w64 c.greatest_with.result (omega (arith, ints, made.low, made.high)) in
+    record {
+      sound = λ going_on. ready_row old new ready c.if-self-eq-ROWS.false refl c.in-Ok.ensures.read (c.pass.ensures.given ∙ ap (λ (l : Left). l.given + 1) c.find_row.ensures.unchanged)
+          (row_suits old.rows new.rows ready.suits bytes c.row_into.new.event c.in-Ok.ensures.answers c.row_into.ensures.plan c.row_into.ensures.loose);
+      few = grind (arith, nat_tests, open_, few);
+      timed = λ t at. subst (λ (x : ℤ). (pos 0 ≤ℤ x) × (x ≤ℤ pos number_limit)) (sym itself ∙ cc at) (made.low, made.high);
+      least_slack = s.least_slack;
+      most_slack = s.most_slack;
+    }
+
+pub returns-clause-reads : goal.returns-clause-reads
+returns-clause-reads c source =
+    let old = reader_of c.args.self.now in
+    let mid : Reader = record old { cutter = c.pass.new.self; rows = c.row_into.new.self; count = old.count + 1 } in
+    let g = to_z w64 (of_z w64 c.greatest_with.result) in
+    let new : Reader = record mid { given = old.given + 1; greatest = Some g } in
+    let ready = c.args.self.now.sound c.requires.going in
+    let bytes = c.row_at.result.now in
+    let e = c.in-Some.given in
+    let is : given_if (is_loose old.rows) (row_result (plan_of old.rows) (read_of old.rows) bytes) ≡ event e (read_of mid.rows) = rw c.in-Some.is at c.in-Ok.ensures.answers in
+    let fit = event_fits old.rows mid.rows ready.suits bytes e is in
+    let between = time_between (plan_of old.rows) e fit in
+    let same : to_z w64 (of_z w64 e.time) ≡ e.time = to_z-of_z w64 e.time (omega (arith, ints, between)) in
+    let made = c.greatest_with.ensures in
+    let greatest : Some g ≡ with_time old.greatest e = ap Some (to_z-of_z w64 c.greatest_with.result (omega (arith, ints, made.low, made.high))) ∙ made.greatest e (sym same) in
+    let kept : fate mid e ≡ Kept = sym (c.fate.ensures e (sym same)) ∙ c.in-Kept.is in
+    let counted = ap (λ (n : ℕ). n + 1) ready.count in
+    reads_row source old new c.find_row.new.self c.in-Ok-Some.span bytes (e ∷ []) c.find_row.ensures.unchanged c.row_at.ensures c.pass.ensures c.row_into.ensures.plan refl (omega arith) greatest
+    (kept_takes old ready c.if-self-eq-ROWS.false bytes mid e is counted c.row_into.ensures.plan refl refl refl refl kept new refl refl)
+    (λ on_time. comes_next (plan_of old.rows) old.lateness old.greatest new.greatest e on_time fit
+    (kept_timely old ready c.if-self-eq-ROWS.false bytes mid e is counted c.row_into.ensures.plan refl refl refl refl kept) greatest) (omega arith)

@@ -1,0 +1,336 @@
+ghost use Rattle.std.specs.Prelude.{◌≡◌, ◌≤◌, ◌+◌, pos, ◌≤ℤ◌, [], true, false, Ok, Some, None, IsSome, IsErr, OnErr, length, IfOk, if◌then◌else◌};
+ghost use Rattle.std.specs.Arc.{arc_value};
+ghost use Rattle.std.specs.Option.{ForSome};
+ghost use Rattle.sp_base.specs.Limits.{event_limit, number_limit};
+ghost use Rattle.sp_cut.specs.CutRows.{long_row, open_quote};
+ghost use Rattle.sp_io.specs.Outside.{SourceState};
+ghost use Rattle.sp_plan.specs.Compiled.{IsCompiled};
+ghost use Rattle.sp_plan.specs.declared.event.Event as came;
+ghost use Rattle.sp_rows.specs.Codes.{code_of};
+ghost use Rattle.sp_slack.specs.HeldBack.{before, is_before, with_time};
+ghost use Rattle.sp_intake.specs.declared.reader.State.TheVariants.{Going, Stopped, Broken};
+ghost use Rattle.sp_intake.specs.Reader.{HasCounted};
+
+use sp_base::limits::EVENT_LIMIT;
+use sp_cut::{CutFault, Cutter};
+use sp_io::Failed;
+use sp_plan::{Event, Memory, Plan};
+use sp_ports::{Failure, Stop};
+use sp_rows::{RowError, RowFault, Rows};
+use sp_slack::LateRule;
+use std::alloc::{AllocError, Global};
+use std::sync::Arc;
+
+// The most rows that an input may have.
+const ROWS: u32 = 2_097_152;
+
+// The code of a row whose event is late.
+const LATE: u8 = 6;
+
+/// Whether an input goes on.
+#[derive(Clone, Copy, Drop)]
+pub(crate) enum State {
+    Going,
+    Stopped(Stop),
+    /// Memory ran out, and what was read then is lost.
+    Broken,
+}
+
+/// What a reader comes to. An error beside it is want of memory.
+#[derive(Clone, Copy, Drop)]
+pub(crate) enum Step {
+    /// An event, which was put in.
+    Event,
+    Stop(Stop),
+    /// No row is left, and the input may go on.
+    Ask,
+}
+
+/// What becomes of an event that a row gave.
+#[derive(Clone, Copy, Drop)]
+pub(crate) enum Fate {
+    Kept,
+    /// It is late, and only counted.
+    PassedOver,
+    /// The reading stops at it.
+    Refused(Failure),
+}
+
+/// Reads the events of rows, in whatever pieces their bytes come: up to the end of the input, to the first row
+/// that fails, to a limit or to a fault of the source. Each event may be behind the greatest time before it by a
+/// slack; one that is further behind is late, and stops the reading or is passed over. It stores no event.
+#[derive(Drop)]
+pub(crate) struct RowReader {
+    cutter: Cutter,
+    rows: Rows,
+    // How many rows were read, how many events they gave, and how many were passed over.
+    count: u32,
+    given: u32,
+    late: u32,
+    // The greatest time of the events that they gave.
+    greatest: Option<i64>,
+    slack: i64,
+    rule: LateRule,
+    state: State,
+    ghost sound: { state ≡ Going → HasCounted cutter rows count },
+    ghost few: { given + late ≤ event_limit },
+    ghost timed: { ForSome greatest (λ t. (pos 0 ≤ℤ t) × (t ≤ℤ pos number_limit)) },
+    ghost least_slack: { pos 0 ≤ℤ slack },
+    ghost most_slack: { slack ≤ℤ pos number_limit },
+}
+
+impl RowReader {
+    ghost use Rattle.sp_intake.specs.Standing.{Reads, Since, WasRead, going, IsHungry, stop_in, is_whole, given_in, given_after, state_after};
+    ghost use Rattle.sp_intake.specs.Pieces.{TakesPiece};
+    ghost use Rattle.sp_intake.specs.Asked.{lateness_of, reader_of, rows_standing, IsAsking};
+    ghost use Rattle.sp_intake.specs.Reader.{Fails, fate};
+    ghost use Rattle.sp_intake.specs.Reading.{end_stop};
+    ghost use Rattle.sp_rows.specs.Progress.{plan_of, read_of};
+    ghost use Rattle.sp_rows.specs.Rows.{time_place_in};
+
+    /// Nothing was read yet. The slack is at most the greatest time.
+    pub(crate) fn new(
+        alloc: Global,
+        plan: &Arc<Plan>,
+        slack: i64,
+        rule: LateRule,
+    ) -> Result<RowReader, Memory>
+        requires compiled { IsCompiled (arc_value plan.now) }
+        requires low { pos 0 ≤ℤ slack }
+        requires high { slack ≤ℤ pos number_limit }
+        ensures since { IfOk result (λ rows. (source : SourceState) → source.ended ≡ false
+            → Since (arc_value plan.now) (record { slack = slack; rule = rule }) source [] []
+            (rows_standing source rows)) }
+        ensures plan { IfOk result (λ rows. plan_of rows.rows ≡ arc_value plan.now) }
+        ensures lateness { IfOk result (λ rows.
+            lateness_of rows ≡ record { slack = slack; rule = rule }) }
+    {
+        Ok(RowReader {
+            cutter: Cutter::new(alloc),
+            rows: Rows::loose(alloc, Arc::try_clone(plan)?)?,
+            count: 0,
+            given: 0,
+            late: 0,
+            greatest: None,
+            slack,
+            rule,
+            state: State::Going,
+        })
+    }
+
+    // Whether an event of this time is late.
+    fn is_late(&self, time: i64) -> bool
+        ensures { (e : came.Event) → e.time ≡ time → result
+            ≡ is_before (before (reader_of self.now).lateness.slack (reader_of self.now).greatest) e }
+    {
+        match self.greatest {
+            None => false,
+            Some(greatest) => time < greatest - self.slack,
+        }
+    }
+
+    // The greatest time once an event of this time is given.
+    fn greatest_with(&self, time: i64) -> i64
+        requires low { pos 0 ≤ℤ time }
+        requires high { time ≤ℤ pos number_limit }
+        ensures low { pos 0 ≤ℤ result }
+        ensures high { result ≤ℤ pos number_limit }
+        ensures greatest { (e : came.Event) → e.time ≡ time
+            → Some result ≡ with_time (reader_of self.now).greatest e }
+    {
+        match self.greatest {
+            None => time,
+            Some(greatest) => greatest.max(time),
+        }
+    }
+
+    // Why the row stops the reading whose event is late.
+    fn late_row(&self) -> Failure
+        ensures { result ≡ Failure.Row 6 (reader_of self.now).count
+            (time_place_in (plan_of self.now.rows) (read_of self.now.rows).places) }
+    {
+        Failure::Row {
+            code: LATE,
+            row: self.count,
+            column: self.rows.time_column(),
+        }
+    }
+
+    // What becomes of an event of this time, which the last row gave.
+    fn fate(&self, time: i64) -> Fate
+        ensures { (e : came.Event) → e.time ≡ time → result ≡ fate (reader_of self.now) e }
+    {
+        let late = self.is_late(time);
+        if late && matches!(self.rule, LateRule::Refuse) {
+            return Fate::Refused(self.late_row());
+        }
+        if self.given + self.late == EVENT_LIMIT {
+            return Fate::Refused(Failure::Limit { limit: EVENT_LIMIT });
+        }
+        if late { Fate::PassedOver } else { Fate::Kept }
+    }
+
+    // Takes the next row that counts, if there is one: what it comes to, or nothing where it gives no event.
+    fn take_row(&mut self, alloc: Global, event: &mut Option<Event>) -> Result<Option<Step>, Memory>
+        requires going { self.old.state ≡ Going }
+        ensures reads { (source : SourceState)
+            → Reads (going source (reader_of self.old)) [] (given_after result event.new)
+            (record { source = source; state = state_after result; reader = reader_of self.new }) }
+        ensures some { result ≡ Ok (Some Step.Event) → IsSome event.new }
+        ensures hungry { result ≡ Ok (Some Step.Ask) → IsHungry (reader_of self.new) }
+        ensures going { self.new.state ≡ Going }
+        ensures lateness { lateness_of self.new ≡ lateness_of self.old }
+    {
+        // a law: what is no row now is none whatever comes behind
+        sp_cut::law::rows_stay();
+        let span = match self.cutter.find_row() {
+            Ok(Some(span)) => span,
+            Ok(None) => return Ok(Some(self.at_end())),
+            Err(CutFault::LongRow { row: _ }) => return Ok(Some(failed(self.refusal(8)))),
+            Err(CutFault::OpenQuote { row: _ }) => return Ok(Some(failed(self.refusal(9)))),
+            Err(CutFault::Memory) => return Err(AllocError),
+        };
+        if self.count == ROWS {
+            return Ok(Some(failed(Failure::Limit { limit: ROWS })));
+        }
+        match self.rows.row_into(alloc, self.cutter.row_at(span), event) {
+            Ok(()) => {}
+            Err(RowError::Fault(fault)) => return Ok(Some(failed(failure_at(&fault)))),
+            Err(RowError::Memory) => return Err(AllocError),
+        }
+        self.count += 1;
+        self.cutter.pass(span);
+        let Some(given) = event else {
+            return Ok(None);
+        };
+        let time = given.time;
+        match self.fate(time) {
+            Fate::Kept => {}
+            Fate::PassedOver => {
+                self.late += 1;
+                return Ok(None);
+            }
+            Fate::Refused(failure) => return Ok(Some(failed(failure))),
+        }
+        self.greatest = Some(self.greatest_with(time));
+        self.given += 1;
+        Ok(Some(Step::Event))
+    }
+
+    // What comes where no row is left.
+    fn at_end(&self) -> Step
+        ensures { result ≡ (if self.now.cutter.ended then Step.Stop
+            (end_stop (read_of self.now.rows).places) else Step.Ask) }
+    {
+        if !self.cutter.has_ended() {
+            return Step::Ask;
+        }
+        match self.rows.end() {
+            Ok(()) => Step::Stop(Stop::End),
+            Err(fault) => failed(failure_at(&fault)),
+        }
+    }
+
+    // Why there is no row in place of the next one, which has this code.
+    fn refusal(&self, code: u8) -> Failure
+        requires going { self.now.state ≡ Going }
+        ensures long { code ≡ 8 → Fails long_row result (reader_of self.now) }
+        ensures open { code ≡ 9 → Fails open_quote result (reader_of self.now) }
+    {
+        if self.count == ROWS {
+            return Failure::Limit { limit: ROWS };
+        }
+        Failure::Row {
+            code,
+            row: self.count + 1,
+            column: 0,
+        }
+    }
+
+    /// Puts in the next event, or tells why there is none.
+    #[inline(always)]
+    pub(crate) fn poll(&mut self, alloc: Global, event: &mut Option<Event>) -> Result<Step, Memory>
+        ensures reads { (source : SourceState)
+            → Reads (rows_standing source self.old) [] (given_in result event.new)
+            (rows_standing source self.new) }
+        ensures some { result ≡ Ok Step.Event → IsSome event.new }
+        ensures asks { result ≡ Ok Step.Ask → IsAsking self.new }
+        ensures stop { (why : Stop) → result ≡ Ok (Step.Stop why)
+            → stop_in self.new.state ≡ Some why }
+        ensures still { result ≡ Ok Step.Ask → self.new.state ≡ self.old.state }
+        ensures event { result ≡ Ok Step.Event → self.new.state ≡ self.old.state }
+        ensures stopped { (why : Stop) → self.old.state ≡ Stopped why
+            → (result ≡ Ok (Step.Stop why)) × (self.new.state ≡ self.old.state) }
+        ensures broken { self.old.state ≡ Broken → IsErr result }
+        ensures breaks { OnErr result (self.new.state ≡ Broken) }
+        ensures lateness { lateness_of self.new ≡ lateness_of self.old }
+    {
+        match self.state {
+            State::Going => {}
+            State::Stopped(stop) => return Ok(Step::Stop(stop)),
+            State::Broken => return Err(AllocError),
+        }
+        for _ in 0..u64::MAX {
+            match self.take_row(alloc, event) {
+                Ok(None) => {}
+                Ok(Some(Step::Event)) => return Ok(Step::Event),
+                Ok(Some(Step::Stop(stop))) => {
+                    self.state = State::Stopped(stop);
+                    return Ok(Step::Stop(stop));
+                }
+                Ok(Some(Step::Ask)) => return Ok(Step::Ask),
+                Err(_) => {
+                    self.state = State::Broken;
+                    return Err(AllocError);
+                }
+            }
+        }
+        self.state = State::Broken;
+        Err(AllocError)
+    }
+
+    /// What a call of the source answered, which wrote to the front of this buffer.
+    pub(crate) fn take(&mut self, buffer: &[u8], read: Result<usize, Failed>)
+        requires asks { IsAsking self.old }
+        requires count { IfOk read (λ n. n ≤ length buffer.now) }
+        ensures takes { (before next : SourceState) → WasRead before buffer.now read next
+            → TakesPiece (rows_standing before self.old) (rows_standing next self.new) }
+        ensures more { is_whole (stop_in self.new.state) ≡ false }
+        ensures lateness { lateness_of self.new ≡ lateness_of self.old }
+    {
+        match read {
+            Ok(0) => self.cutter.end(),
+            Ok(count) => {
+                if self.cutter.feed(&buffer[..count]).is_err() {
+                    self.state = State::Broken;
+                }
+            }
+            Err(_) => self.state = State::Stopped(Stop::Open),
+        }
+    }
+
+    /// How many events were late, and passed over.
+    pub(crate) fn late(&self) -> u32
+        ensures { result ≡ self.now.late }
+    {
+        self.late
+    }
+}
+
+// The stop at a row that fails.
+fn failed(failure: Failure) -> Step
+    ensures { result ≡ Step.Stop (Stop.Failed failure) }
+{
+    Step::Stop(Stop::Failed(failure))
+}
+
+// The failure of a faulty row.
+fn failure_at(fault: &RowFault) -> Failure
+    ensures { result ≡ Failure.Row (code_of fault.now.kind) fault.now.row fault.now.column }
+{
+    Failure::Row {
+        code: fault.kind.code(),
+        row: fault.row,
+        column: fault.column,
+    }
+}
