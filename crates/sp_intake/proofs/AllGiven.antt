@@ -1,17 +1,21 @@
 -- All that an input gives, in a list.
-use Rattle.std.proofs.Common.{◌≡◌, ◌≤◌, List, length, Ok, Err, sym, ◌∙◌, ap, subst}
-use Rattle.std.specs.Prelude.{Option, Some, Result, IsErr, IfOk}
+use Rattle.std.proofs.Common.{◌≡◌, ◌≤◌, ◌+◌, ℕ, List, [], length, Ok, Err, sym, ◌∙◌, ap, subst}
+use Rattle.std.specs.Prelude.{Option, Some, Result, IsErr, IfOk, IfSome}
 use Rattle.std.specs.declared.alloc.AllocError.{AllocError}
 use Rattle.sp_base.specs.Limits.{event_limit}
 use Rattle.sp_io.specs.Outside.{SourceState}
+use Rattle.sp_plan.specs.Compiled.{IsTimeOf}
 use Rattle.sp_plan.specs.Events.{AllFit, NeverGoesBack}
 use Rattle.sp_plan.specs.declared.event.Event.{Event}
 use Rattle.sp_plan.specs.declared.plan.Plan.{Plan}
 use Rattle.sp_intake.specs.declared.input.InputEvents.{InputEvents}
 use Rattle.sp_ports.specs.declared.stop.Stop.{Stop}
-use Rattle.sp_intake.specs.Intake.{ReadsInput}
+use Rattle.sp_intake.specs.declared.input.LooseEvents.{LooseEvents}
+use Rattle.sp_intake.specs.Intake.{ReadsInput, ReadsLoose}
+use Rattle.sp_intake.specs.Loose.{Lateness, kept, loose}
 use Rattle.sp_intake.specs.ReadAll.{ReadsAll}
-use Rattle.sp_intake.specs.Standing.{Standing, Gives, HasRead, ReadSoFar, ReadsFrom, stop_in}
+use Rattle.sp_intake.specs.Standing.{Standing, Gives, HasRead, HasReadBy, ReadSoFar, ReadsFrom, Since, stop_in}
+use Rattle.sp_intake.proofs.LooseGood.{kept_fit, kept_few}
 
 -- memory ran out behind these events
 pub short_all : (old new : Standing) (events : List Event) (result : Result InputEvents AllocError) → IsErr result → Gives old events new → ReadsAll old new result
@@ -53,3 +57,51 @@ reads_input q before after old new result from all is =
       fault = tt;
       told = tt;
     }
+
+-- ---- where events may come out of order
+
+module _ (q : Plan) (l : Lateness) (timed : IsTimeOf q.schema.columns q.schema.time) (old new : Standing) (since : Since q l old.source [] [] old) where
+  module _ (result : Result InputEvents AllocError) (all : ReadsAll old new result) where
+    behind : Since q l old.source all.gives.0 all.events new
+    behind = all.gives.1.since q l old.source [] [] since
+
+    -- memory ran out
+    pub loose_short : (answer : Result LooseEvents AllocError) → IsErr answer → ReadsLoose q l old.source new.source answer
+    loose_short (Ok given) failed = absurd (cc failed)
+    loose_short (Err e) failed = record {
+      taken = all.gives.0;
+      gave = behind.has.gave;
+      no_further = behind.has.no_further;
+      events = tt;
+      late = tt;
+      stop = tt;
+      few = tt;
+      fit = tt;
+      fault = tt;
+      told = tt;
+    }
+
+  -- what was read to a stop is a reading of the input
+  pub loose_read : (given : InputEvents) (answer : LooseEvents) → ReadsAll old new (Ok given) → answer.events.items ≡ given.events.items → answer.late ≡ new.reader.late → answer.stop ≡ given.stop
+      → ReadsLoose q l old.source new.source (Ok answer)
+  loose_read given answer all events late stop =
+      let taken = all.gives.0 in
+      let last = all.gives.1.since q l old.source [] [] since in
+      let r = loose q l taken new.source.ended in
+      let stopped = all.stop ∙ ap (λ (s : Stop). Some s) (sym stop) in
+      let has = subst (λ (why : Option Stop). HasReadBy (kept q l) old.source new.source taken all.events why) stopped last.has in
+      let same : answer.events.items ≡ r.reading.events = events ∙ all.given ∙ has.all in
+      let passed : answer.late ≡ r.late = late ∙ subst (λ (why : Option Stop). IfSome why (λ s. new.reader.late ≡ r.late)) stopped last.late in
+      let few = kept_few q l timed taken new.source.ended in
+      record {
+        taken = taken;
+        gave = has.gave;
+        no_further = has.no_further;
+        events = same;
+        late = passed;
+        stop = has.stop;
+        few = subst (λ (n : ℕ). length answer.events.items + n ≤ event_limit) (sym passed) (subst (λ (events : List Event). length events + r.late ≤ event_limit) (sym same) few);
+        fit = subst (AllFit q) (sym same) (kept_fit q l timed taken new.source.ended);
+        fault = λ open_. has.fault (ap (λ (s : Stop). Some s) open_);
+        told = λ rose. cc (has.told rose);
+      }

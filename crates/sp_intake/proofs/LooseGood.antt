@@ -92,6 +92,12 @@ module _ (q : Plan) (l : Lateness) where
     loose_holds : (bytes : List ℕ) (ended : Bool) → Holds (loose q l bytes ended)
     loose_holds bytes ended = rows_hold (rows bytes ended) (start q) (record { timely = tt; fit = All-nil (λ x. fits q x ≡ true); few = omega arith; placed = tt })
 
+    pub kept_fit : (bytes : List ℕ) (ended : Bool) → AllFit q (loose q l bytes ended).reading.events
+    kept_fit bytes ended = (loose_holds bytes ended).fit
+
+    pub kept_few : (bytes : List ℕ) (ended : Bool) → length (loose q l bytes ended).reading.events + (loose q l bytes ended).late ≤ event_limit
+    kept_few bytes ended = (loose_holds bytes ended).few
+
     pub kept_timely : (bytes : List ℕ) (ended : Bool) → AreTimely l.slack [] (loose q l bytes ended).reading.events
     kept_timely bytes ended = (loose_holds bytes ended).timely
 

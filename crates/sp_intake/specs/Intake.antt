@@ -1,12 +1,14 @@
 -- What a reading of the input takes from it, and what it answers.
-use Rattle.std.specs.Prelude.{◌≡◌, ◌<◌, ◌≤◌, ℕ, false, List, ◌++◌, length, None, Result, IfOk}
+use Rattle.std.specs.Prelude.{◌≡◌, ◌<◌, ◌≤◌, ◌+◌, ℕ, false, List, ◌++◌, length, None, Result, IfOk}
 use Rattle.std.specs.declared.alloc.AllocError.{AllocError}
 use Rattle.sp_base.specs.Limits.{piece_limit, event_limit}
 use Rattle.sp_io.specs.Outside.{SourceState, Gave, Rose}
 use Rattle.sp_plan.specs.Events.{AllFit, NeverGoesBack}
 use Rattle.sp_plan.specs.declared.plan.Plan.{Plan}
+use Rattle.sp_intake.specs.Loose.{Lateness, kept, loose}
 use Rattle.sp_intake.specs.Reading.{Way, read, stop_of}
 use Rattle.sp_intake.specs.declared.input.InputEvents.{InputEvents}
+use Rattle.sp_intake.specs.declared.input.LooseEvents.{LooseEvents}
 use Rattle.sp_ports.specs.declared.stop.Stop.TheVariants.{Open}
 
 -- Reading ends with the piece in which it stops: what was taken before the last piece had not stopped it.
@@ -32,6 +34,21 @@ pub record ReadsInput (q : Plan) (old new : SourceState) (result : Result InputE
   pub few : IfOk result (λ given. length given.events.items ≤ event_limit)
   pub fit : IfOk result (λ given. AllFit q given.events.items)
   pub ordered : IfOk result (λ given. NeverGoesBack given.events.items)
+  -- the source failed exactly where the reading stops open
+  pub fault : IfOk result (λ given. given.stop ≡ Open → Rose old.faults new.faults)
+  pub told : IfOk result (λ given. old.faults < new.faults → given.stop ≡ Open)
+
+-- A reading of an input whose events may come out of order: the bytes that it took and, where memory did not run out, the events that were kept, as they came, how many were passed over, and why it stopped.
+pub record ReadsLoose (q : Plan) (l : Lateness) (old new : SourceState) (result : Result LooseEvents AllocError) : Type 0 where
+  pub taken : List ℕ
+  pub gave : Gave old.left taken new.left
+  pub no_further : StopsInPiece (kept q l) taken
+  pub events : IfOk result (λ given. given.events.items ≡ (loose q l taken new.ended).reading.events)
+  pub late : IfOk result (λ given. given.late ≡ (loose q l taken new.ended).late)
+  pub stop : IfOk result (λ given. given.stop ≡ stop_of (loose q l taken new.ended).reading new.ended)
+  -- few events that fit the plan
+  pub few : IfOk result (λ given. length given.events.items + given.late ≤ event_limit)
+  pub fit : IfOk result (λ given. AllFit q given.events.items)
   -- the source failed exactly where the reading stops open
   pub fault : IfOk result (λ given. given.stop ≡ Open → Rose old.faults new.faults)
   pub told : IfOk result (λ given. old.faults < new.faults → given.stop ≡ Open)

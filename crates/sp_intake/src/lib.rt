@@ -12,6 +12,6 @@ mod reader;
 
 pub use events::EventReader;
 pub use giving::Input;
-pub use input::{InputEvents, read_input};
+pub use input::{InputEvents, LooseEvents, read_input, read_loose};
 pub use law::{loose_grows, loose_is_good, loose_is_reading};
 pub use sp_ports::{Failure, Stop};
