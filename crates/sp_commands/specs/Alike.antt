@@ -9,6 +9,7 @@ use Rattle.sp_plan.specs.declared.plan.Opening.TheVariants.{When}
 use Rattle.sp_plan.specs.Values.{BoundEvents, holds}
 use Rattle.sp_query.specs.declared.query.Query.{Query}
 use Rattle.sp_compile.specs.Told.{IsPlanOf}
+use Rattle.sp_intake.specs.Loose.{Lateness}
 use Rattle.sp_commands.specs.Run.{run_outcome}
 
 -- the predicates hold alike
@@ -36,6 +37,6 @@ pub record Alike (x y : Plan) : Type 0 where
   pub length_is : x.length ≡ y.length
   pub opening : OpeningsAlike x.opening y.opening
 
--- Plans that stand for one query have one outcome over all bytes.
+-- Plans that stand for one query have one outcome over all bytes, by however much events may be late.
 abbrev pub PlansRunAlike : Type 0
-PlansRunAlike = (query : Query) (x y : Plan) → IsPlanOf x query → IsPlanOf y query → (bytes : List ℕ) (ended : Bool) → run_outcome x bytes ended ≡ run_outcome y bytes ended
+PlansRunAlike = (query : Query) (x y : Plan) → IsPlanOf x query → IsPlanOf y query → (l : Lateness) (bytes : List ℕ) (ended : Bool) → run_outcome x l bytes ended ≡ run_outcome y l bytes ended

@@ -1,8 +1,10 @@
--- Which words are a command whose predictor is there, where its query stands, and which files it names.
-use Rattle.std.specs.Prelude.{◌≡◌, ◌⊎◌, ℕ, false, List, [], ◌∷◌, ◌++◌, Some}
+-- Which words are a command whose predictor is there, where its query stands, how late its events may come, and which files it names.
+use Rattle.std.specs.Prelude.{◌≡◌, ◌⊎◌, ℕ, ℤ, false, List, [], ◌∷◌, ◌++◌, Some}
 use Rattle.std.specs.List.{Contains}
 use Rattle.sp_io.specs.Outside.{SourceState}
 use Rattle.sp_cli.specs.Commands.{Command, run, plain, trace, drill, QuerySource, text, file, command_of}
+use Rattle.sp_slack.specs.declared.late.LateRule.{LateRule}
+use Rattle.sp_intake.specs.Loose.{Lateness}
 use Rattle.sp_load.specs.Places as places
 use Rattle.sp_load.specs.Places.{Place}
 
@@ -11,14 +13,18 @@ abbrev pub place_of : QuerySource → Place
 place_of (text content) = places.word content
 place_of (file name) = places.file name
 
+-- how late events of a command may come, and what becomes of one that comes later
+abbrev pub lateness : ℤ → LateRule → Lateness
+lateness slack late = record { slack = slack; rule = late }
+
 -- the words are this command
 abbrev pub IsCommand : List (List ℕ) → Command → Type 0
 IsCommand words command = command_of words ≡ Some command
 
 -- the predictor that a run is to have is one of these names
 abbrev pub HasPredictor : List (List ℕ) → Command → Type 0
-HasPredictor predictors (run query speed) = Contains predictors speed.predictor
-HasPredictor predictors (plain query) = Unit {0}
+HasPredictor predictors (run query speed slack late) = Contains predictors speed.predictor
+HasPredictor predictors (plain query slack late) = Unit {0}
 HasPredictor predictors (trace query schedule live) = Unit {0}
 HasPredictor predictors (drill events seed speed) = Contains predictors speed.predictor
 
@@ -37,8 +43,8 @@ files_at (places.file name) = name ∷ []
 
 -- the files of a command, in the order in which they are loaded
 abbrev pub files_of : Command → List (List ℕ)
-files_of (run query speed) = files_at (place_of query)
-files_of (plain query) = files_at (place_of query)
+files_of (run query speed slack late) = files_at (place_of query)
+files_of (plain query slack late) = files_at (place_of query)
 files_of (trace query schedule live) = files_at (place_of query) ++ schedule ∷ []
 files_of (drill events seed speed) = []
 
@@ -50,8 +56,8 @@ GivesFiles predictors words names =
 
 -- the command reads events from the input: a drill makes its own
 abbrev pub ReadsInput : Command → Type 0
-ReadsInput (run query speed) = Unit {0}
-ReadsInput (plain query) = Unit {0}
+ReadsInput (run query speed slack late) = Unit {0}
+ReadsInput (plain query slack late) = Unit {0}
 ReadsInput (trace query schedule live) = Unit {0}
 ReadsInput (drill events seed speed) = ⊥
 
@@ -61,7 +67,7 @@ IsUnendedFor words input = (command : Command) → IsCommand words command → R
 
 -- the command is a run of the speculative engine, whose end is reported
 abbrev pub IsReported : Command → Type 0
-IsReported (run query speed) = Unit {0}
-IsReported (plain query) = ⊥
+IsReported (run query speed slack late) = Unit {0}
+IsReported (plain query slack late) = ⊥
 IsReported (trace query schedule live) = ⊥
 IsReported (drill events seed speed) = Unit {0}

@@ -1,5 +1,5 @@
 -- Where nothing stands in the way, a call answers done or want of memory.
-use Rattle.std.specs.Prelude.{◌≡◌, ◌⊎◌, ◌≤◌, ℕ, true, List, [], length, Some}
+use Rattle.std.specs.Prelude.{◌≡◌, ◌⊎◌, ◌≤◌, ℕ, ℤ, true, List, [], length, Some}
 use Rattle.sp_base.specs.Marks.{without_mark}
 use Rattle.sp_base.specs.Limits.{query_limit, schedule_limit}
 use Rattle.sp_io.specs.Outside.{SourceState, SinkState, ToldFiles, Grew, Rose, first_file}
@@ -9,17 +9,18 @@ use Rattle.sp_plan.specs.Lines.{text}
 use Rattle.sp_plan.specs.Sequential.{whole}
 use Rattle.sp_sched.specs.Schedules.{IsSchedule}
 use Rattle.sp_sched.specs.declared.step.TraceStep.{TraceStep}
+use Rattle.sp_slack.specs.declared.late.LateRule.{LateRule}
 use Rattle.sp_trace.specs.Traced.{traced}
 use Rattle.sp_ports.specs.declared.stop.Stop.TheVariants.{End}
-use Rattle.sp_intake.specs.Reading.{read, stop_of}
 use Rattle.sp_load.specs.Places.{Place, word, file}
 use Rattle.sp_load.specs.Queries.{IsPlanFor}
 use Rattle.sp_answer.specs.Ran.{Outside}
 use Rattle.sp_answer.specs.Promise.{Filed, NoFaultRose}
 use Rattle.sp_cli.specs.Commands.{Speed, QuerySource, run, plain, trace, drill}
 use Rattle.sp_drill.specs.Query.{drill_query}
-use Rattle.sp_commands.specs.Commands.{place_of, IsCall, GivesFiles}
+use Rattle.sp_commands.specs.Commands.{place_of, lateness, IsCall, GivesFiles}
 use Rattle.sp_commands.specs.Drill.{drill_text}
+use Rattle.sp_commands.specs.Ends.{CameFrom, came, came_within}
 use Rattle.sp_commands.specs.Outcome.{Promise}
 
 -- The query's text stands there and is within its limit; of a file the bytes are told.
@@ -41,39 +42,39 @@ pub record TellsSchedule (files : ToldFiles) (name : List ℕ) (steps : List Tra
 abbrev pub whole_text : Plan → List Event → List ℕ
 whole_text q events = text q (whole q events true).matches
 
--- The words are a command whose predictor is there and whose query compiles, and where it is a trace the schedule has no bad line: this is
--- a plan of the query, and the text that the command gives for events that were read whole.
-pub data AsksFor (predictors words : List (List ℕ)) (files : ToldFiles) (q : Plan) : (List Event → List ℕ) → Type 0 where
-  for_run : (source : QuerySource) (speed : Speed) (query : List ℕ) → IsCall predictors words (run source speed) → StandsAt files (place_of source) query
-      → IsPlanFor query q → AsksFor predictors words files q (whole_text q)
-  for_plain : (source : QuerySource) (query : List ℕ) → IsCall predictors words (plain source) → StandsAt files (place_of source) query → IsPlanFor query q
-      → AsksFor predictors words files q (whole_text q)
-  for_trace : (source : QuerySource) (query schedule : List ℕ) (bound : ℕ) (steps : List TraceStep) → IsCall predictors words (trace source schedule bound)
+-- The words are a command whose predictor is there and whose query compiles, and where it is a trace the schedule has no bad line: this comes of
+-- bytes by a plan of the query, and this is the text that the command gives for events that were read whole.
+pub data AsksFor (predictors words : List (List ℕ)) (files : ToldFiles) : CameFrom → (List Event → List ℕ) → Type 0 where
+  for_run : (q : Plan) (source : QuerySource) (speed : Speed) (slack : ℤ) (late : LateRule) (query : List ℕ) → IsCall predictors words (run source speed slack late)
+      → StandsAt files (place_of source) query → IsPlanFor query q → AsksFor predictors words files (came_within q (lateness slack late)) (whole_text q)
+  for_plain : (q : Plan) (source : QuerySource) (slack : ℤ) (late : LateRule) (query : List ℕ) → IsCall predictors words (plain source slack late)
+      → StandsAt files (place_of source) query → IsPlanFor query q → AsksFor predictors words files (came_within q (lateness slack late)) (whole_text q)
+  for_trace : (q : Plan) (source : QuerySource) (query schedule : List ℕ) (bound : ℕ) (steps : List TraceStep) → IsCall predictors words (trace source schedule bound)
       → StandsAt files (place_of source) query → IsPlanFor query q → TellsSchedule files schedule steps
-      → AsksFor predictors words files q (λ events. traced q bound events steps)
+      → AsksFor predictors words files (came q) (λ events. traced q bound events steps)
 
 -- The input has just these bytes, and the reading of all of them stops at their end, at no faulty row and at no limit.
-pub record ReadsToEnd (q : Plan) (input : SourceState) (bytes : List ℕ) : Type 0 where
+pub record ReadsToEnd (way : CameFrom) (input : SourceState) (bytes : List ℕ) : Type 0 where
   pub told : input.left ≡ Some bytes
-  pub stop : stop_of (read q bytes true) true ≡ End
+  pub stop : (way bytes true).stop ≡ End
 
 -- No count of faults rose: not that of the input, nor of the output, nor of a file that the words give.
 abbrev pub NoneRose : List (List ℕ) → List (List ℕ) → Filed → Filed → Outside → Outside → Type 0
 NoneRose predictors words before after old new = (names : List (List ℕ)) → GivesFiles predictors words names → NoFaultRose names before after old new
 
 -- The call is done: nothing of the input is left, and the output grew by the whole text for all its events.
-pub record IsDone (text_for : List Event → List ℕ) (q : Plan) (bytes : List ℕ) (old new : Outside) (result : ℕ) : Type 0 where
+pub record IsDone (text_for : List Event → List ℕ) (way : CameFrom) (bytes : List ℕ) (old new : Outside) (result : ℕ) : Type 0 where
   pub number : result ≡ 0
   pub nothing_left : new.input.left ≡ Some []
-  pub text : Grew old.out.held (text_for (read q bytes true).events) new.out.held
+  pub text : Grew old.out.held (text_for (way bytes true).events) new.out.held
 
--- Words that ask for a text by a plan, input that is read to its end, and no fault: whatever call keeps the promise is done, or answers want of memory.
+-- Words that ask for a text, input that is read to its end, and no fault: whatever call keeps the promise is done, or answers want of memory.
 abbrev pub Completes : Type 0
-Completes = (predictors words : List (List ℕ)) (before after : Filed) (old new : Outside) (err_old err_new : SinkState) (result : ℕ) (q : Plan) (bytes : List ℕ)
+Completes = (predictors words : List (List ℕ)) (before after : Filed) (old new : Outside) (err_old err_new : SinkState) (result : ℕ) (way : CameFrom) (bytes : List ℕ)
     (text_for : List Event → List ℕ)
     → Promise predictors words before after old new err_old err_new result
-    → AsksFor predictors words before.held q text_for → ReadsToEnd q old.input bytes → NoneRose predictors words before after old new
-    → IsDone text_for q bytes old new result ⊎ (result ≡ 1)
+    → AsksFor predictors words before.held way text_for → ReadsToEnd way old.input bytes → NoneRose predictors words before after old new
+    → IsDone text_for way bytes old new result ⊎ (result ≡ 1)
 
 -- A drill was done: the output grew by its text.
 pub record IsDrilled (events seed : ℕ) (old new : SinkState) (result : ℕ) : Type 0 where

@@ -2,7 +2,12 @@
 use Rattle.std.specs.Prelude.{ℕ, Bool, List}
 use Rattle.sp_plan.specs.declared.event.Event.{Event}
 use Rattle.sp_plan.specs.declared.plan.Plan.{Plan}
+use Rattle.sp_slack.specs.HeldBack.{slacked}
+use Rattle.sp_slack.specs.declared.late.LateRule.{LateRule}
+use Rattle.sp_slack.specs.declared.late.LateRule.TheVariants.{Drop}
+use Rattle.sp_intake.specs.Loose.{Lateness, loose}
 use Rattle.sp_intake.specs.Reading.{read, stop_of}
+use Rattle.sp_ports.specs.Stopping.{is_end}
 use Rattle.sp_ports.specs.declared.stop.Stop.{Stop}
 use Rattle.sp_ports.specs.declared.stop.Stop.TheVariants.{End, Failed, Open}
 use Rattle.sp_ports.specs.declared.stop.Failure.{Failure}
@@ -11,7 +16,7 @@ use Rattle.sp_load.specs.declared.refusal.Refusal.{Refusal}
 use Rattle.sp_load.specs.declared.refusal.Refusal.TheVariants as r
 use Rattle.sp_answer.specs.Outcome.{Outcome, outcome}
 use Rattle.sp_answer.specs.declared.status.Status.{Status}
-use Rattle.sp_answer.specs.declared.status.Status.TheVariants.{Done, Memory, Query, Input, Read, Limited}
+use Rattle.sp_answer.specs.declared.status.Status.TheVariants.{Done, DoneLate, Memory, Query, Input, Read, Limited}
 
 abbrev pub status_of_failure : Failure → Status
 status_of_failure (Row code row column) = Input code row column
@@ -30,8 +35,35 @@ status_of_refusal r.Read = Read
 status_of_refusal (r.Limited limit) = Limited limit
 status_of_refusal (r.Query code at) = Query code at
 
--- what a command over the input comes to: the status of the stop, and a text by the events and the stop
-abbrev pub reading_outcome : Plan → (List Event → Stop → List ℕ) → List ℕ → Bool → Outcome
-reading_outcome q text_for bytes ended =
+-- What a command makes of the bytes of its input: the events that its engine is given, why the reading stops, and the status where all lines are
+-- written.
+pub record Came : Type 0 where
+  pub events : List Event
+  pub stop : Stop
+  pub status : Status
+
+-- what comes of bytes, where the input ends behind them or goes on
+abbrev pub CameFrom : Type 0
+CameFrom = List ℕ → Bool → Came
+
+-- where times may not go back
+abbrev pub came : Plan → CameFrom
+came q bytes ended =
     let stop = stop_of (read q bytes ended) ended in
-    outcome (status_of stop) (text_for (read q bytes ended).events stop)
+    record { events = (read q bytes ended).events; stop = stop; status = status_of stop }
+
+-- the end of the input tells how many events came too late, where these are passed over
+abbrev pub late_status : LateRule → ℕ → Stop → Status
+late_status Drop late End = DoneLate late
+late_status rule late stop = status_of stop
+
+-- where events may be late by so much: they are given by time
+abbrev pub came_within : Plan → Lateness → CameFrom
+came_within q l bytes ended =
+    let r = loose q l bytes ended in
+    let stop = stop_of r.reading ended in
+    record { events = slacked l.slack r.reading.events (is_end stop); stop = stop; status = late_status l.rule r.late stop }
+
+-- what a command over the input comes to: the status, and a text by the events and the stop
+abbrev pub reading_outcome : CameFrom → (List Event → Stop → List ℕ) → List ℕ → Bool → Outcome
+reading_outcome way text_for bytes ended = outcome (way bytes ended).status (text_for (way bytes ended).events (way bytes ended).stop)

@@ -19,7 +19,7 @@ use Rattle.sp_answer.specs.Ran.{Outside, Ran}
 use Rattle.sp_answer.specs.Promise.{Refused}
 use Rattle.sp_answer.specs.declared.status.Status.{Status}
 use Rattle.sp_answer.specs.declared.status.Status.TheVariants.{Memory, Query, Limited, Schedule}
-use Rattle.sp_commands.specs.Ends.{reading_outcome}
+use Rattle.sp_commands.specs.Ends.{came, reading_outcome}
 
 -- the printed run, where the input was read to its end
 abbrev pub trace_text : ℕ → List TraceStep → Plan → List Event → Stop → List ℕ
@@ -27,7 +27,7 @@ trace_text bound steps q events stop = if is_end stop then traced q bound events
 
 -- what a trace of a plan by these steps comes to over these bytes
 abbrev pub trace_outcome : Plan → ℕ → List TraceStep → List ℕ → Bool → Outcome
-trace_outcome q bound steps bytes ended = reading_outcome q (trace_text bound steps q) bytes ended
+trace_outcome q bound steps bytes ended = reading_outcome (came q) (trace_text bound steps q) bytes ended
 
 abbrev pub IsPlanTrace : Plan → ℕ → List TraceStep → List ℕ → Bool → Outcome → Type 0
 IsPlanTrace q bound steps bytes ended o = o ≡ trace_outcome q bound steps bytes ended
