@@ -1,5 +1,5 @@
 -- Plans that are alike read, match and write alike.
-use Rattle.std.proofs.Common.{◌≡◌, ℕ, zero, suc, ◌+◌, Bool, false, not, List, [], ◌∷◌, ◌++◌, ◌||◌, length, map, Option, Some, None, refl, ◌∙◌, ap}
+use Rattle.std.proofs.Common.{◌≡◌, ℕ, zero, suc, ◌+◌, Bool, true, false, not, List, [], ◌∷◌, ◌++◌, ◌||◌, length, map, Option, Some, None, refl, ◌∙◌, ap}
 use Rattle.std.specs.Prelude.{pos, is_some, is_none, slice_get, filter, find, ◌==◌, if◌then◌else◌, codes}
 use Rattle.std.specs.List.{fold, flat_map, filter_map, enumerate_from, list_all, list_any, last_or, zip}
 use Rattle.std.specs.Fmt.{decimal}
@@ -22,11 +22,16 @@ use Rattle.sp_plan.specs.Lines.{name_text, line, text}
 use Rattle.sp_plan.specs.Windows.{Numbered, Window, windows_by, window_from, numbered, windows, closed}
 use Rattle.sp_plan.specs.Runs.{Run, Started, State, Handling, Pair, binds, departs, guarded, guards_behind, unbound, is_filled, again, bound_events, fits_name, takes, is_complete, is_consumed, used, holds_one, numbers_under, fresh, completed, kept_with, grown, leaves, passed, offered, handle_run, may_start, started_with, handle, state, matched_runs}
 use Rattle.sp_plan.specs.Sequential.{Progress, match_of, visible, after_window, seq, whole}
-use Rattle.sp_rows.specs.Rows.{RowsRead, ColumnAt, nothing, place_of, columns_at, is_place, header_or_fault, event_or_fault, first_fault, row_of_cells, by_cells}
+use Rattle.sp_rows.specs.Rows.{RowsRead, RowResult, ColumnAt, nothing, event, refused, given_if, time_place, time_place_in, place_of, columns_at, is_place, header_or_fault, event_or_fault, first_fault, row_of_cells, by_cells}
 use Rattle.sp_rows.specs.Cells.{RowCells, blank, one, several, row_cells}
 use Rattle.sp_commands.specs.Alike.{Alike, NamesAlike, OpeningsAlike}
 use Rattle.sp_intake.specs.Reading.{Reading, start, with_result, with_row, stopped_by, take_row, read}
-use Rattle.sp_ports.specs.declared.stop.Failure.TheVariants.{Limit}
+use Rattle.sp_intake.specs.Loose.{Lateness, Loose, loose}
+use Rattle.sp_intake.specs.Loose as loosely
+use Rattle.sp_slack.specs.HeldBack.{is_late}
+use Rattle.sp_slack.specs.declared.late.LateRule.{LateRule}
+use Rattle.sp_slack.specs.declared.late.LateRule.TheVariants.{Refuse, Drop}
+use Rattle.sp_ports.specs.declared.stop.Failure.TheVariants.{Row, Limit}
 
 module _ (q p : Plan) (alike : Alike q p) where
   -- ---- rows
@@ -67,6 +72,44 @@ module _ (q p : Plan) (alike : Alike q p) where
   read_same bytes ended =
       rows_same (start q) (rows bytes ended)
       ∙ ap (λ (texts : List (List ℕ)). fold (take_row p) (begin_with texts) (rows bytes ended)) alike.texts
+
+  -- ---- rows that may come late
+
+  late_place_same : (places : Option (List ℕ)) → time_place_in q places ≡ time_place_in p places
+  late_place_same None = refl
+  late_place_same (Some places) = ap time_place (columns_same places)
+
+  late_same : (rule : LateRule) (r : Loose) (so_far : RowsRead) → loosely.with_late q rule r so_far ≡ loosely.with_late p rule r so_far
+  late_same Refuse r so_far = ap (λ (column : ℕ). loosely.reads_on r (stopped_by r.reading (Row 6 (r.reading.so_far.read + 1) column))) (late_place_same r.reading.so_far.places)
+  late_same Drop r so_far = refl
+
+  loose_event_same : (l : Lateness) (r : Loose) (given : RowResult) → loosely.with_result q l r given ≡ loosely.with_result p l r given
+  loose_event_same l r (nothing so_far) = refl
+  loose_event_same l r (event e so_far) = λ i.
+      if is_late l.slack r.reading.events e then late_same l.rule r so_far i
+      else if loosely.is_full r then loosely.filled r so_far
+      else loosely.reads_on r (record r.reading { so_far = so_far; events = r.reading.events ++ e ∷ [] })
+  loose_event_same l r (refused f) = refl
+
+  loose_row_same : (l : Lateness) (r : Loose) (next : CutRow) → loosely.with_row q l r next ≡ loosely.with_row p l r next
+  loose_row_same l r (row bytes) =
+      loose_event_same l r (given_if true (by_cells q r.reading.so_far (row_cells bytes)))
+      ∙ ap (λ (given : RowResult). loosely.with_result p l r (given_if true given)) (by_cells_same r.reading.so_far (row_cells bytes))
+  loose_row_same l r long_row = refl
+  loose_row_same l r open_quote = refl
+
+  loose_rows_same : (l : Lateness) (r : Loose) (all : List CutRow) → fold (loosely.take_row q l) r all ≡ fold (loosely.take_row p l) r all
+  loose_rows_same l r [] = refl
+  loose_rows_same l r (next ∷ others) =
+      ap (λ (given : Loose).
+      fold (loosely.take_row q l) (if is_some r.reading.stopped then r else if r.reading.so_far.read == 2097152 then loosely.reads_on r (stopped_by r.reading (Limit 2097152)) else given) others)
+      (loose_row_same l r next)
+      ∙ loose_rows_same l (loosely.take_row p l r next) others
+
+  pub loose_same : (l : Lateness) (bytes : List ℕ) (ended : Bool) → loose q l bytes ended ≡ loose p l bytes ended
+  loose_same l bytes ended =
+      loose_rows_same l (loosely.start q) (rows bytes ended)
+      ∙ ap (λ (texts : List (List ℕ)). let first : Loose = record { reading = begin_with texts; late = 0 } in fold (loosely.take_row p l) first (rows bytes ended)) alike.texts
 
   -- ---- runs
 

@@ -2,16 +2,15 @@
 use Rattle.std.proofs.Common.{◌⊎◌, ◌≡◌, ◌≢◌, inl, inr, ⊎_elim, ℕ, Bool, true, false, List, [], length, sym, ◌∙◌, ap, subst, arith}
 use Rattle.std.specs.List.{Contains}
 use Rattle.sp_base.specs.Numbers.{with_numbers}
-use Rattle.sp_io.specs.Outside.{Told, ToldFiles, Grew, Rose}
+use Rattle.sp_io.specs.Outside.{ToldFiles, Grew, Rose}
 use Rattle.sp_plan.specs.declared.plan.Plan.{Plan}
 use Rattle.sp_plan.specs.Sequential.{whole}
 use Rattle.sp_plan.specs.Windows.{windows}
 use Rattle.sp_emit.specs.Summary.{summary}
 use Rattle.sp_gen.specs.Generated.{generated}
 use Rattle.sp_intake.specs.Reading.{read}
-use Rattle.sp_load.specs.declared.refusal.Refusal.TheVariants as r
 use Rattle.sp_answer.specs.declared.status.Status.TheVariants.{Done, Memory, Read, Write}
-use Rattle.sp_answer.specs.Outcome.{Outcome, Ending, number_of, outcome}
+use Rattle.sp_answer.specs.Outcome.{Outcome, Ending, number_of}
 use Rattle.sp_answer.specs.Ran.{Outside}
 use Rattle.sp_answer.specs.Promise.{Filed, Answered, by_memory, by_file, by_refusal, by_run, by_itself}
 use Rattle.sp_cli.specs.Commands.{Command, Speed, drill}

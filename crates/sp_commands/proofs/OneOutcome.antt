@@ -10,6 +10,7 @@ use Rattle.sp_sched.specs.Schedules.{OneSchedule}
 use Rattle.sp_sched.specs.declared.step.TraceStep.{TraceStep}
 use Rattle.sp_emit.specs.Summary.{summary}
 use Rattle.sp_ports.specs.Stopping.{is_end}
+use Rattle.sp_intake.specs.Loose.{Lateness}
 use Rattle.sp_intake.specs.Reading.{Reading, read}
 use Rattle.sp_ports.specs.declared.stop.Stop.{Stop}
 use Rattle.sp_load.specs.Places.{Place}
@@ -21,7 +22,8 @@ use Rattle.sp_answer.specs.declared.status.Status.TheVariants.{Done, Query, Sche
 use Rattle.sp_cli.specs.Commands.{Command, run, plain, trace, drill}
 use Rattle.sp_drill.specs.Query.{drill_query}
 use Rattle.sp_gen.specs.Generated.{generated}
-use Rattle.sp_commands.specs.Commands.{place_of}
+use Rattle.sp_commands.specs.Commands.{place_of, lateness}
+use Rattle.sp_commands.specs.Ends.{came}
 use Rattle.sp_commands.specs.Drill.{summary_of, drill_text}
 use Rattle.sp_commands.specs.Alike.{Alike}
 use Rattle.sp_commands.specs.OneOutcome.{OneOutcome}
@@ -31,7 +33,7 @@ use Rattle.sp_commands.specs.Trace.{trace_text, trace_outcome, HasSchedule, Text
 use Rattle.sp_commands.proofs.Alike.{read_same, windows_same, whole_same}
 use Rattle.sp_commands.proofs.AlikeTraces.{traced_same}
 use Rattle.sp_commands.proofs.OneCommand.{one_command}
-use Rattle.sp_commands.proofs.OneRun.{OneTruth, plans_run_alike, stand_alike, outcome_by}
+use Rattle.sp_commands.proofs.OneRun.{OneTruth, plans_run_alike, stand_alike, outcome_by, came_same}
 
 -- the laws of places, of texts, of schedules and of predicates
 pub record RunLaws : Type 0 where
@@ -41,17 +43,17 @@ pub record RunLaws : Type 0 where
   pub truth : OneTruth
 
 -- plans of one text run alike
-pub one_run : OneReading → OneTruth → (text : List ℕ) (x y : Plan) → IsPlanFor text x → IsPlanFor text y → (bytes : List ℕ) (ended : Bool) → run_outcome x bytes ended ≡ run_outcome y bytes ended
-one_run reading truth text x y one other bytes ended =
+pub one_run : OneReading → OneTruth → (text : List ℕ) (x y : Plan) → IsPlanFor text x → IsPlanFor text y → (l : Lateness) (bytes : List ℕ) (ended : Bool) → run_outcome x l bytes ended ≡ run_outcome y l bytes ended
+one_run reading truth text x y one other l bytes ended =
     let both = reading.plans text x y one other in
-    plans_run_alike truth both.0 x y both.1 both.2 bytes ended
+    plans_run_alike truth both.0 x y both.1 both.2 l bytes ended
 
 -- and trace alike
 pub one_trace : OneReading → OneTruth → (text : List ℕ) (x y : Plan) → IsPlanFor text x → IsPlanFor text y → (bound : ℕ) (steps : List TraceStep) (bytes : List ℕ) (ended : Bool) → trace_outcome x bound steps bytes ended ≡ trace_outcome y bound steps bytes ended
 one_trace reading truth text x y one other bound steps bytes ended =
     let both = reading.plans text x y one other in
     let alike = stand_alike truth both.0 x y both.1.stands both.2.stands in
-    outcome_by x y alike (trace_text bound steps) (λ (events : List Event) (stop : Stop). λ i. if is_end stop then traced_same x y alike bound events steps i else []) bytes ended
+    outcome_by (came x) (came y) (trace_text bound steps x) (trace_text bound steps y) (came_same x y alike) (λ (events : List Event) (stop : Stop). λ i. if is_end stop then traced_same x y alike bound events steps i else []) bytes ended
 
 -- ---- a run
 
@@ -60,8 +62,8 @@ module _ (laws : RunLaws) (files : List (List ℕ × List ℕ)) (place : Place) 
   apart : (q : Plan) (code at : ℕ) → IsPlanAt (Some files) place q → IsFaultyAt (Some files) place code at → ⊥
   apart q code at plan fault = laws.reading.apart fault.0 q code at (subst (λ (t : List ℕ). IsPlanFor t q) (laws.text.texts files place plan.0 fault.0 plan.1 fault.1) plan.2) fault.2
 
-  module _ (bytes : List ℕ) (ended : Bool) where
-    one_run_outcome : (a b : Outcome) → RunOutcome place (Some files) bytes ended a → RunOutcome place (Some files) bytes ended b → a ≡ b
+  module _ (l : Lateness) (bytes : List ℕ) (ended : Bool) where
+    one_run_outcome : (a b : Outcome) → RunOutcome place l (Some files) bytes ended a → RunOutcome place l (Some files) bytes ended b → a ≡ b
     one_run_outcome _ _ (too_long long) (too_long other) = refl
     one_run_outcome _ _ (too_long long) (faulty code at fault) = absurd (laws.text.apart files place fault.0 fault.1 long)
     one_run_outcome _ _ (too_long long) (runs q plan) = absurd (laws.text.apart files place plan.0 plan.1 long)
@@ -73,7 +75,7 @@ module _ (laws : RunLaws) (files : List (List ℕ × List ℕ)) (place : Place) 
     one_run_outcome _ _ (runs q plan) (too_long long) = absurd (laws.text.apart files place plan.0 plan.1 long)
     one_run_outcome _ _ (runs q plan) (faulty code at fault) = absurd (apart q code at plan fault)
     one_run_outcome _ _ (runs q plan) (runs p other) =
-        one_run laws.reading laws.truth other.0 q p (subst (λ (t : List ℕ). IsPlanFor t q) (laws.text.texts files place plan.0 other.0 plan.1 other.1) plan.2) other.2 bytes ended
+        one_run laws.reading laws.truth other.0 q p (subst (λ (t : List ℕ). IsPlanFor t q) (laws.text.texts files place plan.0 other.0 plan.1 other.1) plan.2) other.2 l bytes ended
 
 -- ---- a trace
 
@@ -130,8 +132,8 @@ one_drill reading truth x y one other events seed =
 -- ---- all words
 
 one_of : RunLaws → (files : List (List ℕ × List ℕ)) (command : Command) (bytes : List ℕ) (ended : Bool) (a b : Outcome) → CommandOutcome command (Some files) bytes ended a → CommandOutcome command (Some files) bytes ended b → a ≡ b
-one_of laws files (run query speed) bytes ended a b one other = one_run_outcome laws files (place_of query) bytes ended a b one other
-one_of laws files (plain query) bytes ended a b one other = one_run_outcome laws files (place_of query) bytes ended a b one other
+one_of laws files (run query speed slack late) bytes ended a b one other = one_run_outcome laws files (place_of query) (lateness slack late) bytes ended a b one other
+one_of laws files (plain query slack late) bytes ended a b one other = one_run_outcome laws files (place_of query) (lateness slack late) bytes ended a b one other
 one_of laws files (trace query name bound) bytes ended a b one other = one_trace_outcome laws files (place_of query) name bound bytes ended a b one other
 one_of laws files (drill events seed speed) bytes ended a b one other = one.2 ∙ ap (outcome Done) (one_drill laws.reading laws.truth one.0 other.0 one.1 other.1 events seed) ∙ sym other.2
 

@@ -25,11 +25,13 @@ use Rattle.sp_compile.specs.Stands.{Literals, none, some, literal_of, all_trees,
 use Rattle.sp_compile.specs.Told.{IsPlanOf}
 use Rattle.sp_commands.specs.Alike.{Alike, HoldAlike, NamesAlike, OpeningsAlike}
 use Rattle.sp_answer.specs.Outcome.{outcome}
-use Rattle.sp_commands.specs.Ends.{status_of, reading_outcome}
+use Rattle.sp_commands.specs.Ends.{Came, CameFrom, came, came_within, late_status, status_of, reading_outcome}
 use Rattle.sp_commands.specs.Run.{run_outcome, windows_text}
 use Rattle.sp_ports.specs.Stopping.{is_end}
-use Rattle.sp_intake.specs.Reading.{Reading, read, stop_of}
-use Rattle.sp_commands.proofs.Alike.{read_same, whole_same, lines_same}
+use Rattle.sp_slack.specs.HeldBack.{slacked}
+use Rattle.sp_intake.specs.Loose.{Lateness, Loose}
+use Rattle.sp_intake.specs.Reading.{Reading, stop_of}
+use Rattle.sp_commands.proofs.Alike.{read_same, loose_same, whole_same, lines_same}
 
 -- trees have one list of texts
 one_literals : (trees : List Tree) (a b : List (List ℕ)) → Literals trees a → Literals trees b → a ≡ b
@@ -97,18 +99,28 @@ module _ (truth : OneTruth) (query : Query) (x y : Plan) (first : Stands x query
       }
 
 -- alike plans have one outcome, where their texts are one
+pub outcome_by : (one other : CameFrom) (T U : List Event → Stop → List ℕ) → ((bytes : List ℕ) (ended : Bool) → one bytes ended ≡ other bytes ended) → ((events : List Event) (stop : Stop) → T events stop ≡ U events stop)
+    → (bytes : List ℕ) (ended : Bool) → reading_outcome one T bytes ended ≡ reading_outcome other U bytes ended
+outcome_by one other T U came same bytes ended =
+    let c = other bytes ended in
+    ap (λ (x : Came). outcome x.status (T x.events x.stop)) (came bytes ended) ∙ ap (outcome c.status) (same c.events c.stop)
+
 module _ (x y : Plan) (alike : Alike x y) where
-  pub outcome_by : (T : Plan → List Event → Stop → List ℕ) → ((events : List Event) (stop : Stop) → T x events stop ≡ T y events stop)
-      → (bytes : List ℕ) (ended : Bool) → reading_outcome x (T x) bytes ended ≡ reading_outcome y (T y) bytes ended
-  outcome_by T same bytes ended =
-      let r = read y bytes ended in
-      ap (λ (one : Reading). outcome (status_of (stop_of one ended)) (T x one.events (stop_of one ended))) (read_same x y alike bytes ended)
-      ∙ ap (outcome (status_of (stop_of r ended))) (same r.events (stop_of r ended))
+  pub came_same : (bytes : List ℕ) (ended : Bool) → came x bytes ended ≡ came y bytes ended
+  came_same bytes ended = ap (λ (r : Reading). let c : Came = record { events = r.events; stop = stop_of r ended; status = status_of (stop_of r ended) } in c) (read_same x y alike bytes ended)
+
+  within_same : (l : Lateness) (bytes : List ℕ) (ended : Bool) → came_within x l bytes ended ≡ came_within y l bytes ended
+  within_same l bytes ended =
+      ap (λ (r : Loose).
+      let stop = stop_of r.reading ended in
+      let c : Came = record { events = slacked l.slack r.reading.events (is_end stop); stop = stop; status = late_status l.rule r.late stop } in c)
+      (loose_same x y alike l bytes ended)
 
   text_same : (events : List Event) (stop : Stop) → windows_text x events stop ≡ windows_text y events stop
   text_same events stop = lines_same x y alike (whole x events (is_end stop)).matches ∙ ap (λ (w : Progress). text y w.matches) (whole_same x y alike events (is_end stop))
 
-pub plans_run_alike : OneTruth → (query : Query) (x y : Plan) → IsPlanOf x query → IsPlanOf y query → (bytes : List ℕ) (ended : Bool) → run_outcome x bytes ended ≡ run_outcome y bytes ended
-plans_run_alike truth query x y first second =
-    let alike = stand_alike truth query x y first.stands second.stands in
-    outcome_by x y alike windows_text (text_same x y alike)
+  alike_run : (l : Lateness) (bytes : List ℕ) (ended : Bool) → run_outcome x l bytes ended ≡ run_outcome y l bytes ended
+  alike_run l = outcome_by (came_within x l) (came_within y l) (windows_text x) (windows_text y) (within_same l) text_same
+
+pub plans_run_alike : OneTruth → (query : Query) (x y : Plan) → IsPlanOf x query → IsPlanOf y query → (l : Lateness) (bytes : List ℕ) (ended : Bool) → run_outcome x l bytes ended ≡ run_outcome y l bytes ended
+plans_run_alike truth query x y first second = alike_run x y (stand_alike truth query x y first.stands second.stands)

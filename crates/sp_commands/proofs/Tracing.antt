@@ -13,7 +13,6 @@ use Rattle.sp_plan.specs.declared.event.Event.{Event}
 use Rattle.sp_plan.specs.declared.plan.Plan.{Plan}
 use Rattle.sp_ports.specs.Stopping.{is_end}
 use Rattle.sp_ports.specs.declared.stop.Stop.{Stop}
-use Rattle.sp_ports.specs.declared.stop.Stop.TheVariants.{End, Failed as StopFailed, Open}
 use Rattle.sp_sched.specs.Schedules.{CanStand, AreSteps, none, blank, step}
 use Rattle.sp_sched.specs.declared.step.TraceStep.{TraceStep}
 use Rattle.sp_trace.specs.Traced.{Tracing, after, lines_for, lines_from, joined, traced}
@@ -29,12 +28,11 @@ use Rattle.sp_answer.specs.Written.{WritesText}
 use Rattle.sp_answer.specs.declared.written.Written.{Written}
 use Rattle.sp_answer.specs.declared.written.Written.TheVariants.{All as Whole, Failed}
 use Rattle.sp_answer.specs.declared.status.Status.{Status}
-use Rattle.sp_answer.specs.declared.status.Status.TheVariants.{Done}
 use Rattle.sp_answer.proofs.Answering.{answered_weaker}
 use Rattle.sp_io.proofs.Grew.{within_more}
 use Rattle.sp_answer.proofs.Writing.{out_of_memory, cut_within, piece_grew, piece_quiet}
 use Rattle.sp_commands.specs.Commands.{files_at}
-use Rattle.sp_commands.specs.Ends.{status_of, status_of_refusal}
+use Rattle.sp_commands.specs.Ends.{status_of_refusal}
 use Rattle.sp_commands.specs.Trace.{TraceOutcome, long_query, long_schedule, of_texts, TextsOutcome, faulty, trace_text, HasSchedule, RefusesTexts, RefusesTrace, OneRose, AnswersTexts, by_memory, by_refusal, by_run}
 use Rattle.sp_commands.proofs.Running.{by_read, quiet_served, fault_served}
 
@@ -189,9 +187,3 @@ pub ended_writes : (bound : ℕ) (steps : List TraceStep) (q : Plan) (events : L
     → WritesText (traced q bound events steps) old new result → WritesText (trace_text bound steps q events stop) old new result
 ended_writes bound steps q events stop old new result ended writes =
     subst (λ (l : List ℕ). WritesText l old new result) (sym (ap (λ (b : Bool). if b then traced q bound events steps else []) ended)) writes
-
--- the end is answered by done
-pub ended_status : (stop : Stop) → is_end stop ≡ true → Done ≡ status_of stop
-ended_status End ended = refl
-ended_status (StopFailed failure) ended = cc
-ended_status Open ended = cc

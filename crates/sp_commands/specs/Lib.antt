@@ -1,6 +1,7 @@
 pub mod Drill
 pub mod Commands
 pub mod Ends
+pub mod Given
 pub mod Run
 pub mod Trace
 pub mod Outcome

@@ -1,11 +1,13 @@
-// What the words ask of a trace, and where the query of a command stands.
-ghost use Rattle.std.specs.Prelude.{◌≡◌};
+// What the words ask of a trace, how late events may come, and where the query of a command stands.
+ghost use Rattle.std.specs.Prelude.{◌≡◌, true};
 ghost use Rattle.sp_cli.specs.Commands.{source_seen};
+ghost use Rattle.sp_intake.specs.LooseLaws.{punctual};
 ghost use Rattle.sp_load.specs.Places as places;
 ghost use Rattle.sp_commands.specs.Commands as commands;
 
 use sp_cli::QuerySource;
 use sp_load::Place;
+use sp_slack::LateRule;
 
 /// A run of the machine over a schedule.
 #[derive(Clone, Copy, Drop)]
@@ -16,6 +18,22 @@ pub struct Trace<'a> {
     pub schedule: &'a str,
     /// The most versions that may be live at a time.
     pub live: u32,
+}
+
+/// How far behind the greatest time before it an event may come, 0 to 10^15, and what becomes of one that is later.
+#[derive(Clone, Copy, Drop)]
+pub struct Lateness {
+    pub slack: i64,
+    pub rule: LateRule,
+}
+
+impl Lateness {
+    /// Whether no time may go back: there is no slack, and a late event is refused.
+    pub(crate) fn is_punctual(self) -> bool
+        ensures { result ≡ true → commands.lateness self.slack self.rule ≡ punctual }
+    {
+        self.slack == 0 && matches!(self.rule, LateRule::Refuse)
+    }
 }
 
 /// The place that the words say.

@@ -5,6 +5,7 @@ ghost use Rattle.sp_commands.specs.Ends as ends;
 use sp_answer::Status;
 use sp_intake::{Failure, Stop};
 use sp_load::Refusal;
+use sp_slack::LateRule;
 
 /// Why the reading of the input stopped.
 pub fn status_of(stop: Stop) -> Status
@@ -27,5 +28,15 @@ pub fn status_of_refusal(refusal: Refusal) -> Status
         Refusal::Read => Status::Read,
         Refusal::Limited { limit } => Status::Limited { limit },
         Refusal::Query { code, place } => Status::Query { code, place },
+    }
+}
+
+/// The status of a reading that passed over so many late events, or refused the first.
+pub fn late_status(rule: LateRule, rows: u32, stop: Stop) -> Status
+    ensures { result ≡ ends.late_status rule rows stop }
+{
+    match (rule, stop) {
+        (LateRule::Drop, Stop::End) => Status::DoneLate { rows },
+        _ => status_of(stop),
     }
 }

@@ -1,6 +1,7 @@
 // Laws of what the program promises.
 ghost use Rattle.sp_commands.specs.Alike.{PlansRunAlike};
 ghost use Rattle.sp_commands.specs.OneOutcome.{OneOutcome};
+ghost use Rattle.sp_commands.specs.Run.{PunctualRuns};
 ghost use Rattle.sp_commands.specs.Completes.{Completes, DrillCompletes};
 
 /// Law: plans that stand for one query have one outcome over all bytes, status and text.
@@ -9,6 +10,15 @@ pub fn plans_run_alike()
 {
     // a law: a predicate of a query is true or not
     sp_compile::law::one_truth();
+}
+
+/// Law: without slack, and where a late event ends the reading, a run comes to what its bytes give where times may not
+/// go back, word for word.
+pub fn punctual_runs()
+    ensures { PunctualRuns }
+{
+    // a law: so does the reading
+    sp_intake::loose_is_reading();
 }
 
 /// Law: words, files that are told and bytes have at most one outcome: one status, one line and one text.

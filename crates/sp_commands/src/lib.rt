@@ -4,13 +4,15 @@
 
 mod asked;
 mod ends;
+mod given;
 pub mod law;
 mod output;
 mod scheduled;
+mod sorted;
 mod windowed;
 
-pub use asked::{Trace, place_of};
-pub use ends::{status_of, status_of_refusal};
-pub use law::{completes, drills_complete, one_outcome, plans_run_alike};
+pub use asked::{Lateness, Trace, place_of};
+pub use ends::{late_status, status_of, status_of_refusal};
+pub use law::{completes, drills_complete, one_outcome, plans_run_alike, punctual_runs};
 pub use scheduled::trace;
 pub use windowed::{plain, shared};

@@ -26,12 +26,12 @@ ghost use Rattle.sp_commands.specs.Trace.{
 };
 
 use crate::asked::Trace;
-use crate::ends::{status_of, status_of_refusal};
+use crate::ends::status_of_refusal;
+use crate::given::in_time;
 use crate::output::write_texts;
 use crate::windowed::shared;
 use sp_answer::{Status, Written};
 use sp_base::limits::SCHEDULE_LIMIT;
-use sp_intake::read_input;
 use sp_io::{Files, Sink, Source};
 use sp_load::{Place, QueryText, Refusal, load_file, plan_of_text, text_at};
 use sp_plan::{Event, Memory, Plan};
@@ -186,14 +186,14 @@ fn trace_task<S: Source, K: Sink>(
     let Ok(plan) = shared(alloc, plan) else {
         return Status::Memory;
     };
-    let Ok(given) = read_input(alloc, &plan, input) else {
+    let Ok(given) = in_time(alloc, &plan, input) else {
         return Status::Memory;
     };
     if !given.stop.is_end() {
-        return status_of(given.stop);
+        return given.status;
     }
     match print_trace(alloc, plan, live, given.events, &steps, out) {
-        Ok(Written::All) => Status::Done,
+        Ok(Written::All) => given.status,
         Ok(Written::Failed) => Status::Write,
         Err(_) => Status::Memory,
     }

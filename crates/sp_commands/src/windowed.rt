@@ -1,21 +1,22 @@
 // The command `plain`: a query over the input, window by window.
-ghost use Rattle.std.specs.Prelude.{◌≡◌, ◌≤◌, false, length, IfOk};
+ghost use Rattle.std.specs.Prelude.{◌≡◌, pos, ◌≤ℤ◌, false, IfOk};
 ghost use Rattle.std.specs.Arc.{arc_value};
-ghost use Rattle.sp_base.specs.Limits.{event_limit};
+ghost use Rattle.sp_base.specs.Limits.{number_limit};
 ghost use Rattle.sp_plan.specs.Compiled.{IsCompiled};
-ghost use Rattle.sp_plan.specs.Events.{AllFit, NeverGoesBack};
+ghost use Rattle.sp_ports.specs.Giving.{AreGood};
 ghost use Rattle.sp_load.specs.Places.{place_of};
 ghost use Rattle.sp_answer.specs.Outcome.{ending};
 ghost use Rattle.sp_answer.specs.Promise.{filed, Served};
 ghost use Rattle.sp_answer.specs.Ran.{outside, Ran};
 ghost use Rattle.sp_answer.specs.Written.{WritesText};
-ghost use Rattle.sp_commands.specs.Commands.{files_at};
+ghost use Rattle.sp_commands.specs.Commands.{files_at, lateness};
 ghost use Rattle.sp_commands.specs.Run.{windows_text, IsPlanRun, RunOutcome};
 
-use crate::ends::{status_of, status_of_refusal};
+use crate::asked::Lateness;
+use crate::ends::status_of_refusal;
+use crate::given::{Given, read_events};
 use crate::output::write_lines;
 use sp_answer::{Status, Written};
-use sp_intake::{InputEvents, read_input};
 use sp_io::{Files, Sink, Source};
 use sp_load::{Place, plan_at};
 use sp_plan::{Memory, Plan};
@@ -33,13 +34,11 @@ pub fn shared(alloc: Global, plan: Plan) -> Result<Arc<Plan>, Memory>
 fn write_windows<K: Sink>(
     alloc: Global,
     plan: &Arc<Plan>,
-    given: &InputEvents,
+    given: &Given,
     out: &mut K,
 ) -> Result<Written, Memory>
     requires compiled { IsCompiled (arc_value plan.now) }
-    requires few { length given.now.events.items ≤ event_limit }
-    requires fit { AllFit (arc_value plan.now) given.now.events.items }
-    requires ordered { NeverGoesBack given.now.events.items }
+    requires good { AreGood (arc_value plan.now) given.now.events.items }
     ensures { let text = windows_text (arc_value plan.now) given.now.events.items given.now.stop in
         WritesText text (K.state out.old) (K.state out.new) result }
 {
@@ -48,10 +47,18 @@ fn write_windows<K: Sink>(
 }
 
 // Runs a plan over the input.
-fn run_plan<S: Source, K: Sink>(alloc: Global, plan: Plan, input: &mut S, out: &mut K) -> Status
+fn run_plan<S: Source, K: Sink>(
+    alloc: Global,
+    plan: Plan,
+    late: Lateness,
+    input: &mut S,
+    out: &mut K,
+) -> Status
     requires compiled { IsCompiled plan }
+    requires low { pos 0 ≤ℤ late.slack }
+    requires high { late.slack ≤ℤ pos number_limit }
     requires not_ended { (S.state input.old).ended ≡ false }
-    ensures { Ran (IsPlanRun plan)
+    ensures { Ran (IsPlanRun plan (lateness late.slack late.rule))
         (outside (S.state input.old) (K.state out.old))
         (outside (S.state input.new) (K.state out.new))
         (ending result) }
@@ -59,26 +66,30 @@ fn run_plan<S: Source, K: Sink>(alloc: Global, plan: Plan, input: &mut S, out: &
     let Ok(plan) = shared(alloc, plan) else {
         return Status::Memory;
     };
-    let Ok(given) = read_input(alloc, &plan, input) else {
+    let Ok(given) = read_events(alloc, &plan, late, input) else {
         return Status::Memory;
     };
     match write_windows(alloc, &plan, &given, out) {
-        Ok(Written::All) => status_of(given.stop),
+        Ok(Written::All) => given.status,
         Ok(Written::Failed) => Status::Write,
         Err(_) => Status::Memory,
     }
 }
 
-/// Runs the query that stands there over the input, window by window.
+/// Runs the query that stands there over the input, window by window. The slack is at most the greatest time.
 pub fn plain<S: Source, F: Files, K: Sink>(
     alloc: Global,
     place: Place,
+    late: Lateness,
     input: &mut S,
     files: &mut F,
     out: &mut K,
 ) -> Status
+    requires low { pos 0 ≤ℤ late.slack }
+    requires high { late.slack ≤ℤ pos number_limit }
     requires not_ended { (S.state input.old).ended ≡ false }
-    ensures { Served (files_at (place_of place.entry)) (RunOutcome (place_of place.entry))
+    ensures { Served (files_at (place_of place.entry))
+        (RunOutcome (place_of place.entry) (lateness late.slack late.rule))
         (filed (F.held files.old) (F.faults files.old))
         (filed (F.held files.new) (F.faults files.new))
         (outside (S.state input.old) (K.state out.old))
@@ -86,7 +97,7 @@ pub fn plain<S: Source, F: Files, K: Sink>(
         (ending result) }
 {
     match plan_at(alloc, place, files) {
-        Ok(plan) => run_plan(alloc, plan, input, out),
+        Ok(plan) => run_plan(alloc, plan, late, input, out),
         Err(refusal) => status_of_refusal(refusal),
     }
 }

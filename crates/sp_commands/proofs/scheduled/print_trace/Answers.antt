@@ -1,4 +1,4 @@
-use Rattle.std.proofs.Common.{refl, List, ℕ, subst}
+use Rattle.std.proofs.Common.{refl, subst}
 use Rattle.sp_io.specs.Outside.{SinkState}
 use Rattle.sp_trace.specs.Traced.{Tracing, lines_from, joined}
 use Rattle.sp_answer.specs.Written.{WritesText}
