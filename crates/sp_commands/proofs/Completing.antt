@@ -158,20 +158,24 @@ module _ (P : List ℕ → Bool → Outcome → Type 0) (old new : Outside) (way
         no_read (ran.read_fault (exact ∙ here ∙ going))
 
     -- where it has ended, all of it was taken
-    ended_done : new.input.ended ≡ true → end.status ≡ ran.outcome.status → Grew old.out.held ran.outcome.text new.out.held → IsDone (λ events. T events End) way bytes old new (number_of end.status)
+    ended_done : new.input.ended ≡ true → end.status ≡ ran.outcome.status → Grew old.out.held ran.outcome.text new.out.held → (end.status ≡ (way bytes true).status) × IsDone (λ events. T events End) way bytes old new (number_of end.status)
     ended_done ended exact grew =
         let all = gave_all bytes ran.taken new.input.left gave (used_up ended) in
         let is : ran.outcome ≡ reading_outcome way T bytes true = outcome_is ∙ ap (reading_outcome way T ran.taken) ended ∙ ap (λ (b : List ℕ). reading_outcome way T b true) all.0 in
-        record {
-          number = ap number_of (exact ∙ ap (λ (o : Outcome). o.status) is) ∙ done;
-          nothing_left = all.1;
-          text = subst (λ (l : List ℕ). Grew old.out.held l new.out.held) (ap (λ (o : Outcome). o.text) is ∙ whole_text_is) grew;
-        }
+        let status = exact ∙ ap (λ (o : Outcome). o.status) is in (
+          status,
+          record {
+            number = ap number_of status ∙ done;
+            nothing_left = all.1;
+            text = subst (λ (l : List ℕ). Grew old.out.held l new.out.held) (ap (λ (o : Outcome). o.text) is ∙ whole_text_is) grew;
+          },
+        )
 
-    ran_done : IsDone (λ events. T events End) way bytes old new (number_of end.status) ⊎ (end.status ≡ Memory)
+    pub ran_done : ((end.status ≡ (way bytes true).status) × IsDone (λ events. T events End) way bytes old new (number_of end.status)) ⊎ (end.status ≡ Memory)
     ran_done = by (cut_by end.status) new.input.ended refl
       where
-        by : (end.status ≡ Memory) ⊎ ((end.status ≡ Write) ⊎ ((end.status ≢ Memory) × (end.status ≢ Write))) → (ended : Bool) → new.input.ended ≡ ended → IsDone (λ events. T events End) way bytes old new (number_of end.status) ⊎ (end.status ≡ Memory)
+        by : (end.status ≡ Memory) ⊎ ((end.status ≡ Write) ⊎ ((end.status ≢ Memory) × (end.status ≢ Write))) → (ended : Bool) → new.input.ended ≡ ended
+            → ((end.status ≡ (way bytes true).status) × IsDone (λ events. T events End) way bytes old new (number_of end.status)) ⊎ (end.status ≡ Memory)
         by (inl memory) ended is = inr memory
         by (inr (inl write)) ended is = absurd (no_write (ran.write_fault write).0)
         by (inr (inr neither)) true is =
@@ -184,7 +188,10 @@ module _ (P : List ℕ → Bool → Outcome → Type 0) (old new : Outside) (way
     answered_done end (by_memory memory same) = inr (ap (λ (e : Ending). e.status) memory)
     answered_done end (by_file fault) = absurd (no_load fault.name fault.own fault.rose)
     answered_done end (by_refusal refused) = absurd (not_refused end refused)
-    answered_done end (by_run ran) = ran_done end ran
+    answered_done end (by_run ran) = elim (ran_done end ran) [
+      | inl whole ↦ inl whole.1
+      | inr memory ↦ inr memory
+    ]
     answered_done end (by_itself made) = absurd (not_made end made)
 
     -- the same of the number that the program ends with

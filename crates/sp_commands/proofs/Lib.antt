@@ -1,6 +1,6 @@
 mod Alike
 mod AlikeTraces
-mod Bringing
+pub mod Bringing
 pub mod Came
 pub mod Completing
 pub mod Drills
@@ -9,6 +9,6 @@ mod LinesOf
 pub mod OneCommand
 mod OneOutcome
 mod OneRun
-mod Punctual
+pub mod Punctual
 pub mod Running
 mod Tracing
