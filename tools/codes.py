@@ -5,6 +5,7 @@ from collections import namedtuple
 TEXT = 'docs/language.md, "Why a text is refused"'
 QUERY = 'docs/language.md, "Why a query is refused"'
 INPUT = 'docs/formats.md, "Input"'
+LATE = 'docs/formats.md, "Late events"'
 COMMAND = 'docs/formats.md, "The command line"'
 SCHEDULES = 'docs/formats.md, "Schedules"'
 STEPS = 'docs/formats.md, "Printed steps"'
@@ -40,7 +41,7 @@ INPUT_CODES = {
     3: Meaning("no cell", "the row has too few cells", INPUT),
     4: Meaning("no number", "the cell is no number of its column's kind, or too great, or a time below 0", INPUT),
     5: Meaning("not UTF-8", "the cell of a text isn't UTF-8: in Latin-1, say, which `iconv -f latin1 -t utf-8` changes", INPUT),
-    6: Meaning("back in time", "the time is below that of the event before", INPUT),
+    6: Meaning("back in time", "the time is below that of the event before; with --slack D, below the greatest time before it less D", INPUT),
     7: Meaning("two records", "the row reads as two records: a carriage return without a line feed ends one, and so does a line feed behind an odd quote", INPUT),
     8: Meaning("long row", "the row has more than 65,536 bytes: mostly a quote that nothing closes", INPUT),
     9: Meaning("open quote", "the input ends inside the quotes of this row", INPUT),
@@ -65,6 +66,7 @@ STEP_CODES = {
 
 # The lines of the other statuses, without their numbers.
 STATUS_LINES = {
+    "late": Meaning("status 0", "so many events came too late and were passed over, as --late drop asks for", LATE),
     "memory": Meaning("status 1", "memory ran out; what was written is a beginning of the right text", STATUSES),
     "usage": Meaning("status 2", "the words are no command of the program, or a predictor's name isn't even, steady or markov; nothing was read", COMMAND),
     "read fault": Meaning("status 5", "reading failed: the input, or the file of the query or of the schedule", STATUSES),
