@@ -3,7 +3,6 @@ use Rattle.std.proofs.Common.{◌≡◌, ◌≤◌, ◌+◌, ℕ, List, [], leng
 use Rattle.std.specs.Prelude.{Option, Some, Result, IsErr, IfOk, IfSome}
 use Rattle.std.specs.declared.alloc.AllocError.{AllocError}
 use Rattle.sp_base.specs.Limits.{event_limit}
-use Rattle.sp_io.specs.Outside.{SourceState}
 use Rattle.sp_plan.specs.Compiled.{IsTimeOf}
 use Rattle.sp_plan.specs.Events.{AllFit, NeverGoesBack}
 use Rattle.sp_plan.specs.declared.event.Event.{Event}
@@ -14,41 +13,58 @@ use Rattle.sp_intake.specs.declared.input.LooseEvents.{LooseEvents}
 use Rattle.sp_intake.specs.Intake.{ReadsInput, ReadsLoose}
 use Rattle.sp_intake.specs.Loose.{Lateness, kept, loose}
 use Rattle.sp_intake.specs.ReadAll.{ReadsAll}
-use Rattle.sp_intake.specs.Standing.{Standing, Gives, HasRead, HasReadBy, ReadSoFar, ReadsFrom, Since, stop_in}
+use Rattle.sp_intake.specs.Standing.{RowsAt, RowsGive, HasRead, HasReadBy, Since, stop_in}
+use Rattle.sp_rows.specs.Progress.{plan_of}
+use Rattle.sp_intake.specs.Following.{ComeNext}
+use Rattle.sp_intake.specs.LooseLaws.{punctual}
+use Rattle.sp_intake.specs.Reader.{last_of}
+use Rattle.sp_intake.proofs.Since.{on_time_read}
 use Rattle.sp_intake.proofs.LooseGood.{kept_fit, kept_few}
 
 -- memory ran out behind these events
-pub short_all : (old new : Standing) (events : List Event) (result : Result InputEvents AllocError) → IsErr result → Gives old events new → ReadsAll old new result
+pub short_all : (old new : RowsAt) (events : List Event) (result : Result InputEvents AllocError) → IsErr result → RowsGive old events new → ReadsAll old new result
 short_all old new events (Ok given) failed gives = absurd (cc failed)
 short_all old new events (Err e) failed gives = record { events = events; gives = gives; given = tt; stop = tt }
 
 -- what was read to a stop is a reading of the input
-pub reads_input : (q : Plan) (before after : SourceState) (old new : Standing) (result : Result InputEvents AllocError) → ReadsFrom q before old → ReadsAll old new result → after ≡ new.source → ReadsInput q before after result
-reads_input q before after old new result from all is =
-    subst (λ (s : SourceState). ReadsInput q before s result) (sym is) (by result all.given all.stop)
+pub reads_input : (q : Plan) → IsTimeOf q.schema.columns q.schema.time → (old new : RowsAt) → Since q punctual old.source [] [] old → (result : Result InputEvents AllocError) → ReadsAll old new result → ReadsInput q old.source new.source result
+reads_input q timed old new since result all =
+    by result all.given all.stop
   where
-    far : ReadSoFar q before new.source all.events (stop_in new.state)
-    far = from all.events new all.gives
+    taken : List ℕ
+    taken = all.gives.0
 
-    by : (answer : Result InputEvents AllocError) → IfOk answer (λ given. given.events.items ≡ all.events) → IfOk answer (λ given. stop_in new.state ≡ Some given.stop) → ReadsInput q before new.source answer
+    behind : Since q punctual old.source taken all.events new
+    behind = all.gives.1.since q punctual old.source [] [] since
+
+    far : HasRead q old.source new.source taken all.events (stop_in new.state)
+    far = on_time_read q timed old.source new.source taken all.events (stop_in new.state) behind.has
+
+    next : ComeNext (plan_of old.reader.rows) (last_of old.reader) all.events (last_of new.reader)
+    next = all.gives.1.next since.lateness
+
+    fit : AllFit q all.events
+    fit = subst (λ (p : Plan). AllFit p all.events) since.plan next.fit
+
+    by : (answer : Result InputEvents AllocError) → IfOk answer (λ given. given.events.items ≡ all.events) → IfOk answer (λ given. stop_in new.state ≡ Some given.stop) → ReadsInput q old.source new.source answer
     by (Ok given) events stop =
-        let has = subst (λ (why : Option Stop). HasRead q before new.source far.taken all.events why) stop far.has in
+        let has = subst (λ (why : Option Stop). HasRead q old.source new.source taken all.events why) stop far in
         record {
-          taken = far.taken;
+          taken = taken;
           gave = has.gave;
           no_further = has.no_further;
           events = events ∙ has.all;
           stop = has.stop;
-          few = subst (λ (l : List Event). length l ≤ event_limit) (sym events) far.good.few;
-          fit = subst (AllFit q) (sym events) far.good.good.0;
-          ordered = subst NeverGoesBack (sym events) far.good.good.1;
+          few = subst (λ (l : List Event). length l ≤ event_limit) (sym events) all.gives.1.few;
+          fit = subst (AllFit q) (sym events) fit;
+          ordered = subst NeverGoesBack (sym events) next.ordered;
           fault = λ open_. has.fault (ap (λ (s : Stop). Some s) open_);
           told = λ rose. cc (has.told rose);
         }
     by (Err e) events stop = record {
-      taken = far.taken;
-      gave = far.has.gave;
-      no_further = far.has.no_further;
+      taken = taken;
+      gave = far.gave;
+      no_further = far.no_further;
       events = tt;
       stop = tt;
       few = tt;
@@ -60,7 +76,7 @@ reads_input q before after old new result from all is =
 
 -- ---- where events may come out of order
 
-module _ (q : Plan) (l : Lateness) (timed : IsTimeOf q.schema.columns q.schema.time) (old new : Standing) (since : Since q l old.source [] [] old) where
+module _ (q : Plan) (l : Lateness) (timed : IsTimeOf q.schema.columns q.schema.time) (old new : RowsAt) (since : Since q l old.source [] [] old) where
   module _ (result : Result InputEvents AllocError) (all : ReadsAll old new result) where
     behind : Since q l old.source all.gives.0 all.events new
     behind = all.gives.1.since q l old.source [] [] since

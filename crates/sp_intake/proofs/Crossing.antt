@@ -4,6 +4,7 @@ use denote.Struct.Declared.{shape}
 use denote.Ref.{NamedLft}
 use denote.RattleType.{RattleType}
 use Rattle.std.proofs.Crossing.{crosses}
+use Rattle.std.proofs.MapsCrossing.{BTreeMap-send}
 use Rattle.sp_plan.proofs.plan.Expr.TheLaws.TheKnot as expr_knot
 use Rattle.sp_plan.proofs.plan.Pred.TheLaws.TheKnot as pred_knot
 use Rattle.sp_plan.proofs.plan.Compare.TheSendSync as compare
@@ -18,6 +19,8 @@ use Rattle.sp_plan.specs.contracts.plan.Pred as pred
 use Rattle.sp_plan.specs.contracts.plan.Plan as plan
 use Rattle.sp_rows.specs.contracts.rows.Rows as rows
 use Rattle.sp_intake.specs.contracts.reader.RowReader as reader
+use Rattle.sp_slack.specs.contracts.slack.Slack as slack
+use Rattle.sp_intake.specs.contracts.held.Held as held
 use Rattle.sp_intake.specs.contracts.events.EventReader as events
 use Rattle.sp_intake.specs.contracts.giving.Input as input
 
@@ -49,8 +52,16 @@ reader_sent =
     struct_send (shape reader.the_type)
     (search (sendable, crosses) depth 30, (rows_sent, (search (sendable, crosses) depth 30, (search (sendable, crosses) depth 30, (search (sendable, crosses) depth 30, (search (sendable, crosses) depth 30, (search (sendable, crosses) depth 30, (search (sendable, crosses) depth 30, (search (sendable, crosses) depth 30, tt)))))))))
 
+slack_sent : IsSend slack.the_field.row
+slack_sent =
+    struct_send (shape slack.the_type)
+    (search (sendable, crosses) depth 30, (search (BTreeMap-send, sendable, crosses) depth 30, (search (sendable, crosses) depth 30, (search (sendable, crosses) depth 30, (search (sendable, crosses) depth 30, (search (sendable, crosses) depth 30, tt))))))
+
+held_sent : IsSend held.the_field.row
+held_sent = struct_send (shape held.the_type) (slack_sent, (search (sendable, crosses) depth 30, tt))
+
 events_sent : IsSend events.the_field.row
-events_sent = struct_send (shape events.the_type) (reader_sent, (search (sendable, crosses) depth 30, tt))
+events_sent = struct_send (shape events.the_type) (reader_sent, (search (held_sent, sendable, crosses) depth 30, (search (sendable, crosses) depth 30, tt)))
 
 pub input_sent : (l : NamedLft) (S : RattleType) → IsSend S → IsSend (input.the_row l S)
 input_sent l S sent =

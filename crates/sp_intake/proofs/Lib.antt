@@ -1,6 +1,8 @@
 pub mod AllGiven
 pub mod FitReading
 pub mod Gave
+pub mod HoldingBack
+pub mod InOrder
 pub mod Leading
 pub mod Suiting
 pub mod Since

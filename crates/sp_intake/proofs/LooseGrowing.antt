@@ -22,7 +22,7 @@ use Rattle.sp_intake.specs.Standing.{IsFront}
 use Rattle.sp_intake.proofs.LooseGood.{kept_timely}
 
 -- none of the events behind some is late where none of them all is
-timely_split : (slack : ℤ) (before xs ys : List Event) → AreTimely slack before (xs ++ ys) → AreTimely slack (before ++ xs) ys
+pub timely_split : (slack : ℤ) (before xs ys : List Event) → AreTimely slack before (xs ++ ys) → AreTimely slack (before ++ xs) ys
 timely_split slack before [] ys timely = subst (λ (l : List Event). AreTimely slack l ys) (sym (append-nil before)) timely
 timely_split slack before (x ∷ xs) ys timely = subst (λ (l : List Event). AreTimely slack l ys) (append_assoc before (x ∷ []) xs) (timely_split slack (before ++ x ∷ []) xs ys timely.1)
 

@@ -13,38 +13,39 @@ use Rattle.sp_cut.specs.CutRows.{CutRow}
 use Rattle.sp_cut.specs.Left.{Left, rows_left}
 use Rattle.sp_cut.specs.Answer.{Begins, with_more}
 use Rattle.sp_cut.specs.Growth.{RowsStay}
-use Rattle.sp_ports.specs.Giving.{AreGood}
 use Rattle.sp_ports.specs.declared.stop.Failure.{Failure}
 use Rattle.sp_ports.specs.declared.stop.Stop.{Stop}
 use Rattle.sp_ports.specs.declared.stop.Stop.TheVariants.{Failed, Open}
 use Rattle.sp_rows.specs.Progress.{plan_of, read_of}
-use Rattle.sp_slack.specs.HeldBack.{with_time}
+use Rattle.std.proofs.lemmas.List.Elements.{All-nil}
+use Rattle.sp_plan.specs.Events.{fits, AllFit}
+use Rattle.sp_slack.specs.HeldBack.{AreTimely, with_time}
 use Rattle.sp_intake.specs.declared.reader.State.{State}
 use Rattle.sp_intake.specs.declared.reader.State.TheVariants.{Going, Stopped, Broken}
 use Rattle.sp_intake.specs.Coming.{comes_to, ends_as, IsSettled, LeadsAs}
 use Rattle.sp_intake.specs.Following.{ComeNext}
 use Rattle.sp_intake.specs.Intake.{StopsInPiece, TakesNoFurther}
-use Rattle.sp_intake.specs.Laws.{reads_none, reads_more, gives_good}
+use Rattle.sp_intake.specs.Laws.{reads_none, reads_more}
 use Rattle.sp_intake.specs.Orderly.{same_next}
 use Rattle.sp_intake.specs.Loose.{Lateness, Loose, take_row, loose, kept}
 use Rattle.sp_intake.specs.LooseLaws.{punctual}
-use Rattle.sp_intake.specs.Reader.{Reader, WereGiven, last_of, time_or_nought, reading_of, Fails}
+use Rattle.sp_intake.specs.Reader.{Reader, AreCounted, WereGiven, last_of, time_or_nought, reading_of, Fails}
 use Rattle.sp_intake.specs.Reading.{Way, read, stop_of, stop_or, end_stop}
-use Rattle.sp_intake.specs.Standing.{Standing, going, stop_in, IsFront, HasRead, HasReadBy, Leads, Since, Reads, Gives, ReadsFrom}
+use Rattle.sp_intake.specs.Standing.{RowsAt, going, IsFront, HasRead, HasReadBy, Leads, Since, Reads, RowsGive}
 use Rattle.sp_intake.proofs.Gave.{gave_none, gave_more}
 use Rattle.sp_intake.proofs.Leading.{IsUnread, open_settled, settled_is, begins_still, fails_at, fed_leads, comes_to_end, unread_leads}
 use Rattle.sp_intake.proofs.LooseGrowing.{rows_grow}
 use Rattle.sp_intake.proofs.LooseReading.{loose_same}
 
 -- one step behind another
-pub gives_more : (a b c : Standing) (xs ys : List Event) → c.reader.given + c.reader.late ≤ event_limit → Gives a xs b → Gives b ys c → Gives a (xs ++ ys) c
-gives_more a b c xs ys small one two =
+pub rows_more : (a b c : RowsAt) (xs ys : List Event) → c.reader.given + c.reader.late ≤ event_limit → RowsGive a xs b → RowsGive b ys c → RowsGive a (xs ++ ys) c
+rows_more a b c xs ys small one two =
     (one.0 ++ two.0, reads_more a b c one.0 two.0 xs ys (omega (arith, length-append xs ys, one.1.count, two.1.count, small)) one.1 two.1)
 
 -- a step that gives nothing, behind others
-pub gives_still : (a b c : Standing) (xs : List Event) → Gives a xs b → Gives b [] c → Gives a xs c
-gives_still a b c xs one two =
-    subst (λ (events : List Event). Gives a events c) (append-nil xs)
+pub rows_still : (a b c : RowsAt) (xs : List Event) → RowsGive a xs b → RowsGive b [] c → RowsGive a xs c
+rows_still a b c xs one two =
+    subst (λ (events : List Event). RowsGive a events c) (append-nil xs)
     (one.0 ++ two.0, reads_more a b c one.0 two.0 xs [] (omega (arith, length-append xs [], one.1.few)) one.1 two.1)
 
 -- one piece was read behind bytes that had not stopped the reading
@@ -70,7 +71,7 @@ front_itself : (events : List Event) → IsFront events events
 front_itself events = ([], sym (append-nil events))
 
 -- what an input that goes on has given comes first among what the bytes taken give
-leads_front : (q : Plan) (l : Lateness) (taken : List ℕ) (events : List Event) (now : Standing) → Leads q l taken events now → IsFront events (kept q l taken now.source.ended).events
+leads_front : (q : Plan) (l : Lateness) (taken : List ℕ) (events : List Event) (now : RowsAt) → Leads q l taken events now → IsFront events (kept q l taken now.source.ended).events
 leads_front q l taken events now leads = by now.reader.cutter.ended refl
   where
     own : Plan
@@ -93,23 +94,33 @@ given_more old new first events given leads = record {
   latest = fold-append with_time None first events ∙ ap (λ (t : Option ℤ). fold with_time t events) given.latest ∙ sym leads.latest;
 }
 
+-- no more events
+same_given : (many : ℕ) (last : Option ℤ) (first : List Event) → AreCounted first many last → AreCounted (first ++ []) many last
+same_given many last first = subst (λ (events : List Event). AreCounted events many last) (sym (append-nil first))
+
+given_still : (old new : Reader) → new.given ≡ old.given → new.greatest ≡ old.greatest → (first : List Event) → WereGiven first old → WereGiven (first ++ []) new
+given_still old new count latest first were = same_given new.given new.greatest first (record { count = were.count ∙ sym count; latest = were.latest ∙ sym latest })
+
 -- a count that did not rise
 quiet : {P : Type 0} (before now next : ℕ) → (before < now → P) → next ≡ now → before < next → P
 quiet before now next told same rose = told (omega (arith, rose, same))
 
 -- no byte more was taken
-untaken : (q : Plan) (l : Lateness) (origin : SourceState) (taken : List ℕ) (events : List Event) (now : Standing) → Since q l origin taken events now → Since q l origin (taken ++ []) events now
+untaken : (q : Plan) (l : Lateness) (origin : SourceState) (taken : List ℕ) (events : List Event) (now : RowsAt) → Since q l origin taken events now → Since q l origin (taken ++ []) events now
 untaken q l origin taken events now = subst (λ (bytes : List ℕ). Since q l origin bytes events now) (sym (append-nil taken))
 
 -- an input that goes on and its rows: events were given, and the source was not asked
 module _ (source : SourceState) (old new : Reader) (events : List Event) where
-  pub reads_events : LeadsAs events old new → (old.lateness ≡ punctual → ComeNext (plan_of old.rows) (last_of old) events (last_of new)) → length events ≤ event_limit
+  pub reads_events : LeadsAs events old new → AllFit (plan_of old.rows) events → ((first : List Event) → WereGiven first old → AreTimely old.lateness.slack first events) → (old.lateness ≡ punctual → ComeNext (plan_of old.rows) (last_of old) events (last_of new)) → length events ≤ event_limit
       → Reads (going source old) [] events (going source new)
-  reads_events leads next few = record {
+  reads_events leads fit timely next few = record {
     plan = leads.plan;
     lateness = leads.lateness;
     count = leads.count;
     few = few;
+    fit = fit;
+    timely = timely;
+    were = λ first were. given_more old new first events were leads;
     next = next;
     since = λ q l origin taken first since.
         let was = since.leads refl in
@@ -146,6 +157,9 @@ module _ (source : SourceState) (old new : Reader) where
     lateness = lateness;
     count = omega (arith, count);
     few = omega arith;
+    fit = All-nil (λ x. fits (plan_of old.rows) x ≡ true);
+    timely = λ first were. tt;
+    were = given_still old new count latest;
     next = λ on_time. same_next (plan_of old.rows) (last_of old) (last_of new) (ap time_or_nought latest);
     since = λ q l origin taken first since. untaken q l origin taken (first ++ []) (record { source = source; state = Broken; reader = new }) (record {
       plan = plan ∙ since.plan;
@@ -171,7 +185,7 @@ closed_end None = λ is. cc
 closed_end (Some places) = λ is. cc
 
 -- a settled input has read what its bytes give
-pub settled_read : (q : Plan) (l : Lateness) (taken : List ℕ) (events : List Event) (now : Standing) → Leads q l taken events now → IsSettled now.reader → reading_of events now.reader ≡ loose q l taken now.source.ended
+pub settled_read : (q : Plan) (l : Lateness) (taken : List ℕ) (events : List Event) (now : RowsAt) → Leads q l taken events now → IsSettled now.reader → reading_of events now.reader ≡ loose q l taken now.source.ended
 settled_read q l taken events now leads settled = by now.reader.cutter.ended refl
   where
     by : (ended : Bool) → now.reader.cutter.ended ≡ ended → reading_of events now.reader ≡ loose q l taken now.source.ended
@@ -180,7 +194,7 @@ settled_read q l taken events now leads settled = by now.reader.cutter.ended ref
     by true is = sym (settled_is now.reader events settled) ∙ leads.ends is ∙ ap (loose q l taken) (sym (leads.ended ∙ is))
 
 -- an input whose next row stops the reading has with that row read what its bytes give
-failed_read : RowsStay → (q : Plan) (l : Lateness) (taken : List ℕ) (events : List Event) (now : Standing) (next : CutRow) → Leads q l taken events now → Begins now.reader.cutter next
+failed_read : RowsStay → (q : Plan) (l : Lateness) (taken : List ℕ) (events : List Event) (now : RowsAt) (next : CutRow) → Leads q l taken events now → Begins now.reader.cutter next
     → is_some (take_row (plan_of now.reader.rows) now.reader.lateness (reading_of events now.reader) next).reading.stopped ≡ true
     → take_row (plan_of now.reader.rows) now.reader.lateness (reading_of events now.reader) next ≡ loose q l taken now.source.ended
 failed_read stay q l taken events now next leads begins stopped = by now.reader.cutter.ended refl
@@ -209,9 +223,12 @@ module _ (source : SourceState) (reader : Reader) (stop : Stop) where
     lateness = refl;
     count = omega arith;
     few = omega arith;
+    fit = All-nil (λ x. fits (plan_of reader.rows) x ≡ true);
+    timely = λ first were. tt;
+    were = same_given reader.given reader.greatest;
     next = λ on_time. same_next (plan_of reader.rows) (last_of reader) (last_of reader) refl;
     since = λ q l origin taken first since.
-        let now : Standing = going source reader in
+        let now : RowsAt = going source reader in
         let was = since.leads refl in
         let same = settled_read q l taken first now was settled in
         let events = append-nil first in
@@ -250,6 +267,9 @@ module _ (source : SourceState) (old new : Reader) (next : CutRow) (failure : Fa
     lateness = still.lateness;
     count = omega (arith, still.given);
     few = omega arith;
+    fit = All-nil (λ x. fits (plan_of old.rows) x ≡ true);
+    timely = λ first were. tt;
+    were = given_still old new still.given still.greatest;
     next = λ on_time. same_next (plan_of old.rows) (last_of old) (last_of new) (ap time_or_nought still.greatest);
     since = λ q l origin taken first since.
         let was = since.leads refl in
@@ -286,7 +306,7 @@ rose_since before now next le rose = elim rose [
 ]
 
 -- what was read of an input that asks for bytes goes on
-pub read_goes : (q : Plan) (l : Lateness) (taken : List ℕ) (events : List Event) (now : Standing) → Leads q l taken events now → IsSettled now.reader → now.reader.cutter.ended ≡ false → (kept q l taken false).stopped ≡ None
+pub read_goes : (q : Plan) (l : Lateness) (taken : List ℕ) (events : List Event) (now : RowsAt) → Leads q l taken events now → IsSettled now.reader → now.reader.cutter.ended ≡ false → (kept q l taken false).stopped ≡ None
 read_goes q l taken events now leads settled open_ = sym (ap (λ (r : Loose). r.reading.stopped) (settled_read q l taken events now leads settled ∙ ap (loose q l taken) (leads.ended ∙ open_)))
 
 -- no row is left, and the input goes on: so the source is asked
@@ -299,9 +319,12 @@ module _ (source next : SourceState) (reader : Reader) (settled : IsSettled read
     lateness = refl;
     count = omega arith;
     few = omega arith;
+    fit = All-nil (λ x. fits (plan_of reader.rows) x ≡ true);
+    timely = λ first were. tt;
+    were = same_given reader.given reader.greatest;
     next = λ on_time. same_next (plan_of reader.rows) (last_of reader) (last_of reader) refl;
     since = λ q l origin before first since.
-        let now : Standing = going source reader in
+        let now : RowsAt = going source reader in
         let was = since.leads refl in
         let taken = before ++ [] in
         let bytes = append-nil before in
@@ -337,6 +360,9 @@ module _ (source next : SourceState) (reader : Reader) (settled : IsSettled read
       lateness = refl;
       count = omega arith;
       few = omega arith;
+      fit = All-nil (λ x. fits (plan_of reader.rows) x ≡ true);
+      timely = λ first were. tt;
+      were = same_given reader.given reader.greatest;
       next = λ on_time. same_next (plan_of reader.rows) (last_of reader) (last_of reader) refl;
       since = λ q l origin before first since.
           let was = since.leads refl in
@@ -375,6 +401,9 @@ module _ (source next : SourceState) (reader : Reader) (settled : IsSettled read
       lateness = refl;
       count = omega arith;
       few = omega arith;
+      fit = All-nil (λ x. fits (plan_of reader.rows) x ≡ true);
+      timely = λ first were. tt;
+      were = same_given reader.given reader.greatest;
       next = λ on_time. same_next (plan_of reader.rows) (last_of reader) (last_of reader) refl;
       since = λ q l origin before first since.
           let was = since.leads refl in
@@ -408,6 +437,9 @@ module _ (source next : SourceState) (reader : Reader) (settled : IsSettled read
     lateness = refl;
     count = omega arith;
     few = omega arith;
+    fit = All-nil (λ x. fits (plan_of reader.rows) x ≡ true);
+    timely = λ first were. tt;
+    were = same_given reader.given reader.greatest;
     next = λ on_time. same_next (plan_of reader.rows) (last_of reader) (last_of reader) refl;
     since = λ q l origin before first since.
         let was = since.leads refl in
@@ -442,7 +474,7 @@ module _ (source next : SourceState) (reader : Reader) (settled : IsSettled read
 -- an input of which nothing was read
 pub unread : (q : Plan) (l : Lateness) (source : SourceState) (reader : Reader) → source.ended ≡ false → IsUnread q l reader → Since q l source [] [] (going source reader)
 unread q l source reader opens none =
-    let first : Standing = going source reader in
+    let first : RowsAt = going source reader in
     let open_ : reader.cutter.ended ≡ false = ap (λ (c : Left). c.ended) none.cutter in
     let on : Leads q l [] [] first = record {
       given = record { count = sym none.given; latest = sym none.greatest };
@@ -495,22 +527,12 @@ module _ (q : Plan) (timed : IsTimeOf q.schema.columns q.schema.time) where
         never_falls = has.never_falls;
       }
 
-  -- what is given of it was read of its source
-  pub reads_from : (first : Standing) → Since q punctual first.source [] [] first → ReadsFrom q first.source first
-  reads_from first since events last gives =
-      let all = gives.1.since q punctual first.source [] [] since in
-      record {
-        taken = gives.0;
-        has = on_time_read first.source last.source gives.0 events (stop_in last.state) all.has;
-        good = subst (λ (p : Plan). AreGood p events) since.plan (gives_good first last events since.lateness gives);
-      }
-
 -- a row was found or not, which changes nothing
 pub reads_same : (source : SourceState) (reader : Reader) (cutter : Left) → cutter ≡ reader.cutter → Reads (going source reader) [] [] (going source (record reader { cutter = cutter }))
 reads_same source reader cutter is = subst (λ (l : Left). Reads (going source reader) [] [] (going source (record reader { cutter = l }))) (sym is) (reads_none (going source reader))
 
 -- what an input gives that goes on
-pub reads_going : (state : State) → state ≡ Going → (source : SourceState) (reader : Reader) (bytes : List ℕ) (events : List Event) (new : Standing) → Reads (going source reader) bytes events new
+pub reads_going : (state : State) → state ≡ Going → (source : SourceState) (reader : Reader) (bytes : List ℕ) (events : List Event) (new : RowsAt) → Reads (going source reader) bytes events new
     → Reads (record { source = source; state = state; reader = reader }) bytes events new
 reads_going state is source reader bytes events new = subst (λ (s : State). Reads (record { source = source; state = s; reader = reader }) bytes events new) (sym is)
 

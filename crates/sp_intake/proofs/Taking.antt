@@ -8,7 +8,7 @@ use Rattle.std.proofs.lemmas.Bool.{eq-eqb, ne_eqb}
 use Rattle.std.proofs.lemmas.List.{append-nil}
 use Rattle.sp_base.specs.Limits.{event_limit}
 use Rattle.sp_io.specs.Outside.{SourceState}
-use Rattle.sp_plan.specs.Events.{fits}
+use Rattle.sp_plan.specs.Events.{fits, AllFit}
 use Rattle.sp_plan.specs.declared.event.Event.{Event}
 use Rattle.sp_plan.specs.declared.plan.Plan.{Plan}
 use Rattle.sp_cut.specs.declared.span.Span.{Span}
@@ -26,7 +26,7 @@ use Rattle.sp_rows.specs.declared.rows.Rows.{Rows}
 use Rattle.sp_rows.specs.Codes.{code_of}
 use Rattle.sp_rows.specs.Progress.{plan_of, is_loose, read_of, Answers}
 use Rattle.sp_rows.specs.Rows.{RowsRead, RowResult, nothing, event, refused, row_result, given_if, time_place_in}
-use Rattle.sp_slack.specs.HeldBack.{with_time, before, is_before, is_late}
+use Rattle.sp_slack.specs.HeldBack.{AreTimely, with_time, before, is_before, is_late}
 use Rattle.sp_slack.specs.declared.late.LateRule.{LateRule}
 use Rattle.sp_slack.specs.declared.late.LateRule.TheVariants.{Refuse, Drop}
 use Rattle.sp_intake.specs.declared.reader.Step.{Step}
@@ -249,11 +249,11 @@ module _ (stay : RowsStay) (source : SourceState) (old new : Reader) (next : Cut
 -- a row was taken
 module _ (source : SourceState) (old new : Reader) (mid : Left) (span : Span) (bytes : List ℕ) (given : List Event) where
   pub reads_row : mid ≡ old.cutter → bytes ≡ bytes_at mid span → GivesRow mid (bytes_at mid span) new.cutter → plan_of new.rows ≡ plan_of old.rows → new.lateness ≡ old.lateness → new.given ≡ old.given + length given
-      → new.greatest ≡ fold with_time old.greatest given → TakesRow (row bytes) given old new
+      → new.greatest ≡ fold with_time old.greatest given → AllFit (plan_of old.rows) given → ((first : List Event) → WereGiven first old → AreTimely old.lateness.slack first given) → TakesRow (row bytes) given old new
       → (old.lateness ≡ punctual → ComeNext (plan_of old.rows) (last_of old) given (last_of new)) → length given ≤ event_limit → Reads (going source old) [] given (going source new)
-  reads_row same is gives plan lateness count latest takes comes few =
+  reads_row same is gives plan lateness count latest fit timely takes comes few =
       let at = gives_at old.cutter mid new.cutter span bytes same is gives in
-      reads_events source old new given (taken_leads old new (row bytes) given plan lateness count latest takes at.ended at.first at.coming) comes few
+      reads_events source old new given (taken_leads old new (row bytes) given plan lateness count latest takes at.ended at.first at.coming) fit timely comes few
 
 -- no row is left: at the end of the input it stops, and else it asks
 module _ (source : SourceState) (old : Reader) (put : Option Event) where

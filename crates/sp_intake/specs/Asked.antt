@@ -1,5 +1,6 @@
 -- How a reader of events stands, and what it answers.
 use Rattle.std.specs.Prelude.{◌≡◌, false, Option, Some, None, if◌then◌else◌}
+use Rattle.std.specs.Option.{option_map}
 use Rattle.sp_io.specs.Outside.{SourceState}
 use Rattle.sp_plan.specs.declared.plan.Plan.{Plan}
 use Rattle.sp_ports.specs.Stopping.{is_end}
@@ -7,33 +8,13 @@ use Rattle.sp_ports.specs.declared.intake.Next.{Next}
 use Rattle.sp_ports.specs.declared.intake.Next.TheVariants as next
 use Rattle.sp_rows.specs.Progress.{plan_of}
 use Rattle.sp_intake.specs.declared.events.EventReader.{EventReader}
-use Rattle.sp_intake.specs.declared.reader.RowReader.{RowReader}
 use Rattle.sp_intake.specs.declared.reader.State.{State}
 use Rattle.sp_intake.specs.declared.reader.State.TheVariants.{Going, Stopped, Broken}
+use Rattle.sp_intake.specs.InOrder.{ReadsInOrder, AsksInOrder}
 use Rattle.sp_intake.specs.Loose.{Lateness}
 use Rattle.sp_intake.specs.Pieces.{AsksFrom}
-use Rattle.sp_intake.specs.Reader.{Reader}
-use Rattle.sp_intake.specs.Standing.{Standing, ReadsFrom, IsHungry}
-
--- when an event of the rows is late
-abbrev pub lateness_of : RowReader → Lateness
-lateness_of rows = record { slack = rows.slack; rule = rows.rule }
-
--- where it stands
-abbrev pub reader_of : RowReader → Reader
-reader_of rows = record {
-  cutter = rows.cutter;
-  rows = rows.rows;
-  count = rows.count;
-  given = rows.given;
-  late = rows.late;
-  greatest = rows.greatest;
-  lateness = lateness_of rows;
-}
-
--- how rows stand whose source is in this state
-abbrev pub rows_standing : SourceState → RowReader → Standing
-rows_standing source rows = record { source = source; state = rows.state; reader = reader_of rows }
+use Rattle.sp_intake.specs.RowsSeen.{rows_at, held_of, IsAsking}
+use Rattle.sp_intake.specs.Standing.{Standing, ReadsFrom, IsIdle, seen, with_held}
 
 -- the plan whose columns are read
 abbrev pub plan_in : EventReader → Plan
@@ -41,7 +22,11 @@ plan_in events = plan_of events.rows.rows
 
 -- how an input stands whose source is in this state
 abbrev pub standing : SourceState → EventReader → Standing
-standing source events = rows_standing source events.rows
+standing source events = with_held (rows_at source events.rows) (option_map held_of events.held)
+
+-- whether its input goes on
+abbrev pub state_in : EventReader → State
+state_in events = seen (option_map held_of events.held) events.rows.state
 
 -- nothing was read yet: whatever source comes, what is given is read of it
 abbrev pub IsFresh : Plan → EventReader → Type 0
@@ -51,10 +36,17 @@ IsFresh q events = (source : SourceState) → source.ended ≡ false → ReadsFr
 abbrev pub IsUnasked : Plan → EventReader → Type 0
 IsUnasked q events = (source : SourceState) → source.ended ≡ false → AsksFrom q source (standing source events)
 
--- it goes on, and asks for bytes
-pub record IsAsking (rows : RowReader) : Type 0 where
-  pub going : rows.state ≡ Going
-  pub hungry : IsHungry (reader_of rows)
+-- the same where events may come out of order
+abbrev pub IsFreshWithin : Plan → Lateness → EventReader → Type 0
+IsFreshWithin q l events = (source : SourceState) → source.ended ≡ false → ReadsInOrder q l source (standing source events)
+
+abbrev pub IsUnaskedWithin : Plan → Lateness → EventReader → Type 0
+IsUnaskedWithin q l events = (source : SourceState) → source.ended ≡ false → AsksInOrder q l source (standing source events)
+
+-- it goes on, has given all that is to be given so far, and asks for bytes
+pub record IsWaiting (events : EventReader) : Type 0 where
+  pub rows : IsAsking events.rows
+  pub idle : IsIdle (option_map held_of events.held)
 
 -- what an input answers at each call, where it gives no more
 abbrev pub last_answer : State → Option Next

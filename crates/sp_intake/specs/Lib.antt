@@ -8,6 +8,8 @@ pub mod Coming
 pub mod Intake
 pub mod Standing
 pub mod Pieces
+pub mod RowsSeen
+pub mod InOrder
 pub mod Asked
 pub mod ReadAll
 pub mod Laws

@@ -7,11 +7,12 @@ use Rattle.sp_plan.specs.declared.plan.Plan.{Plan}
 use Rattle.sp_cut.specs.CutRows.{CutRow, row, long_row, open_quote, rows}
 use Rattle.sp_rows.specs.Rows.{RowsRead, RowResult, nothing, event, refused, row_result, given_if, time_place_in}
 use Rattle.sp_rows.specs.Codes.{code_of}
-use Rattle.sp_slack.specs.HeldBack.{is_late}
+use Rattle.sp_slack.specs.HeldBack.{is_late, slacked}
 use Rattle.sp_slack.specs.declared.late.LateRule.{LateRule}
 use Rattle.sp_slack.specs.declared.late.LateRule.TheVariants.{Refuse, Drop}
 use Rattle.sp_ports.specs.declared.stop.Failure.TheVariants.{Row, Limit}
-use Rattle.sp_intake.specs.Reading.{Reading, Way, stopped_by, without_row}
+use Rattle.sp_ports.specs.Stopping.{is_end}
+use Rattle.sp_intake.specs.Reading.{Reading, Way, stop_of, stopped_by, without_row}
 use Rattle.sp_intake.specs.Reading as strict
 
 -- how far behind the greatest time before it an event may come, and what becomes of one that comes later
@@ -74,3 +75,7 @@ loose q l bytes ended = fold (take_row q l) (start q) (rows bytes ended)
 -- the events that were kept, as a way of reading
 abbrev pub kept : Plan → Lateness → Way
 kept q l bytes ended = (loose q l bytes ended).reading
+
+-- What is to be given of those that were kept, as a way of reading: all of them, by time, once the input was read to its end.
+abbrev pub in_order : Plan → Lateness → Way
+in_order q l bytes ended = record (kept q l bytes ended) { events = slacked l.slack (kept q l bytes ended).events (is_end (stop_of (kept q l bytes ended) ended)) }

@@ -1,6 +1,6 @@
 ghost use Rattle.std.specs.Prelude.{◌≡◌};
-ghost use Rattle.sp_intake.specs.Asked.{rows_standing, IsAsking};
-ghost use Rattle.sp_intake.specs.Pieces.{TakesPiece};
+ghost use Rattle.sp_intake.specs.RowsSeen.{rows_at, IsAsking};
+ghost use Rattle.sp_intake.specs.Pieces.{RowsTake};
 ghost use Rattle.sp_intake.specs.ReadAll.{ReadsAll};
 
 use crate::input::InputEvents;
@@ -13,8 +13,8 @@ use std::alloc::{AllocError, Global};
 // Asks the source for a piece, which the rows are read of next.
 fn ask<S: Source>(rows: &mut RowReader, piece: &mut [u8; PIECE_LIMIT], input: &mut S)
     requires asks { IsAsking rows.old }
-    ensures takes { TakesPiece (rows_standing (S.state input.old) rows.old)
-        (rows_standing (S.state input.new) rows.new) }
+    ensures takes { RowsTake (rows_at (S.state input.old) rows.old)
+        (rows_at (S.state input.new) rows.new) }
 {
     let read = input.read(piece);
     rows.take(piece, read);
@@ -27,8 +27,8 @@ pub(crate) fn read_all<S: Source>(
     rows: &mut RowReader,
     input: &mut S,
 ) -> Result<InputEvents, Memory>
-    ensures all { ReadsAll (rows_standing (S.state input.old) rows.old)
-        (rows_standing (S.state input.new) rows.new) result }
+    ensures all { ReadsAll (rows_at (S.state input.old) rows.old)
+        (rows_at (S.state input.new) rows.new) result }
 {
     let mut piece = [0; PIECE_LIMIT];
     let mut events = Vec::new(alloc);

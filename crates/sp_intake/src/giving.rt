@@ -1,7 +1,7 @@
-ghost use Rattle.std.specs.Prelude.{◌≡◌};
+ghost use Rattle.std.specs.Prelude.{◌≡◌, []};
 ghost use Rattle.sp_intake.specs.Standing.{Gives, stop_in, is_whole};
 ghost use Rattle.sp_intake.specs.Pieces.{Asked};
-ghost use Rattle.sp_intake.specs.Asked.{standing, IsAsking};
+ghost use Rattle.sp_intake.specs.Asked.{standing, state_in, IsWaiting};
 
 use crate::events::EventReader;
 use sp_base::limits::PIECE_LIMIT;
@@ -52,25 +52,25 @@ impl<'a, S: Source> Intake for Input<'a, S> {
 
     ghost token = { λ input. input.source.ghost_name };
 
-    ghost ended = { λ input. is_whole (stop_in input.events.rows.state) };
+    ghost ended = { λ input. is_whole (stop_in (state_in input.events)) };
 
     ghost stops = { λ input. input.events.stops };
 
-    ghost cause = { λ input. stop_in input.events.rows.state };
+    ghost cause = { λ input. stop_in (state_in input.events) };
 
     ghost gave = { λ old events new. Gives (standing (S.state old.source.now) old.events) events (standing (S.state new.source.now) new.events) };
 
-    ghost gave_none = { λ input. law.gives_none (standing (S.state input.source.now) input.events) };
+    ghost gave_none = { λ input. ([], law.gives_none (standing (S.state input.source.now) input.events) (law.sound_in (S.state input.source.now) input.events)) };
 
-    ghost good = { λ old events new gave. law.gives_good (standing (S.state old.source.now) old.events) (standing (S.state new.source.now) new.events) events old.events.on_time gave };
+    ghost good = { λ old events new gave. law.gives_good (standing (S.state old.source.now) old.events) (standing (S.state new.source.now) new.events) events (law.holds_in old.events) new.events.rows.few gave };
 
     ghost asked = { λ old before events new. Asked (standing (S.state old.source.now) old.events) before events (standing (S.state new.source.now) new.events) };
 
-    ghost asked_none = { λ input. law.asked_none (standing (S.state input.source.now) input.events) };
+    ghost asked_none = { λ input. law.asked_none (standing (S.state input.source.now) input.events) (law.sound_in (S.state input.source.now) input.events) };
 
     ghost asked_gave = { λ old before events new asked. law.asked_gives (standing (S.state old.source.now) old.events) before events (standing (S.state new.source.now) new.events) asked };
 
-    ghost must_ask = { λ input. IsAsking input.events.rows };
+    ghost must_ask = { λ input. IsWaiting input.events };
 
     fn next(&mut self, alloc: Global) -> Next {
         for _ in 0..u64::MAX {

@@ -1,11 +1,13 @@
 //! The reading of the input: rows from a source, piece by piece, up to its end, to the first row that fails, to a
 //! limit or to a fault of the source. What bytes give stands in `specs/Reading.antt`, what a reading took and left
-//! in `specs/Intake.antt`; what they give where events may come out of order in `specs/Loose.antt`.
+//! in `specs/Intake.antt`; what they give where events may come out of order in `specs/Loose.antt`, and what an input
+//! gives of these in the order of time in `specs/InOrder.antt`.
 #![tactic(auto)]
 
 mod all;
 mod events;
 mod giving;
+mod held;
 mod input;
 mod law;
 mod reader;

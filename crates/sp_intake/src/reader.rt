@@ -1,4 +1,4 @@
-ghost use Rattle.std.specs.Prelude.{◌≡◌, ◌≤◌, ◌+◌, pos, ◌≤ℤ◌, [], true, false, Ok, Some, None, IsSome, IsErr, OnErr, length, IfOk, if◌then◌else◌};
+ghost use Rattle.std.specs.Prelude.{◌≡◌, ◌≤◌, ◌<◌, ◌+◌, ◌-◌, pos, ◌≤ℤ◌, [], true, false, Ok, Some, None, IsSome, IsErr, OnErr, length, IfOk, if◌then◌else◌};
 ghost use Rattle.std.specs.Arc.{arc_value};
 ghost use Rattle.std.specs.Option.{ForSome};
 ghost use Rattle.sp_base.specs.Limits.{event_limit, number_limit};
@@ -81,8 +81,8 @@ pub(crate) struct RowReader {
 
 impl RowReader {
     ghost use Rattle.sp_intake.specs.Standing.{Reads, Since, WasRead, going, IsHungry, stop_in, is_whole, given_in, given_after, state_after};
-    ghost use Rattle.sp_intake.specs.Pieces.{TakesPiece};
-    ghost use Rattle.sp_intake.specs.Asked.{lateness_of, reader_of, rows_standing, IsAsking};
+    ghost use Rattle.sp_intake.specs.Pieces.{RowsTake};
+    ghost use Rattle.sp_intake.specs.RowsSeen.{lateness_of, reader_of, rows_at, IsAsking};
     ghost use Rattle.sp_intake.specs.Reader.{Fails, fate};
     ghost use Rattle.sp_intake.specs.Reading.{end_stop};
     ghost use Rattle.sp_rows.specs.Progress.{plan_of, read_of};
@@ -100,10 +100,13 @@ impl RowReader {
         requires high { slack ≤ℤ pos number_limit }
         ensures since { IfOk result (λ rows. (source : SourceState) → source.ended ≡ false
             → Since (arc_value plan.now) (record { slack = slack; rule = rule }) source [] []
-            (rows_standing source rows)) }
+            (rows_at source rows)) }
         ensures plan { IfOk result (λ rows. plan_of rows.rows ≡ arc_value plan.now) }
         ensures lateness { IfOk result (λ rows.
             lateness_of rows ≡ record { slack = slack; rule = rule }) }
+        ensures state { IfOk result (λ rows. rows.state ≡ Going) }
+        ensures given { IfOk result (λ rows. rows.given ≡ 0) }
+        ensures greatest { IfOk result (λ rows. rows.greatest ≡ None) }
     {
         Ok(RowReader {
             cutter: Cutter::new(alloc),
@@ -251,8 +254,8 @@ impl RowReader {
     #[inline(always)]
     pub(crate) fn poll(&mut self, alloc: Global, event: &mut Option<Event>) -> Result<Step, Memory>
         ensures reads { (source : SourceState)
-            → Reads (rows_standing source self.old) [] (given_in result event.new)
-            (rows_standing source self.new) }
+            → Reads (rows_at source self.old) [] (given_in result event.new)
+            (rows_at source self.new) }
         ensures some { result ≡ Ok Step.Event → IsSome event.new }
         ensures asks { result ≡ Ok Step.Ask → IsAsking self.new }
         ensures stop { (why : Stop) → result ≡ Ok (Step.Stop why)
@@ -294,8 +297,10 @@ impl RowReader {
         requires asks { IsAsking self.old }
         requires count { IfOk read (λ n. n ≤ length buffer.now) }
         ensures takes { (before next : SourceState) → WasRead before buffer.now read next
-            → TakesPiece (rows_standing before self.old) (rows_standing next self.new) }
+            → RowsTake (rows_at before self.old) (rows_at next self.new) }
         ensures more { is_whole (stop_in self.new.state) ≡ false }
+        ensures reader { reader_of self.new
+            ≡ record (reader_of self.old) { cutter = (reader_of self.new).cutter } }
         ensures lateness { lateness_of self.new ≡ lateness_of self.old }
     {
         match read {
@@ -307,6 +312,42 @@ impl RowReader {
             }
             Err(_) => self.state = State::Stopped(Stop::Open),
         }
+    }
+
+    /// Whether the input goes on.
+    pub(crate) fn state(&self) -> State
+        ensures { result ≡ self.now.state }
+    {
+        self.state
+    }
+
+    /// The greatest time of the events that were given.
+    pub(crate) fn greatest(&self) -> Option<i64>
+        ensures { result ≡ self.now.greatest }
+    {
+        self.greatest
+    }
+
+    /// Memory ran out: what was read is lost, and with it the last event that was given. Before it this was the
+    /// greatest time.
+    pub(crate) fn lose(&mut self, greatest: Option<i64>)
+        requires some { 0 < self.old.given }
+        requires timed { ForSome greatest (λ t. (pos 0 ≤ℤ t) × (t ≤ℤ pos number_limit)) }
+        ensures reader { reader_of self.new ≡ record (reader_of self.old)
+            { given = self.old.given - 1; greatest = greatest } }
+        ensures state { self.new.state ≡ Broken }
+    {
+        self.given -= 1;
+        self.greatest = greatest;
+        self.state = State::Broken;
+    }
+
+    /// Memory ran out, and what was read is lost.
+    pub(crate) fn break_off(&mut self)
+        ensures reader { reader_of self.new ≡ reader_of self.old }
+        ensures state { self.new.state ≡ Broken }
+    {
+        self.state = State::Broken;
     }
 
     /// How many events were late, and passed over.

@@ -3,19 +3,18 @@ use Rattle.sp_ports.specs.Giving.{given_at}
 use Rattle.sp_intake.specs.declared.reader.State.{State}
 use Rattle.sp_intake.specs.Asked.{standing}
 use Rattle.sp_intake.specs.Standing.{stop_in, is_whole}
-use Rattle.sp_intake.proofs.Asking.{asked_still}
-use Rattle.sp_intake.proofs.Since.{gives_more}
+use Rattle.sp_intake.proofs.Asking.{asked_still, gives_on}
 use Rattle.sp_intake.proofs.giving.InputIntake.at_hand.Goals as goal
 
 pub returns-clause-plan : goal.returns-clause-plan
-returns-clause-plan g c = (c.at_hand.ensures.reads (g.S.Source.state c.args.self.now.source.now)).plan
+returns-clause-plan g c = (c.at_hand.ensures.gives (g.S.Source.state c.args.self.now.source.now)).reads.plan
 
 pub returns-clause-given : goal.returns-clause-given
 returns-clause-given g c from events before =
     let source = g.S.Source.state c.args.self.now.source.now in
     let old = standing source c.args.self.now.events in
     let new = standing source c.at_hand.new.self in
-    gives_more (standing (g.S.Source.state from.source.now) from.events) old new events (given_at c.at_hand.result) c.at_hand.new.self.rows.few before ([], c.at_hand.ensures.reads source)
+    gives_on (standing (g.S.Source.state from.source.now) from.events) old new events (given_at c.at_hand.result) c.at_hand.new.self.rows.few before ([], c.at_hand.ensures.gives source)
 
 pub returns-clause-event : goal.returns-clause-event
 returns-clause-event g c given is =
@@ -27,4 +26,4 @@ returns-clause-asked g c from before events asked =
     let source = g.S.Source.state c.args.self.now.source.now in
     let old = standing source c.args.self.now.events in
     let new = standing source c.at_hand.new.self in
-    asked_still (standing (g.S.Source.state from.source.now) from.events) old new before events (given_at c.at_hand.result) c.at_hand.new.self.rows.few (c.at_hand.ensures.reads source) asked
+    asked_still (standing (g.S.Source.state from.source.now) from.events) old new before events c.at_hand.new.self.rows.few (given_at c.at_hand.result) (c.at_hand.ensures.gives source) asked

@@ -4,7 +4,7 @@ use Rattle.std.specs.declared.alloc.AllocError.{AllocError}
 use Rattle.sp_io.specs.Outside.{Gave}
 use Rattle.sp_intake.specs.declared.reader.State.TheVariants.{Stopped, Broken}
 use Rattle.sp_ports.specs.declared.stop.Stop.TheVariants.{Open}
-use Rattle.sp_intake.specs.Asked.{reader_of}
+use Rattle.sp_intake.specs.RowsSeen.{reader_of}
 use Rattle.sp_intake.proofs.Since.{few_taken, reads_open, reads_piece, reads_lost, reads_end, reads_going, reads_on}
 use Rattle.sp_intake.proofs.reader.RowReader.take.Goals as goal
 

@@ -1,4 +1,4 @@
-use Rattle.std.proofs.Common.{◌≡◌, ◌==◌, ◌+◌, ◌≤ℤ◌, false, pos, [], ◌∷◌, Some, refl, sym, ◌∙◌, ap, subst, arith, to_z, of_z, w64}
+use Rattle.std.proofs.Common.{◌≡◌, ◌==◌, ◌+◌, ◌≤ℤ◌, true, false, pos, [], ◌∷◌, Some, Option, refl, sym, ◌∙◌, ap, subst, arith, to_z, of_z, w64}
 use Rattle.std.specs.Prelude.{ℕ, ℤ}
 use Rattle.std.proofs.lemmas.Bool.Decides.{nat_tests}
 use Rattle.std.proofs.lemmas.Int.{ints, to_z-of_z}
@@ -12,9 +12,11 @@ use Rattle.sp_ports.specs.declared.stop.Failure.TheVariants.{Row, Limit}
 use Rattle.sp_rows.specs.Codes.{code_of}
 use Rattle.sp_rows.specs.Progress.{plan_of, is_loose, read_of}
 use Rattle.sp_rows.specs.Rows.{row_result, refused, event, nothing, given_if}
-use Rattle.sp_slack.specs.HeldBack.{with_time}
+use Rattle.std.proofs.lemmas.List.Elements.{All-nil, All-push}
+use Rattle.sp_plan.specs.Events.{fits}
+use Rattle.sp_slack.specs.HeldBack.{before, is_before, with_time}
 use Rattle.sp_intake.specs.declared.reader.Fate.TheVariants.{Kept, PassedOver, Refused}
-use Rattle.sp_intake.specs.Asked.{reader_of}
+use Rattle.sp_intake.specs.RowsSeen.{reader_of}
 use Rattle.sp_intake.specs.Orderly.{same_next}
 use Rattle.sp_intake.specs.Reader.{Reader, last_of, Fails, fate}
 use Rattle.sp_intake.proofs.Since.{SameGiven}
@@ -87,7 +89,7 @@ returns-in_default-clause-reads c source =
     let ready = c.args.self.now.sound c.requires.going in
     let bytes = c.row_at.result.now in
     let is : given_if (is_loose old.rows) (row_result (plan_of old.rows) (read_of old.rows) bytes) ≡ nothing (read_of new.rows) = rw c.in_default.is at c.in-Ok.ensures.answers in
-    reads_row source old new c.find_row.new.self c.in-Ok-Some.span bytes [] c.find_row.ensures.unchanged c.row_at.ensures c.pass.ensures c.row_into.ensures.plan refl (omega arith) refl
+    reads_row source old new c.find_row.new.self c.in-Ok-Some.span bytes [] c.find_row.ensures.unchanged c.row_at.ensures c.pass.ensures c.row_into.ensures.plan refl (omega arith) refl (All-nil (λ x. fits (plan_of old.rows) x ≡ true)) (λ first were. tt)
     (nothing_takes old ready c.if-self-eq-ROWS.false bytes new is refl) (λ on_time. same_next (plan_of old.rows) (last_of old) (last_of new) refl) (omega arith)
 
 pub invariant_of-self-in-PassedOver : goal.invariant_of-self-in-PassedOver
@@ -126,7 +128,7 @@ returns-in-PassedOver-clause-reads c source =
     let between = time_between (plan_of old.rows) e (event_fits old.rows mid.rows ready.suits bytes e is) in
     let same : to_z w64 (of_z w64 e.time) ≡ e.time = to_z-of_z w64 e.time (omega (arith, ints, between)) in
     let passed : fate mid e ≡ PassedOver = sym (c.fate.ensures e (sym same)) ∙ c.in-PassedOver.is in
-    reads_row source old new c.find_row.new.self c.in-Ok-Some.span bytes [] c.find_row.ensures.unchanged c.row_at.ensures c.pass.ensures c.row_into.ensures.plan refl (omega arith) refl
+    reads_row source old new c.find_row.new.self c.in-Ok-Some.span bytes [] c.find_row.ensures.unchanged c.row_at.ensures c.pass.ensures c.row_into.ensures.plan refl (omega arith) refl (All-nil (λ x. fits (plan_of old.rows) x ≡ true)) (λ first were. tt)
     (passed_takes old ready c.if-self-eq-ROWS.false bytes mid e is (ap (λ (n : ℕ). n + 1) ready.count) c.row_into.ensures.plan refl refl refl refl passed new refl refl)
     (λ on_time. same_next (plan_of old.rows) (last_of old) (last_of new) refl) (omega arith)
 
@@ -211,7 +213,9 @@ returns-clause-reads c source =
     let greatest : Some g ≡ with_time old.greatest e = ap Some (to_z-of_z w64 c.greatest_with.result (omega (arith, ints, made.low, made.high))) ∙ made.greatest e (sym same) in
     let kept : fate mid e ≡ Kept = sym (c.fate.ensures e (sym same)) ∙ c.in-Kept.is in
     let counted = ap (λ (n : ℕ). n + 1) ready.count in
+    let timely = kept_timely old ready c.if-self-eq-ROWS.false bytes mid e is counted c.row_into.ensures.plan refl refl refl refl kept in
     reads_row source old new c.find_row.new.self c.in-Ok-Some.span bytes (e ∷ []) c.find_row.ensures.unchanged c.row_at.ensures c.pass.ensures c.row_into.ensures.plan refl (omega arith) greatest
+    (All-push (λ x. fits (plan_of old.rows) x ≡ true) [] e (All-nil (λ x. fits (plan_of old.rows) x ≡ true)) fit)
+    (λ first were. (ap (λ (t : Option ℤ). is_before (before old.lateness.slack t) e) were.latest ∙ timely, tt))
     (kept_takes old ready c.if-self-eq-ROWS.false bytes mid e is counted c.row_into.ensures.plan refl refl refl refl kept new refl refl)
-    (λ on_time. comes_next (plan_of old.rows) old.lateness old.greatest new.greatest e on_time fit
-    (kept_timely old ready c.if-self-eq-ROWS.false bytes mid e is counted c.row_into.ensures.plan refl refl refl refl kept) greatest) (omega arith)
+    (λ on_time. comes_next (plan_of old.rows) old.lateness old.greatest new.greatest e on_time fit timely greatest) (omega arith)
