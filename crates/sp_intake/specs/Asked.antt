@@ -1,5 +1,5 @@
 -- How a reader of events stands, and what it answers.
-use Rattle.std.specs.Prelude.{◌≡◌, false, Option, Some, None, if◌then◌else◌}
+use Rattle.std.specs.Prelude.{◌≡◌, ℕ, false, Option, Some, None, if◌then◌else◌}
 use Rattle.std.specs.Option.{option_map}
 use Rattle.sp_io.specs.Outside.{SourceState}
 use Rattle.sp_plan.specs.declared.plan.Plan.{Plan}
@@ -19,6 +19,10 @@ use Rattle.sp_intake.specs.Standing.{Standing, ReadsFrom, IsIdle, seen, with_hel
 -- the plan whose columns are read
 abbrev pub plan_in : EventReader → Plan
 plan_in events = plan_of events.rows.rows
+
+-- how many events it has passed over
+abbrev pub late_in : EventReader → ℕ
+late_in events = events.rows.late
 
 -- how an input stands whose source is in this state
 abbrev pub standing : SourceState → EventReader → Standing

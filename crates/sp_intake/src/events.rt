@@ -38,7 +38,7 @@ pub struct EventReader {
 impl EventReader {
     ghost use Rattle.sp_intake.specs.Standing.{GivesBy, WasRead, stop_in, is_whole, given_in};
     ghost use Rattle.sp_intake.specs.Pieces.{TakesPiece};
-    ghost use Rattle.sp_intake.specs.Asked.{plan_in, standing, state_in, IsFresh, IsUnasked, IsFreshWithin, IsUnaskedWithin, IsWaiting, last_answer};
+    ghost use Rattle.sp_intake.specs.Asked.{plan_in, late_in, standing, state_in, IsFresh, IsUnasked, IsFreshWithin, IsUnaskedWithin, IsWaiting, last_answer};
     ghost use Rattle.sp_intake.specs.declared.reader.State.TheVariants.{Stopped, Broken};
 
     /// Nothing was read yet. Times never go back.
@@ -146,7 +146,7 @@ impl EventReader {
 
     /// How many events were late, and passed over.
     pub fn late(&self) -> u32
-        ensures { result ≡ self.now.rows.late }
+        ensures { result ≡ late_in self.now }
     {
         self.rows.late()
     }

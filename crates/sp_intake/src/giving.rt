@@ -1,7 +1,7 @@
 ghost use Rattle.std.specs.Prelude.{◌≡◌, []};
 ghost use Rattle.sp_intake.specs.Standing.{Gives, stop_in, is_whole};
 ghost use Rattle.sp_intake.specs.Pieces.{Asked};
-ghost use Rattle.sp_intake.specs.Asked.{standing, state_in, IsWaiting};
+ghost use Rattle.sp_intake.specs.Asked.{late_in, standing, state_in, IsWaiting};
 
 use crate::events::EventReader;
 use sp_base::limits::PIECE_LIMIT;
@@ -41,6 +41,13 @@ impl<'a, S: Source> Input<'a, S> {
     {
         let Input { source, .. } = self;
         source
+    }
+
+    /// How many events were late, and passed over.
+    pub fn late(&self) -> u32
+        ensures { result ≡ late_in self.now.events }
+    {
+        self.events.late()
     }
 }
 
