@@ -29,7 +29,7 @@ pub struct Lateness {
 
 impl Lateness {
     /// Whether no time may go back: there is no slack, and a late event is refused.
-    pub(crate) fn is_punctual(self) -> bool
+    pub fn is_punctual(self) -> bool
         ensures { result ≡ true → commands.lateness self.slack self.rule ≡ punctual }
     {
         self.slack == 0 && matches!(self.rule, LateRule::Refuse)

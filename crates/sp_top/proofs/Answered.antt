@@ -53,8 +53,8 @@ drilled predictors words events seed speed is before old new s made = answers pr
 
 -- the predictor of a command is there or not
 has_predictor : (predictors : List (List ℕ)) (command : Command) → HasPredictor predictors command ⊎ (HasPredictor predictors command → ⊥)
-has_predictor predictors (run query speed) = is_there speed.predictor predictors
-has_predictor predictors (plain query) = inl tt
+has_predictor predictors (run query speed slack late) = is_there speed.predictor predictors
+has_predictor predictors (plain query slack late) = inl tt
 has_predictor predictors (trace query schedule live) = inl tt
 has_predictor predictors (drill events seed speed) = is_there speed.predictor predictors
 

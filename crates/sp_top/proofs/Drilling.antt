@@ -8,6 +8,7 @@ use Rattle.sp_io.specs.Outside.{Told, SourceState, SinkState, Gave, Grew, GrewWi
 use Rattle.sp_plan.specs.declared.event.Event.{Event}
 use Rattle.sp_plan.specs.declared.found.Match.{Match}
 use Rattle.sp_plan.specs.declared.plan.Plan.{Plan}
+use Rattle.sp_plan.specs.Compiled.{IsCompiled}
 use Rattle.sp_plan.specs.Sequential.{seq}
 use Rattle.sp_plan.specs.Windows.{closed, windows}
 use Rattle.sp_emit.specs.Summary.{summary}
@@ -20,12 +21,17 @@ use Rattle.sp_load.specs.declared.refusal.Refusal.{Refusal}
 use Rattle.sp_load.specs.declared.refusal.Refusal.TheVariants as r
 use Rattle.sp_answer.specs.declared.status.Status.{Status}
 use Rattle.sp_answer.specs.declared.status.Status.TheVariants.{Done, Memory, Read}
-use Rattle.sp_answer.specs.Outcome.{ending, outcome}
+use Rattle.sp_answer.specs.Outcome.{ending, number_of, outcome}
 use Rattle.sp_answer.specs.Ran.{Outside, outside, Ran, Made}
 use Rattle.sp_answer.proofs.Answering.{made_none}
 use Rattle.sp_split.specs.declared.ended.Ended.{Ended}
 use Rattle.sp_cli.specs.Commands.{Speed}
 use Rattle.sp_commands.specs.Completes.{ReadsToEnd}
+use Rattle.sp_ports.specs.declared.stop.Stop.TheVariants.{End}
+use Rattle.sp_intake.specs.LooseLaws.{punctual, LooseIsReading}
+use Rattle.sp_commands.specs.Ends.{Came, came, came_within, status_of}
+use Rattle.sp_commands.proofs.Came.{late_way}
+use Rattle.sp_commands.proofs.Punctual.{came_in_time}
 use Rattle.sp_commands.specs.Drill.{summary_of, drill_text, DrillOutcome, WritesSummary, written, failed, no_memory}
 use Rattle.sp_top.specs.Summing.{CanSum, SumsUp}
 use Rattle.sp_top.specs.Report.{Reports, ReportsPlan, ReportsDrill, WhereDone}
@@ -60,28 +66,37 @@ end_of {V} {T} Is s o e done some report = subst (λ (x : Option (Ended V T)). W
 
 -- an end stays what it is where the status stays unless it was done
 pub stays_reported : {V : Type 0} {T : V → Type 0} → (Is : Ended V T → Type 0) (s later : Status) (o : Option (Ended V T)) → (s ≡ Done) ⊎ (s ≡ Memory) → (s ≢ Done → later ≡ s) → WhereDone Is s o → WhereDone Is later o
-stays_reported Is s later None either other report = λ is. report (sym (other report) ∙ is)
-stays_reported Is s later (Some e) (inl done) other report = λ _. report done
-stays_reported Is s later (Some e) (inr memory) other report = let same = other (λ is. cc) in λ is. absurd (cc)
+stays_reported Is s later None (inl done) other report = absurd (report (ap number_of done))
+stays_reported Is s later None (inr memory) other report = λ is. let one : number_of later ≡ 1 = ap number_of (other (λ own. cc (memory, own)) ∙ memory) in omega (arith, is, one)
+stays_reported Is s later (Some e) (inl done) other report = λ _. report (ap number_of done)
+stays_reported Is s later (Some e) (inr memory) other report = λ is. let one : number_of later ≡ 1 = ap number_of (other (λ own. cc (memory, own)) ∙ memory) in absurd (omega (arith, is, one))
 
-module _ (stay : RowsStay) (has : DrillQueryHasPlan) (rows : GeneratedRowsAreRead) (q : Plan) (is : IsPlanFor drill_query q) (events seed : ℕ) (few : events ≤ event_limit) (old new : Outside)
+module _ (law : LooseIsReading) (stay : RowsStay) (has : DrillQueryHasPlan) (rows : GeneratedRowsAreRead) (q : Plan) (compiled : IsCompiled q) (is : IsPlanFor drill_query q) (events seed : ℕ) (few : events ≤ event_limit) (old new : Outside)
     (told : old.input.left ≡ Some (generated events seed)) (no_read : Rose old.input.faults new.input.faults → ⊥) (no_write : Rose old.out.faults new.out.faults → ⊥)
-    (used_up : new.input.ended ≡ true → IsUsedUp new.input.left) (s : Status) (ran : Ran (IsPlanRun q) old new (ending s)) where
-  reads : ReadsToEnd q old.input (generated events seed)
-  reads = record { told = told; stop = (rows q events seed (has.reads q is) few).stop }
+    (used_up : new.input.ended ≡ true → IsUsedUp new.input.left) (s : Status) (ran : Ran (IsPlanRun q punctual) old new (ending s)) where
+  same : came_within q punctual (generated events seed) true ≡ came q (generated events seed) true
+  same = came_in_time law q compiled (generated events seed) true
+
+  stops : (came q (generated events seed) true).stop ≡ End
+  stops = (rows q events seed (has.reads q is) few).stop
+
+  reads : ReadsToEnd (came_within q punctual) old.input (generated events seed)
+  reads = record { told = told; stop = ap (λ (c : Came). c.stop) same ∙ stops }
 
   -- the rows are read to their end
   pub rows_done : (s ≡ Done) ⊎ (s ≡ Memory)
-  rows_done = ⊎_elim (λ done. inl done.0) (λ memory. inr memory)
-      (ran_done stay (IsPlanRun q) old new q (generated events seed) (windows_text q) (λ b e o own. own) reads no_read no_write used_up (ending s) ran)
+  rows_done = ⊎_elim (λ done. inl (done.0 ∙ ap (λ (c : Came). c.status) same ∙ ap status_of stops)) (λ memory. inr memory)
+      (ran_done (IsPlanRun q punctual) old new (came_within q punctual) (late_way stay q punctual) (generated events seed) (windows_text q) (λ b e o own. own) reads no_read no_write used_up (ending s) ran)
 
   -- and the run over them is that of the drill
-  pub rows_reported : {V : Type 0} {T : V → Type 0} → (speed : Speed) (ended : Option (Ended V T)) → WhereDone (ReportsPlan q speed old.input.left new.input.left) s ended → WhereDone (ReportsDrill events seed speed) s ended
+  pub rows_reported : {V : Type 0} {T : V → Type 0} → (speed : Speed) (ended : Option (Ended V T)) → WhereDone (ReportsPlan q punctual speed old.input.left new.input.left) s ended → WhereDone (ReportsDrill events seed speed) s ended
   rows_reported speed None report = report
   rows_reported speed (Some e) report = λ done.
       let own = report done in
       let all = gave_all (generated events seed) own.1 new.input.left (subst (λ (t : Told). Gave t own.1 new.input.left) told own.2) (used_up (ran.read_whole done)) in
-      (subst (IsPlanFor drill_query) (sym own.0) is, subst (λ (bytes : List ℕ). Reports speed bytes e) all.0 own.3)
+      let p = e.core.plan in
+      let events_are = ap (λ (bytes : List ℕ). (came_within p punctual bytes true).events) all.0 ∙ ap (λ (c : Came). c.events) (came_in_time law p (subst IsCompiled (sym own.0) compiled) (generated events seed) true) in
+      (subst (IsPlanFor drill_query) (sym own.0) is, subst (λ (es : List Event). Reports speed es e) events_are own.3)
 
 -- ---- its summary
 
@@ -142,9 +157,9 @@ module _ (has : DrillQueryHasPlan) (rows : GeneratedRowsAreRead) (events seed : 
       where
         by : (s ≡ Done) ⊎ (s ≡ Memory) → (o : Option (Ended V T)) → WhereDone (ReportsDrill events seed speed) s o → SumsUp s o old new later
             → Made (λ bytes ended. DrillOutcome events seed) (outside input old) (outside input new) (ending later)
-        by (inl done) None report sums = absurd (report done)
+        by (inl done) None report sums = absurd (report (ap number_of done))
         by (inl done) (Some e) report sums =
-            let own = report done in
+            let own = report (ap number_of done) in
             made_summary e.core.plan own.0 events seed input (summary_of e.core.plan e.core.machine.events) (ap (summary_of e.core.plan) own.1.events) old new later (sums.done e done refl)
         by (inr memory) o report sums =
             let none = sums.other (λ is. cc) in

@@ -14,14 +14,13 @@ use Rattle.sp_plan.specs.Runs.{matched_runs, state}
 use Rattle.sp_plan.specs.Sequential.{seq, whole, match_of, visible, Grows}
 use Rattle.sp_plan.specs.WindowNumbers.{Good}
 use Rattle.sp_plan.specs.Windows.{closed, windows, IsWindowed}
-use Rattle.sp_intake.specs.Intake.{TakesNoFurther}
-use Rattle.sp_intake.specs.Reading.{read, stop_of}
-use Rattle.sp_intake.specs.Standing.{Standing, stop_in, is_whole, ReadSoFar, Gives, ReadsFrom}
-use Rattle.sp_intake.proofs.FitReading.{read_fits}
+use Rattle.sp_intake.specs.Loose.{Lateness}
+use Rattle.sp_intake.specs.Standing.{Standing, stop_in, is_whole, Gives}
+use Rattle.sp_intake.proofs.LooseGood.{slacked_good}
 use Rattle.sp_ports.specs.Stopping.{is_end}
 use Rattle.sp_ports.specs.declared.stop.Stop.{Stop}
 use Rattle.sp_ports.specs.declared.stop.Stop.TheVariants.{End, Failed, Open}
-use Rattle.sp_answer.specs.Outcome.{Ending, ending}
+use Rattle.sp_answer.specs.Outcome.{Ending, ending, number_of}
 use Rattle.sp_answer.specs.Ran.{Outside, outside, Ran}
 use Rattle.sp_answer.specs.declared.status.Status.{Status}
 use Rattle.sp_answer.specs.declared.status.Status.TheVariants.{Memory, Write}
@@ -34,10 +33,13 @@ use Rattle.sp_split.specs.declared.ended.Went.{Went}
 use Rattle.sp_split.specs.declared.ended.Why.{Why}
 use Rattle.sp_split.specs.declared.ended.Why.TheVariants as why
 use Rattle.sp_split.specs.Driving.{FailedWithin, Drove, FellShort}
-use Rattle.sp_commands.specs.Ends.{status_of}
+use Rattle.sp_commands.specs.Ends.{Came, came_within, late_status}
+use Rattle.sp_commands.specs.Given.{StopsInTime}
+use Rattle.sp_top.specs.Coming.{late_in, CameSoFar, ComesFrom}
 use Rattle.sp_top.specs.RunEnds.{status_of_end}
 use Rattle.sp_commands.specs.Run.{run_outcome, windows_text, IsPlanRun}
-use Rattle.sp_commands.proofs.Running.{no_further_reading, not_cut, only_open, only_ended}
+use Rattle.sp_commands.proofs.Came.{within_told}
+use Rattle.sp_commands.proofs.Running.{no_further_reading}
 
 pub text_parts : (q : Plan) (ms more : List Match) → text q (ms ++ more) ≡ text q ms ++ text q more
 text_parts q ms more = flat_map-append (line q) ms more
@@ -61,14 +63,14 @@ module _ (q : Plan) where
       let cut : c ≡ n + (c - n) = omega arith in
       (rest.0, ap (λ (m : ℕ). (seq q events m).matches) cut ∙ rest.1)
 
-  module _ (grows : Grows) (limits : IsWindowed q) (old new : Outside) (taken : List ℕ) (events more : List Event) (stop : Option Stop)
-      (gave : Gave old.input.left taken new.input.left) (no_further : TakesNoFurther q taken)
-      (are : (read q taken new.input.ended).events ≡ events ++ more)
-      (stopped : (s : Stop) → stop ≡ Some s → (events ≡ (read q taken new.input.ended).events) × (s ≡ stop_of (read q taken new.input.ended) new.input.ended))
+  module _ (l : Lateness) (grows : Grows) (limits : IsWindowed q) (old new : Outside) (taken : List ℕ) (events more : List Event) (stop : Option Stop)
+      (gave : Gave old.input.left taken new.input.left) (in_time : StopsInTime (came_within q l) taken)
+      (are : (came_within q l taken new.input.ended).events ≡ events ++ more)
+      (stopped : (s : Stop) → stop ≡ Some s → (events ≡ (came_within q l taken new.input.ended).events) × (s ≡ (came_within q l taken new.input.ended).stop))
       (fault : stop ≡ Some Open → Rose old.input.faults new.input.faults) (told : old.input.faults < new.input.faults → stop ≡ Some Open)
-      (good : Good q (read q taken new.input.ended).events) where
+      (good : Good q (came_within q l taken new.input.ended).events) where
     abbrev whole_text : List ℕ
-    whole_text = (run_outcome q taken new.input.ended).text
+    whole_text = (run_outcome q l taken new.input.ended).text
 
     text_is : (s : Stop) → stop ≡ Some s → windows_text q events s ≡ whole_text
     text_is s is = λ i. windows_text q ((stopped s is).0 i) ((stopped s is).1 i)
@@ -79,7 +81,7 @@ module _ (q : Plan) where
         let rest = begins_whole events n true low in
         (text q rest.0, sym (text_is End (at_end refl)) ∙ ap (text q) rest.1 ∙ text_parts q (seq q events n).matches rest.0)
     begins n false low at_end =
-        let s = stop_of (read q taken new.input.ended) new.input.ended in
+        let s = (came_within q l taken new.input.ended).stop in
         let all : Good q (events ++ more) = subst (Good q) are good in
         let rest = begins_whole events n false low in
         let later = grows q events more (is_end s) limits all.0 all.1 in
@@ -87,22 +89,23 @@ module _ (q : Plan) where
         (text q (rest.0 ++ later.0), ap (text q) matches ∙ text_parts q (seq q events n).matches (rest.0 ++ later.0))
 
     -- all windows that the events closed are finished, and their text was written
-    pub done : (s : Stop) (t : Status) → stop ≡ Some s → t ≡ status_of s → Grew old.out.held (windows_text q events s) new.out.held → new.out.faults ≡ old.out.faults → Ran (IsPlanRun q) old new (ending t)
+    pub done : (s : Stop) (t : Status) → stop ≡ Some s → t ≡ (came_within q l taken new.input.ended).status → Grew old.out.held (windows_text q events s) new.out.held → new.out.faults ≡ old.out.faults
+        → Ran (IsPlanRun q l) old new (ending t)
     done s t is status grew no_fault =
         let stop_is = (stopped s is).1 in
-        let r = read q taken new.input.ended in
+        let tells = within_told q l taken new.input.ended in
         record {
           taken = taken;
-          outcome = run_outcome q taken new.input.ended;
+          outcome = run_outcome q l taken new.input.ended;
           gave = gave;
           is = refl;
-          no_further = no_further_reading (windows_text) q taken no_further;
-          exact = λ _ _. (ap ending (status ∙ ap status_of stop_is), subst (λ (xs : List ℕ). Grew old.out.held xs new.out.held) (text_is s is) grew);
-          cut_off = λ which. absurd (not_cut s (⊎_elim (λ e. inl (sym status ∙ e)) (λ e. inr (sym status ∙ e)) which));
-          read_whole = λ e. only_ended r new.input.ended r.stopped (sym (ap status_of stop_is) ∙ sym status ∙ e);
-          read_fault = λ e. fault (is ∙ ap Some (only_open s (sym status ∙ e)));
-          write_fault = λ e. absurd (not_cut s (inr (sym status ∙ e)));
-          read_told = λ rose. inl (status ∙ ap status_of (some_is s Open (sym is ∙ told rose)));
+          no_further = no_further_reading (came_within q l) (windows_text q) taken in_time;
+          exact = λ _ _. (ap ending status, subst (λ (xs : List ℕ). Grew old.out.held xs new.out.held) (text_is s is) grew);
+          cut_off = λ which. absurd (tells.not_cut (⊎_elim (λ e. inl (sym status ∙ e)) (λ e. inr (sym status ∙ e)) which));
+          read_whole = λ e. (tells.only_end (ap number_of (sym status) ∙ e)).1;
+          read_fault = λ e. fault (is ∙ ap Some (stop_is ∙ tells.only_open (sym status ∙ e)));
+          write_fault = λ e. absurd (tells.not_cut (inr (sym status ∙ e)));
+          read_told = λ rose. inl (status ∙ tells.is_read (sym stop_is ∙ some_is s Open (sym is ∙ told rose)));
           write_told = λ rose. absurd (omega (arith, rose, no_fault));
         }
       where
@@ -116,15 +119,15 @@ module _ (q : Plan) where
           subst (λ (xs : List ℕ). GrewWithin old.out.held xs new.out.held) (sym rest.1) (within_longer old.out.held new.out.held (text q (seq q events n).matches) rest.0 within)
 
       -- the output failed
-      pub refused : GrewWithin old.out.held (text q (seq q events n).matches) new.out.held → Rose old.out.faults new.out.faults → text q (seq q events n).matches ≢ [] → Ran (IsPlanRun q) old new (ending Write)
+      pub refused : GrewWithin old.out.held (text q (seq q events n).matches) new.out.held → Rose old.out.faults new.out.faults → text q (seq q events n).matches ≢ [] → Ran (IsPlanRun q l) old new (ending Write)
       refused within rose some =
           let rest = begins n ended low at_end in
           record {
             taken = taken;
-            outcome = run_outcome q taken new.input.ended;
+            outcome = run_outcome q l taken new.input.ended;
             gave = gave;
             is = refl;
-            no_further = no_further_reading (windows_text) q taken no_further;
+            no_further = no_further_reading (came_within q l) (windows_text q) taken in_time;
             exact = λ _ other. absurd (other refl);
             cut_off = λ _. (refl, within_whole within);
             read_whole = λ e. cc;
@@ -139,13 +142,13 @@ module _ (q : Plan) where
           not_nil (x ∷ xs) ys some none = cc
 
       -- memory ran out
-      pub short : GrewWithin old.out.held (text q (seq q events n).matches) new.out.held → Ran (IsPlanRun q) old new (ending Memory)
+      pub short : GrewWithin old.out.held (text q (seq q events n).matches) new.out.held → Ran (IsPlanRun q l) old new (ending Memory)
       short within = record {
         taken = taken;
-        outcome = run_outcome q taken new.input.ended;
+        outcome = run_outcome q l taken new.input.ended;
         gave = gave;
         is = refl;
-        no_further = no_further_reading (windows_text) q taken no_further;
+        no_further = no_further_reading (came_within q l) (windows_text q) taken in_time;
         exact = λ other _. absurd (other refl);
         cut_off = λ _. (refl, within_whole within);
         read_whole = λ e. cc;
@@ -202,43 +205,44 @@ pub if_some : {X : Type 0} (P : X → Type 0) (o : Option X) (x : X) → IfSome 
 if_some P None x holds is = absurd (cc is)
 if_some P (Some y) x holds is = let same : y ≡ x = cc is in subst P same holds
 
-module _ (q : Plan) (grows : Grows) (compiled : IsCompiled q) (origin : SourceState) (last : Standing) (events : List Event) (so_far : ReadSoFar q origin last.source events (stop_in last.state))
-    (before after : SinkState) where
+module _ (q : Plan) (l : Lateness) (grows : Grows) (compiled : IsCompiled q) (origin : SourceState) (last : Standing) (events : List Event)
+    (so_far : CameSoFar q l origin last.source events (stop_in last.state) (late_in last)) (before after : SinkState) where
   abbrev stop_now : Option Stop
   stop_now = stop_in last.state
 
-  good_whole : Good q (read q so_far.taken last.source.ended).events
-  good_whole = let fits = read_fits q compiled.time so_far.taken last.source.ended in (fits.fit, fits.ordered)
+  abbrev came_now : Came
+  came_now = came_within q l so_far.taken last.source.ended
 
-  stopped_at : (s : Stop) → stop_now ≡ Some s → (events ≡ (read q so_far.taken last.source.ended).events) × (s ≡ stop_of (read q so_far.taken last.source.ended) last.source.ended)
-  stopped_at s is = (
-    if_some (λ _. events ≡ (read q so_far.taken last.source.ended).events) stop_now s so_far.has.all is,
-    if_some (λ stop. stop ≡ stop_of (read q so_far.taken last.source.ended) last.source.ended) stop_now s so_far.has.stop is,
-  )
+  good_whole : Good q came_now.events
+  good_whole = (slacked_good q l compiled.time so_far.taken last.source.ended (is_end came_now.stop)).good
+
+  stopped_at : (s : Stop) → stop_now ≡ Some s → (events ≡ came_now.events) × (s ≡ came_now.stop)
+  stopped_at s is = (if_some (λ _. events ≡ came_now.events) stop_now s so_far.all is, if_some (λ stop. stop ≡ came_now.stop) stop_now s so_far.stop is)
 
   module _ (n : ℕ) (ended : Bool) (low : n ≤ closed q events ended) (at_end : ended ≡ true → is_whole stop_now ≡ true) where
     -- the output failed, or memory ran out, with the first lines written
     pub ran_refused : GrewWithin before.held (text q (seq q events n).matches) after.held → Rose before.faults after.faults → text q (seq q events n).matches ≢ []
-        → Ran (IsPlanRun q) (outside origin before) (outside last.source after) (ending Write)
-    ran_refused = refused q grows compiled.windowed (outside origin before) (outside last.source after) so_far.taken events so_far.has.front.0 stop_now
-        so_far.has.gave so_far.has.no_further so_far.has.front.1 stopped_at so_far.has.fault so_far.has.told good_whole n ended low (λ e. whole_end stop_now (at_end e))
+        → Ran (IsPlanRun q l) (outside origin before) (outside last.source after) (ending Write)
+    ran_refused = refused q l grows compiled.windowed (outside origin before) (outside last.source after) so_far.taken events so_far.front.0 stop_now
+        so_far.gave so_far.in_time so_far.front.1 stopped_at so_far.fault so_far.told good_whole n ended low (λ e. whole_end stop_now (at_end e))
 
-    pub ran_short : GrewWithin before.held (text q (seq q events n).matches) after.held → Ran (IsPlanRun q) (outside origin before) (outside last.source after) (ending Memory)
-    ran_short = short q grows compiled.windowed (outside origin before) (outside last.source after) so_far.taken events so_far.has.front.0 stop_now
-        so_far.has.gave so_far.has.no_further so_far.has.front.1 stopped_at so_far.has.fault so_far.has.told good_whole n ended low (λ e. whole_end stop_now (at_end e))
+    pub ran_short : GrewWithin before.held (text q (seq q events n).matches) after.held → Ran (IsPlanRun q l) (outside origin before) (outside last.source after) (ending Memory)
+    ran_short = short q l grows compiled.windowed (outside origin before) (outside last.source after) so_far.taken events so_far.front.0 stop_now
+        so_far.gave so_far.in_time so_far.front.1 stopped_at so_far.fault so_far.told good_whole n ended low (λ e. whole_end stop_now (at_end e))
 
   -- all windows that the events closed are finished
   pub ran_done : (s : Stop) (n : ℕ) (ended : Bool) → stop_now ≡ Some s → is_end s ≡ ended → n ≡ closed q events ended
       → Grew before.held (text q (seq q events n).matches) after.held → after.faults ≡ before.faults
-      → Ran (IsPlanRun q) (outside origin before) (outside last.source after) (ending (status_of s))
+      → Ran (IsPlanRun q l) (outside origin before) (outside last.source after) (ending (late_status l.rule (late_in last) s))
   ran_done s n ended is end all grew no_fault =
       let whole_is : text q (seq q events n).matches ≡ windows_text q events s = ap (λ (k : ℕ). text q (seq q events k).matches) (all ∙ ap (closed q events) (sym end)) in
-      done q grows compiled.windowed (outside origin before) (outside last.source after) so_far.taken events so_far.has.front.0 stop_now
-      so_far.has.gave so_far.has.no_further so_far.has.front.1 stopped_at so_far.has.fault so_far.has.told good_whole s (status_of s) is refl
+      done q l grows compiled.windowed (outside origin before) (outside last.source after) so_far.taken events so_far.front.0 stop_now
+      so_far.gave so_far.in_time so_far.front.1 stopped_at so_far.fault so_far.told good_whole s (late_status l.rule (late_in last) s) is
+      (if_some (λ stop. late_status l.rule (late_in last) stop ≡ came_now.status) stop_now s so_far.status is)
       (subst (λ (l : List ℕ). Grew before.held l after.held) whole_is grew) no_fault
 
 -- What a run of a core ended with is what is promised of the run, by why it ended.
-module _ (c : Running) (grows : Grows) (compiled : IsCompiled c.plan) (origin : SourceState) (first last : Standing) (reads : ReadsFrom c.plan origin first) where
+module _ (c : Running) (l : Lateness) (grows : Grows) (compiled : IsCompiled c.plan) (origin : SourceState) (first last : Standing) (comes : ComesFrom c.plan l origin first) where
   module _ (stops_before stops_behind : ℕ) (before after : SinkState) (t u : ℕ) (end : Went) (drove : Drove (λ events. Gives first events last) (is_whole (stop_in last.state)) stops_before stops_behind (stop_in last.state) c (outlet before t) (outlet after u) end)
       (kept : IsSequential end.core.plan end.core.machine) where
     abbrev m : Machine
@@ -247,44 +251,44 @@ module _ (c : Running) (grows : Grows) (compiled : IsCompiled c.plan) (origin : 
     sequential : IsSequential c.plan m
     sequential = subst (λ (q : Plan). IsSequential q m) drove.plan kept
 
-    so_far : ReadSoFar c.plan origin last.source m.events (stop_in last.state)
-    so_far = reads m.events last drove.given
+    so_far : CameSoFar c.plan l origin last.source m.events (stop_in last.state) (late_in last)
+    so_far = comes m.events last drove.given
 
     emitted_are : text c.plan m.emitted ≡ text c.plan (seq c.plan m.events m.finished).matches
     emitted_are = ap (text c.plan) sequential.emitted
 
-    ended_by : (w : Why) → end.why ≡ w → Ran (IsPlanRun c.plan) (outside origin before) (outside last.source after) (ending (status_of_end w))
+    ended_by : (w : Why) → end.why ≡ w → Ran (IsPlanRun c.plan l) (outside origin before) (outside last.source after) (ending (status_of_end l.rule (late_in last) w))
     ended_by why.Whole is =
         let ended = drove.whole_input is in
         let all = drove.finished (inl is) in
         let at_end = whole_end (stop_in last.state) (drove.ends ended) in
-        ran_done c.plan grows compiled origin last m.events so_far before after End m.finished m.ended at_end (sym ended) all.0
+        ran_done c.plan l grows compiled origin last m.events so_far before after End m.finished m.ended at_end (sym ended) all.0
         (subst (λ (l : List ℕ). Grew before.held l after.held) emitted_are all.1.lines) (drove.no_fault (λ other. absurd (cc (is, other))))
     ended_by (why.Stopped s) is =
         let stop = drove.stop s is in
         let all = drove.finished (inr (s, is)) in
         let at = stop.0.1 in
-        ran_done c.plan grows compiled origin last m.events so_far before after s m.finished m.ended at.0 (at.1 ∙ sym stop.1) all.0
+        ran_done c.plan l grows compiled origin last m.events so_far before after s m.finished m.ended at.0 (at.1 ∙ sym stop.1) all.0
         (subst (λ (l : List ℕ). Grew before.held l after.held) emitted_are all.1.lines) (drove.no_fault (λ other. absurd (cc (is, other))))
     ended_by why.Refused is =
         let failed = drove.refused is in
-        ran_refused c.plan grows compiled origin last m.events so_far before after m.finished m.ended sequential.finished drove.ends
+        ran_refused c.plan l grows compiled origin last m.events so_far before after m.finished m.ended sequential.finished drove.ends
         (subst (λ (l : List ℕ). GrewWithin before.held l after.held) emitted_are (failed_within c.plan m.emitted (outlet before t) (outlet after u) failed.1)) failed.0
         (subst (λ (l : List ℕ). l ≢ []) emitted_are (failed_some c.plan m.emitted (outlet before t) (outlet after u) failed.1))
     ended_by why.Memory is =
-        ran_short c.plan grows compiled origin last m.events so_far before after m.finished m.ended sequential.finished drove.ends
+        ran_short c.plan l grows compiled origin last m.events so_far before after m.finished m.ended sequential.finished drove.ends
         (subst (λ (l : List ℕ). GrewWithin before.held l after.held) emitted_are (first_within c.plan m.emitted (outlet before t) (outlet after u) (drove.short is)))
 
-    pub ended_ran : Ran (IsPlanRun c.plan) (outside origin before) (outside last.source after) (ending (status_of_end end.why))
+    pub ended_ran : Ran (IsPlanRun c.plan l) (outside origin before) (outside last.source after) (ending (status_of_end l.rule (late_in last) end.why))
     ended_ran = ended_by end.why refl
 
   -- memory ran out, and the core is gone
   pub fell_short : (before after : SinkState) (t u : ℕ) → FellShort (λ events. Gives first events last) (is_whole (stop_in last.state)) c.plan (outlet before t) (outlet after u)
-      → Ran (IsPlanRun c.plan) (outside origin before) (outside last.source after) (ending Memory)
+      → Ran (IsPlanRun c.plan l) (outside origin before) (outside last.source after) (ending Memory)
   fell_short before after t u short =
-      ran_short c.plan grows compiled origin last short.events (reads short.events last short.given) before after (closed c.plan short.events short.input_ended) short.input_ended (omega arith) short.ends
+      ran_short c.plan l grows compiled origin last short.events (comes short.events last short.given) before after (closed c.plan short.events short.input_ended) short.input_ended (omega arith) short.ends
       (first_within c.plan (whole c.plan short.events short.input_ended).matches (outlet before t) (outlet after u) short.took)
 
 -- a run of a plan is one of the same plan, over the same states
-pub as_run : (q p : Plan) → p ≡ q → (old : Outside) (s t : SourceState) (k l : SinkState) (end : Ending) → s ≡ t → k ≡ l → Ran (IsPlanRun p) old (outside s k) end → Ran (IsPlanRun q) old (outside t l) end
-as_run q p same old s t k l end source sink ran = rw (sym source, sym sink, sym same) ran
+pub as_run : (l : Lateness) (q p : Plan) → p ≡ q → (old : Outside) (s t : SourceState) (k m : SinkState) (end : Ending) → s ≡ t → k ≡ m → Ran (IsPlanRun p l) old (outside s k) end → Ran (IsPlanRun q l) old (outside t m) end
+as_run l q p same old s t k m end source sink ran = rw (sym source, sym sink, sym same) ran

@@ -2,6 +2,7 @@ mod Answered
 mod Chosen
 mod Apart
 mod Drilling
+mod Coming
 mod Driven
 mod Reporting
 mod Prompt

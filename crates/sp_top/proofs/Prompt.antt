@@ -1,5 +1,5 @@
 -- A run is prompt: from what an input had given and an outlet had taken to the bytes that were read and written.
-use Rattle.std.proofs.Common.{◌≡◌, ℕ, Bool, false, List, [], ◌++◌, Option, Some, refl, sym, ◌∙◌, ap, subst}
+use Rattle.std.proofs.Common.{◌≡◌, ℕ, ℤ, Bool, false, List, [], ◌++◌, Some, refl, sym, ◌∙◌, ap, subst}
 use Rattle.std.proofs.lemmas.Option.{same_Some}
 use Rattle.sp_io.specs.Outside.{Gave, Grew, SourceState, SinkState, ToldFiles}
 use Rattle.sp_io.proofs.Grew.{grew_more}
@@ -7,17 +7,20 @@ use Rattle.sp_plan.specs.declared.event.Event.{Event}
 use Rattle.sp_plan.specs.declared.plan.Plan.{Plan}
 use Rattle.sp_plan.specs.Lines.{text}
 use Rattle.sp_plan.specs.Sequential.{whole}
-use Rattle.sp_intake.specs.Pieces.{Asked, AskedSoFar, AsksFrom}
-use Rattle.sp_intake.specs.Reading.{read, stop_or}
+use Rattle.sp_slack.specs.declared.late.LateRule.{LateRule}
+use Rattle.sp_intake.specs.Loose.{Lateness}
+use Rattle.sp_intake.specs.Pieces.{Asked}
 use Rattle.sp_ports.specs.Stopping.{is_end}
-use Rattle.sp_intake.specs.Standing.{Standing, stop_in}
-use Rattle.sp_ports.specs.declared.stop.Failure.{Failure}
+use Rattle.sp_intake.specs.Standing.{Standing}
 use Rattle.sp_answer.specs.Outcome.{Outcome}
 use Rattle.sp_answer.specs.Ran.{Outside, outside}
 use Rattle.sp_cli.specs.Commands.{Command, QuerySource, Speed, command_of, plain, run, trace, drill}
 use Rattle.sp_load.specs.Places.{Place}
 use Rattle.sp_load.specs.Queries.{IsPlanAt}
-use Rattle.sp_commands.specs.Commands.{IsCommand, place_of}
+use Rattle.sp_commands.specs.Commands.{IsCommand, place_of, lateness}
+use Rattle.sp_commands.specs.Ends.{came_within}
+use Rattle.sp_commands.proofs.Came.{within_told}
+use Rattle.sp_top.specs.Coming.{CameBefore, AsksInTime}
 use Rattle.sp_commands.specs.Run.{IsPlanRun, RunOutcome, run_outcome}
 use Rattle.sp_commands.specs.Run as served
 use Rattle.sp_split.specs.Prompt.{TookBefore}
@@ -25,21 +28,21 @@ use Rattle.sp_top.specs.Prompt.{AskedInTime, IsPrompt, RunsPromptly}
 use Rattle.sp_top.specs.Prompt as p
 use Rattle.sp_top.proofs.Driven.{outlet}
 
-pub in_time : (q : Plan) (origin : SourceState) (first last : Standing) (before after : SinkState) (t u : ℕ) (given events : List Event) → AsksFrom q origin first → Asked first given events last
-    → TookBefore q (whole q given false).matches (outlet before t) (outlet after u) → AskedInTime (IsPlanRun q) (outside origin before) (outside last.source after)
-in_time q origin first last before after t u given events asks asked took =
-    let so : AskedSoFar q origin last.source given events (stop_in last.state) = asks given events last asked in
-    let front = so.last.front in
-    let r = read q front false in
-    let open_ : is_end (stop_or r false r.stopped) ≡ false = ap (λ (o : Option Failure). is_end (stop_or r false o)) so.last.goes_on in
-    let same : text q (whole q given false).matches ≡ (run_outcome q front false).text =
-    ap (λ (l : List Event). text q (whole q l false).matches) so.are ∙ ap (λ (b : Bool). text q (whole q r.events b).matches) (sym open_) in
+pub in_time : (q : Plan) (l : Lateness) (origin : SourceState) (first last : Standing) (before after : SinkState) (t u : ℕ) (given events : List Event) → AsksInTime q l origin first → Asked first given events last
+    → TookBefore q (whole q given false).matches (outlet before t) (outlet after u) → AskedInTime (IsPlanRun q l) (outside origin before) (outside last.source after)
+in_time q l origin first last before after t u given events asks asked took =
+    let so : CameBefore q l origin last.source given = asks given events last asked in
+    let front = so.in_time.front in
+    let c = came_within q l front false in
+    let open_ : is_end c.stop ≡ false = ap is_end ((within_told q l front false).only_open so.in_time.goes_on) in
+    let same : text q (whole q given false).matches ≡ (run_outcome q l front false).text =
+    ap (λ (l : List Event). text q (whole q l false).matches) so.are ∙ ap (λ (b : Bool). text q (whole q c.events b).matches) (sym open_) in
     record {
       front = front;
-      piece = so.last.piece;
-      gave = subst (λ (bytes : List ℕ). Gave origin.left bytes last.source.left) so.last.are so.has.gave;
-      short = so.last.short;
-      outcome = run_outcome q front false;
+      piece = so.in_time.piece;
+      gave = subst (λ (bytes : List ℕ). Gave origin.left bytes last.source.left) so.in_time.are so.gave;
+      short = so.in_time.short;
+      outcome = run_outcome q l front false;
       is = refl;
       more = took.more;
       written = subst (λ (l : List ℕ). Grew before.held (l ++ took.more) after.held) same
@@ -47,39 +50,40 @@ in_time q origin first last before after t u given events asks asked took =
     }
 
 -- the same of another state that is the same
-pub prompt_as : (q r : Plan) → r ≡ q → (old : Outside) (s t : SourceState) (k l : SinkState) → s ≡ t → k ≡ l → AskedInTime (IsPlanRun r) old (outside s k) → IsPrompt (IsPlanRun q) old (outside t l)
-prompt_as q r same old s t k l source sink asked = rw (sym source, sym sink, sym same) (p.in_time asked)
+pub prompt_as : (l : Lateness) (q r : Plan) → r ≡ q → (old : Outside) (s t : SourceState) (k m : SinkState) → s ≡ t → k ≡ m → AskedInTime (IsPlanRun r l) old (outside s k) → IsPrompt (IsPlanRun q l) old (outside t m)
+prompt_as l q r same old s t k m source sink asked = rw (sym source, sym sink, sym same) (p.in_time asked)
 
 -- a plan that stands there is run promptly
-pub prompt_at : (place : Place) (held : ToldFiles) (q : Plan) (old new : Outside) → IsPlanAt held place q → IsPrompt (IsPlanRun q) old new → IsPrompt (RunOutcome place held) old new
-prompt_at place held q old new is (p.unread same) = p.unread same
-prompt_at place held q old new is (p.in_time asked) = p.in_time (record {
+pub prompt_at : (place : Place) (l : Lateness) (held : ToldFiles) (q : Plan) (old new : Outside) → IsPlanAt held place q → IsPrompt (IsPlanRun q l) old new → IsPrompt (RunOutcome place l held) old new
+prompt_at place l held q old new is (p.unread same) = p.unread same
+prompt_at place l held q old new is (p.in_time asked) = p.in_time (record {
   front = asked.front;
   piece = asked.piece;
   gave = asked.gave;
   short = asked.short;
   outcome = asked.outcome;
-  is = subst (λ (o : Outcome). RunOutcome place held asked.front false o) (sym asked.is) (served.runs q is);
+  is = subst (λ (o : Outcome). RunOutcome place l held asked.front false o) (sym asked.is) (served.runs q is);
   more = asked.more;
   written = asked.written;
 })
 
-abbrev query_in : QuerySource → Command → QuerySource
-query_in default (run query speed) = query
-query_in default (plain query) = default
-query_in default (trace query schedule live) = default
-query_in default (drill events seed speed) = default
+-- what a run asks for
+abbrev asked_in : QuerySource × Lateness → Command → QuerySource × Lateness
+asked_in default (run query speed slack late) = (query, lateness slack late)
+asked_in default (plain query slack late) = default
+asked_in default (trace query schedule live) = default
+asked_in default (drill events seed speed) = default
 
 -- the words of a run are no other's
-pub run_promptly : (words : List (List ℕ)) (held : ToldFiles) (old new : Outside) (query : QuerySource) (speed : Speed) → IsCommand words (run query speed) → IsPrompt (RunOutcome (place_of query) held) old new
-    → RunsPromptly words held old new
-run_promptly words held old new query speed is prompt other fast own =
-    let same : run query speed ≡ run other fast = same_Some (run query speed) (run other fast) (sym is ∙ own) in
-    subst (λ (q : QuerySource). IsPrompt (RunOutcome (place_of q) held) old new) (ap (query_in query) same) prompt
+pub run_promptly : (words : List (List ℕ)) (held : ToldFiles) (old new : Outside) (query : QuerySource) (speed : Speed) (slack : ℤ) (late : LateRule) → IsCommand words (run query speed slack late)
+    → IsPrompt (RunOutcome (place_of query) (lateness slack late) held) old new → RunsPromptly words held old new
+run_promptly words held old new query speed slack late is prompt other fast more rule own =
+    let same : run query speed slack late ≡ run other fast more rule = same_Some (run query speed slack late) (run other fast more rule) (sym is ∙ own) in
+    subst (λ (asked : QuerySource × Lateness). IsPrompt (RunOutcome (place_of asked.0) asked.1 held) old new) (ap (asked_in (query, lateness slack late)) same) prompt
 
 pub unread_promptly : (words : List (List ℕ)) (held : ToldFiles) (old new : Outside) → new.input ≡ old.input → RunsPromptly words held old new
-unread_promptly words held old new same query speed own = p.unread same
+unread_promptly words held old new same query speed slack late own = p.unread same
 
 -- words that are another command are no run
-pub no_run : (words : List (List ℕ)) (held : ToldFiles) (old new : Outside) (command : Command) → IsCommand words command → ((query : QuerySource) (speed : Speed) → command ≡ run query speed → ⊥) → RunsPromptly words held old new
-no_run words held old new command is other query speed own = absurd (other query speed (same_Some command (run query speed) (sym is ∙ own)))
+pub no_run : (words : List (List ℕ)) (held : ToldFiles) (old new : Outside) (command : Command) → IsCommand words command → ((query : QuerySource) (speed : Speed) (slack : ℤ) (late : LateRule) → command ≡ run query speed slack late → ⊥) → RunsPromptly words held old new
+no_run words held old new command is other query speed slack late own = absurd (other query speed slack late (same_Some command (run query speed slack late) (sym is ∙ own)))

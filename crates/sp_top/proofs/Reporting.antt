@@ -1,5 +1,5 @@
 -- What a run that was done ended with, as what is reported of it.
-use Rattle.std.proofs.Common.{◌≡◌, ◌≢◌, inl, ◌⊎◌, ⊎_elim, ℕ, Bool, true, false, List, [], ◌∷◌, length, map, filter, Option, Some, None, refl, ap, sym, subst, ◌∙◌}
+use Rattle.std.proofs.Common.{◌≡◌, ◌≢◌, inl, ◌⊎◌, ⊎_elim, ℕ, zero, suc, Bool, true, false, List, [], ◌∷◌, length, map, filter, Option, Some, None, refl, ap, sym, subst, ◌∙◌, arith}
 use Rattle.std.specs.Prelude.{ℤ, pos, ◌+ℤ◌, ◌*ℤ◌, unsigned_abs, find, IfSome, if◌then◌else◌}
 use Rattle.std.specs.List.{filter_map, cons_option, last_or, range_with_len}
 use Rattle.std.specs.Option.{option_map}
@@ -11,8 +11,10 @@ use Rattle.sp_plan.specs.declared.plan.Opening.{Opening}
 use Rattle.sp_plan.specs.declared.plan.Opening.TheVariants.{EveryEvents, EveryTime, When}
 use Rattle.sp_plan.specs.Windows.{Numbered, Window, closed, windows, windows_by, window_from, within, window_within, number_or, duration, spans}
 use Rattle.sp_group.specs.Steps.{replay}
-use Rattle.sp_intake.specs.Reading.{read, stop_of}
-use Rattle.sp_intake.specs.Standing.{Standing, stop_in, is_whole, Gives, ReadsFrom}
+use Rattle.sp_slack.specs.declared.late.LateRule.{LateRule}
+use Rattle.sp_slack.specs.declared.late.LateRule.TheVariants.{Refuse, Drop}
+use Rattle.sp_intake.specs.Loose.{Lateness}
+use Rattle.sp_intake.specs.Standing.{Standing, stop_in, is_whole, Gives}
 use Rattle.sp_ports.specs.Stopping.{is_end}
 use Rattle.sp_ports.specs.declared.stop.Stop.{Stop}
 use Rattle.sp_ports.specs.declared.stop.Stop.TheVariants.{End, Failed, Open}
@@ -23,7 +25,7 @@ use Rattle.sp_load.specs.declared.refusal.Refusal.{Refusal}
 use Rattle.sp_load.specs.declared.refusal.Refusal.TheVariants as r
 use Rattle.sp_answer.specs.Outcome.{number_of}
 use Rattle.sp_answer.specs.declared.status.Status.{Status}
-use Rattle.sp_answer.specs.declared.status.Status.TheVariants.{Done, Memory, Usage, Query, Input, Read, Write, Limited, Schedule}
+use Rattle.sp_answer.specs.declared.status.Status.TheVariants.{Memory}
 use Rattle.sp_ports.specs.Taking.{OutletState}
 use Rattle.sp_core.specs.Running.{Running}
 use Rattle.sp_split.specs.declared.ended.Ended.{Ended}
@@ -32,12 +34,13 @@ use Rattle.sp_split.specs.declared.ended.Why.TheVariants as why
 use Rattle.sp_split.specs.Driving.{Drove, CameAbout, most_asked}
 use Rattle.sp_spread.specs.Limiting.{AsksAtMost}
 use Rattle.sp_cli.specs.Commands.{Speed, QuerySource, run, drill}
-use Rattle.sp_commands.specs.Commands.{place_of, IsCall}
-use Rattle.sp_commands.specs.Ends.{status_of, status_of_refusal}
+use Rattle.sp_commands.specs.Commands.{place_of, lateness, IsCall}
+use Rattle.sp_commands.specs.Ends.{came_within, late_status, status_of_refusal}
+use Rattle.sp_top.specs.Coming.{late_in, ComesFrom}
 use Rattle.sp_top.specs.RunEnds.{status_of_end}
-use Rattle.sp_top.specs.Report.{of_run, of_drill, Reported, ReportsPlan, ReportsPlace, ReportsDrill, WhereDone, Reporting}
+use Rattle.sp_top.specs.Report.{Reports, of_run, of_drill, Reported, ReportsPlan, ReportsPlace, ReportsDrill, WhereDone, Reporting}
 use Rattle.sp_top.proofs.Driven.{whole_end, if_some}
-use Rattle.sp_commands.proofs.Running.{only_ended}
+use Rattle.sp_commands.proofs.Came.{within_told}
 
 -- ---- once the input has ended each window is closed
 
@@ -81,35 +84,38 @@ all_closed q events = ap length (all_windows_shut q.opening q.length events)
 -- ---- a run of a plan
 
 -- a reading that ends with success stops at the end of its input
-only_end : (stop : Stop) → status_of stop ≡ Done → is_end stop ≡ true
-only_end End is = refl
-only_end (Failed (Row code row column)) is = cc
-only_end (Failed (Limit limit)) is = cc
-only_end Open is = cc
+only_end : (rule : LateRule) (late : ℕ) (stop : Stop) → number_of (late_status rule late stop) ≡ 0 → is_end stop ≡ true
+only_end rule late End is = refl
+only_end Refuse late (Failed (Row code row column)) is = absurd (omega (arith, is))
+only_end Drop late (Failed (Row code row column)) is = absurd (omega (arith, is))
+only_end Refuse late (Failed (Limit limit)) is = absurd (omega (arith, is))
+only_end Drop late (Failed (Limit limit)) is = absurd (omega (arith, is))
+only_end Refuse late Open is = absurd (omega (arith, is))
+only_end Drop late Open is = absurd (omega (arith, is))
 
-module _ {V : Type 0} {T : V → Type 0} (c : Running) (origin : SourceState) (first last : Standing) (reads : ReadsFrom c.plan origin first) (stops_before stops_behind : ℕ)
+module _ {V : Type 0} {T : V → Type 0} (c : Running) (l : Lateness) (origin : SourceState) (first last : Standing) (comes : ComesFrom c.plan l origin first) (stops_before stops_behind : ℕ)
     (before after : OutletState) (speed : Speed) (end : Ended V T)
     (drove : Drove (λ events. Gives first events last) (is_whole (stop_in last.state)) stops_before stops_behind (stop_in last.state) c before after (record { core = end.core; why = end.why }))
     (bound : c.bound ≡ speed.live) (replays : replay end.core.plan end.core.bound end.core.journal ≡ end.core.machine) (about : CameAbout speed.instances end.core end.history)
     (asked : AsksAtMost (most_asked speed.instances speed.batch) end.core.journal) where
-  reported_by : (w : Why) → end.why ≡ w → status_of_end w ≡ Done → ReportsPlan c.plan speed origin.left last.source.left end
+  reported_by : (w : Why) → end.why ≡ w → number_of (status_of_end l.rule (late_in last) w) ≡ 0 → ReportsPlan c.plan l speed origin.left last.source.left end
   reported_by why.Whole is done =
       let m = end.core.machine in
       let over = drove.whole_input is in
       let at_end = whole_end (stop_in last.state) (drove.ends over) in
-      let so_far = reads m.events last drove.given in
-      let r = read c.plan so_far.taken last.source.ended in
-      let events : m.events ≡ r.events = if_some (λ _. m.events ≡ r.events) (stop_in last.state) End so_far.has.all at_end in
-      let stop : End ≡ stop_of r last.source.ended = if_some (λ s. s ≡ stop_of r last.source.ended) (stop_in last.state) End so_far.has.stop at_end in
-      let ended = only_ended r last.source.ended r.stopped (sym (ap status_of stop)) in
+      let so_far = comes m.events last drove.given in
+      let now = came_within c.plan l so_far.taken last.source.ended in
+      let events : m.events ≡ now.events = if_some (λ _. m.events ≡ now.events) (stop_in last.state) End so_far.all at_end in
+      let status : late_status l.rule (late_in last) End ≡ now.status = if_some (λ s. late_status l.rule (late_in last) s ≡ now.status) (stop_in last.state) End so_far.status at_end in
+      let ended = ((within_told c.plan l so_far.taken last.source.ended).only_end (ap number_of (sym status) ∙ done)).1 in
       let finished = (drove.finished (inl is)).0 in (
         drove.plan,
         so_far.taken,
-        so_far.has.gave,
+        so_far.gave,
         record {
           whole = is;
           bound = drove.bound ∙ bound;
-          events = events ∙ (λ i. (read (sym drove.plan i) so_far.taken (ended i)).events);
+          events = events ∙ (λ i. (came_within (sym drove.plan i) l so_far.taken (ended i)).events);
           ended = over;
           finished = finished ∙ (λ i. closed (sym drove.plan i) m.events (over i)) ∙ all_closed end.core.plan m.events;
           feeds = drove.fed_are;
@@ -119,46 +125,46 @@ module _ {V : Type 0} {T : V → Type 0} (c : Running) (origin : SourceState) (f
         },
       )
   reported_by (why.Stopped s) is done =
-      let ends = only_end s done in
+      let ends = only_end l.rule (late_in last) s done in
       absurd (cc (ends, (drove.stop s is).0.1.1))
-  reported_by why.Refused is done = absurd (cc done)
-  reported_by why.Memory is done = absurd (cc done)
+  reported_by why.Refused is done = absurd (omega (arith, done))
+  reported_by why.Memory is done = absurd (omega (arith, done))
 
   -- what a run that was done ended with is what is reported of it
-  pub reports_plan : status_of_end end.why ≡ Done → ReportsPlan c.plan speed origin.left last.source.left end
+  pub reports_plan : number_of (status_of_end l.rule (late_in last) end.why) ≡ 0 → ReportsPlan c.plan l speed origin.left last.source.left end
   reports_plan = reported_by end.why refl
 
 -- a run of a plan is one of the same plan, over the same bytes
-pub as_report : {V : Type 0} {T : V → Type 0} → (q p : Plan) → p ≡ q → (speed : Speed) (old new left : Told) → new ≡ left → (status : Status) (ended : Option (Ended V T))
-    → WhereDone (ReportsPlan p speed old new) status ended → WhereDone (ReportsPlan q speed old left) status ended
-as_report q p same speed old new left source status ended report = rw (sym source, sym same) report
+pub as_report : {V : Type 0} {T : V → Type 0} → (l : Lateness) (q p : Plan) → p ≡ q → (speed : Speed) (old new left : Told) → new ≡ left → (status : Status) (ended : Option (Ended V T))
+    → WhereDone (ReportsPlan p l speed old new) status ended → WhereDone (ReportsPlan q l speed old left) status ended
+as_report l q p same speed old new left source status ended report = rw (sym source, sym same) report
 
 -- ---- a run of the query that stands there
 
-pub of_place : {V : Type 0} {T : V → Type 0} → (held : ToldFiles) (place : Place) (speed : Speed) (old new : Told) (q : Plan) → IsPlanAt held place q → (status : Status) (ended : Option (Ended V T))
-    → WhereDone (ReportsPlan q speed old new) status ended → WhereDone (ReportsPlace held place speed old new) status ended
-of_place held place speed old new q plan status None report = report
-of_place held place speed old new q plan status (Some e) report = λ done.
+pub of_place : {V : Type 0} {T : V → Type 0} → (held : ToldFiles) (place : Place) (l : Lateness) (speed : Speed) (old new : Told) (q : Plan) → IsPlanAt held place q → (status : Status) (ended : Option (Ended V T))
+    → WhereDone (ReportsPlan q l speed old new) status ended → WhereDone (ReportsPlace held place l speed old new) status ended
+of_place held place l speed old new q plan status None report = report
+of_place held place l speed old new q plan status (Some e) report = λ done.
     let own = report done in
     (subst (IsPlanAt held place) (sym own.0) plan, own.1, own.2, own.3)
 
 -- a refusal is told by another status
-pub refused_undone : (refusal : Refusal) → status_of_refusal refusal ≢ Done
-refused_undone r.Memory is = cc
-refused_undone r.Read is = cc
-refused_undone (r.Limited limit) is = cc
-refused_undone (r.Query code at) is = cc
+pub refused_undone : (refusal : Refusal) → number_of (status_of_refusal refusal) ≢ 0
+refused_undone r.Memory is = omega (arith, is)
+refused_undone r.Read is = omega (arith, is)
+refused_undone (r.Limited limit) is = omega (arith, is)
+refused_undone (r.Query code at) is = omega (arith, is)
 
 -- ---- a call
 
 module _ {V : Type 0} {T : V → Type 0} (predictors words : List (List ℕ)) (held : ToldFiles) (old new : Told) where
   -- words that are a run
-  pub reports_run : (query : QuerySource) (speed : Speed) → IsCall predictors words (run query speed) → (place : Place) → place ≡ place_of query → (status : Status) (ended : Option (Ended V T))
-      → WhereDone (ReportsPlace held place speed old new) status ended → Reporting predictors words held old new status ended
-  reports_run query speed call place at status None report = λ _ _ _. report
-  reports_run query speed call place at status (Some e) report = λ done.
+  pub reports_run : (query : QuerySource) (speed : Speed) (slack : ℤ) (late : LateRule) → IsCall predictors words (run query speed slack late) → (place : Place) → place ≡ place_of query → (l : Lateness) → l ≡ lateness slack late → (status : Status) (ended : Option (Ended V T))
+      → WhereDone (ReportsPlace held place l speed old new) status ended → Reporting predictors words held old new status ended
+  reports_run query speed slack late call place at l is status None report = λ _ _ _. report
+  reports_run query speed slack late call place at l is status (Some e) report = λ done.
       let own = report done in
-      of_run query speed own.1 call (subst (λ (p : Place). IsPlanAt held p e.core.plan) at own.0) own.2 own.3
+      of_run query speed slack late own.1 call (subst (λ (p : Place). IsPlanAt held p e.core.plan) at own.0) own.2 (subst (λ (m : Lateness). Reports speed (came_within e.core.plan m own.1 true).events e) is own.3)
 
   -- words that are a drill
   pub reports_drill : (events seed : ℕ) (speed : Speed) → IsCall predictors words (drill events seed speed) → (status : Status) (ended : Option (Ended V T))
@@ -168,26 +174,20 @@ module _ {V : Type 0} {T : V → Type 0} (predictors words : List (List ℕ)) (h
 
   -- what is reported once the line of the status was told
   pub told : (status line : Status) (ended report : Option (Ended V T)) (result : ℕ) → (line ≡ status) ⊎ (line ≡ Memory) → Reporting predictors words held old new status ended
-      → (line ≡ Done → report ≡ ended) → (line ≢ Done → report ≡ None) → result ≡ number_of line → Reported predictors words held old new result report
-  told status line ended report result of_line reporting done other is = by line refl
+      → (number_of line ≡ 0 → report ≡ ended) → (number_of line ≢ 0 → report ≡ None) → result ≡ number_of line → Reported predictors words held old new result report
+  told status line ended report result of_line reporting done other is = by (number_of line) refl
     where
-      none : line ≢ Done → (result ≡ 0 → ⊥) → Reported predictors words held old new result report
-      none undone nonzero = subst (Reported predictors words held old new result) (sym (other undone)) (λ _ _ _. nonzero)
+      some : number_of line ≡ 0 → (o : Option (Ended V T)) → Reporting predictors words held old new status o → Reported predictors words held old new result o
+      some own o given = at o given
+        where
+          status_is : number_of status ≡ 0
+          status_is = ⊎_elim (λ same. ap number_of (sym same) ∙ own) (λ short. let one : number_of line ≡ 1 = ap number_of short in absurd (omega (arith, one, own))) of_line
 
-      some : line ≡ Done → (o : Option (Ended V T)) → Reporting predictors words held old new Done o → Reported predictors words held old new result o
-      some own None given = λ command reported call _. given command reported call refl
-      some own (Some e) given = (is ∙ ap number_of own, given refl)
+          at : (o : Option (Ended V T)) → Reporting predictors words held old new status o → Reported predictors words held old new result o
+          at None given = λ command reported call _. given command reported call status_is
+          at (Some e) given = (is ∙ own, given status_is)
 
-      status_is : line ≡ Done → status ≡ Done
-      status_is own = ⊎_elim (λ same. sym same ∙ own) (λ short. absurd (cc (short, own))) of_line
-
-      by : (l : Status) → line ≡ l → Reported predictors words held old new result report
-      by Done own = subst (Reported predictors words held old new result) (sym (done own)) (some own ended (subst (λ (s : Status). Reporting predictors words held old new s ended) (status_is own) reporting))
-      by Memory own = none (λ e. cc (own, e)) (λ e. cc (own, is, e))
-      by Usage own = none (λ e. cc (own, e)) (λ e. cc (own, is, e))
-      by (Query code place) own = none (λ e. cc (own, e)) (λ e. cc (own, is, e))
-      by (Input code row column) own = none (λ e. cc (own, e)) (λ e. cc (own, is, e))
-      by Read own = none (λ e. cc (own, e)) (λ e. cc (own, is, e))
-      by Write own = none (λ e. cc (own, e)) (λ e. cc (own, is, e))
-      by (Limited limit) own = none (λ e. cc (own, e)) (λ e. cc (own, is, e))
-      by (Schedule at) own = none (λ e. cc (own, e)) (λ e. cc (own, is, e))
+      by : (n : ℕ) → number_of line ≡ n → Reported predictors words held old new result report
+      by zero own = subst (Reported predictors words held old new result) (sym (done own)) (some own ended reporting)
+      by (suc n) own =
+          subst (Reported predictors words held old new result) (sym (other (λ none. omega (arith, own, none)))) (λ _ _ _ none. omega (arith, own, is, none))

@@ -1,4 +1,5 @@
 pub mod Predictors
+pub mod Coming
 pub mod RunEnds
 pub mod Report
 pub mod Summing

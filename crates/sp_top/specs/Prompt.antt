@@ -1,11 +1,12 @@
 -- How far a run had written when it asked for more of its input.
-use Rattle.std.specs.Prelude.{◌≡◌, ◌≤◌, ℕ, Bool, false, List, ◌++◌, length}
+use Rattle.std.specs.Prelude.{◌≡◌, ◌≤◌, ℕ, ℤ, Bool, false, List, ◌++◌, length}
 use Rattle.sp_base.specs.Limits.{piece_limit}
 use Rattle.sp_io.specs.Outside.{Gave, Grew, ToldFiles}
 use Rattle.sp_answer.specs.Outcome.{Outcome}
 use Rattle.sp_answer.specs.Ran.{Outside}
+use Rattle.sp_slack.specs.declared.late.LateRule.{LateRule}
 use Rattle.sp_cli.specs.Commands.{QuerySource, Speed, run}
-use Rattle.sp_commands.specs.Commands.{IsCommand, place_of}
+use Rattle.sp_commands.specs.Commands.{IsCommand, place_of, lateness}
 use Rattle.sp_commands.specs.Run.{RunOutcome}
 
 -- Of the input two parts were taken, of which the second is at most a piece, the last that was asked for. What the first comes to, where the input
@@ -27,4 +28,5 @@ pub data IsPrompt (is_outcome : List ℕ → Bool → Outcome → Type 0) (old n
 
 -- where the words are a run, it is prompt
 abbrev pub RunsPromptly : List (List ℕ) → ToldFiles → Outside → Outside → Type 0
-RunsPromptly words held old new = (query : QuerySource) (speed : Speed) → IsCommand words (run query speed) → IsPrompt (RunOutcome (place_of query) held) old new
+RunsPromptly words held old new =
+    (query : QuerySource) (speed : Speed) (slack : ℤ) (late : LateRule) → IsCommand words (run query speed slack late) → IsPrompt (RunOutcome (place_of query) (lateness slack late) held) old new

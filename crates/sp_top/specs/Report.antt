@@ -1,6 +1,7 @@
 -- What is reported of a call: the core of a run that was done, as it ended, with the histories of core and hub.
-use Rattle.std.specs.Prelude.{◌≡◌, ◌≢◌, ℕ, true, List, length, Option, Some, None}
+use Rattle.std.specs.Prelude.{◌≡◌, ◌≢◌, ℕ, ℤ, true, List, length, Option, Some, None}
 use Rattle.sp_io.specs.Outside.{Told, ToldFiles, Gave}
+use Rattle.sp_plan.specs.declared.event.Event.{Event}
 use Rattle.sp_plan.specs.declared.plan.Plan.{Plan}
 use Rattle.sp_plan.specs.Windows.{windows}
 use Rattle.sp_group.specs.Steps.{replay}
@@ -9,24 +10,26 @@ use Rattle.sp_spread.specs.Limiting.{AsksAtMost}
 use Rattle.sp_split.specs.declared.ended.Ended.{Ended}
 use Rattle.sp_split.specs.declared.ended.Why.TheVariants as why
 use Rattle.sp_split.specs.Driving.{CameAbout, most_asked}
-use Rattle.sp_intake.specs.Reading.{read}
+use Rattle.sp_slack.specs.declared.late.LateRule.{LateRule}
+use Rattle.sp_intake.specs.Loose.{Lateness}
 use Rattle.sp_load.specs.Places.{Place}
 use Rattle.sp_load.specs.Queries.{IsPlanAt, IsPlanFor}
 use Rattle.sp_answer.specs.declared.status.Status.{Status}
-use Rattle.sp_answer.specs.declared.status.Status.TheVariants.{Done}
+use Rattle.sp_answer.specs.Outcome.{number_of}
 use Rattle.sp_cli.specs.Commands.{Command, Speed, QuerySource, run, drill}
 use Rattle.sp_gen.specs.Generated.{generated}
 use Rattle.sp_drill.specs.Query.{drill_query}
-use Rattle.sp_commands.specs.Commands.{place_of, IsCall, IsReported}
+use Rattle.sp_commands.specs.Commands.{place_of, lateness, IsCall, IsReported}
+use Rattle.sp_commands.specs.Ends.{came, came_within}
 
 -- V and T are the tables and the values of the predictors that are left, of which nothing is said here
 module _ {V : Type 0} {T : V → Type 0} where
-  -- A run of this speed over the whole input, which had these bytes, ended so.
-  pub record Reports (speed : Speed) (bytes : List ℕ) (e : Ended V T) : Type 0 where
+  -- A run of this speed over the whole input, of which these events came, ended so.
+  pub record Reports (speed : Speed) (given : List Event) (e : Ended V T) : Type 0 where
     pub whole : e.why ≡ why.Whole
     pub bound : e.core.bound ≡ speed.live
-    -- all windows of the events that the bytes give are finished
-    pub events : e.core.machine.events ≡ (read e.core.plan bytes true).events
+    -- all windows of the events are finished
+    pub events : e.core.machine.events ≡ given
     pub ended : e.core.machine.ended ≡ true
     pub finished : e.core.machine.finished ≡ length (windows e.core.plan e.core.machine.events true)
     -- the journal tells how it came to that: these events were fed, and its steps, taken again, lead to the same state
@@ -40,10 +43,11 @@ module _ {V : Type 0} {T : V → Type 0} where
   -- The words are a run or a drill, and it ended so: a run by a plan of the query that stands there, over the bytes that were taken; a drill
   -- by a plan of its query, over the rows that it generated.
   pub data ReportsCall (predictors words : List (List ℕ)) (held : ToldFiles) (old new : Told) (e : Ended V T) : Type 0 where
-    of_run : (query : QuerySource) (speed : Speed) (taken : List ℕ) → IsCall predictors words (run query speed) → IsPlanAt held (place_of query) e.core.plan
-        → Gave old taken new → Reports speed taken e → ReportsCall predictors words held old new e
+    of_run : (query : QuerySource) (speed : Speed) (slack : ℤ) (late : LateRule) (taken : List ℕ) → IsCall predictors words (run query speed slack late)
+        → IsPlanAt held (place_of query) e.core.plan → Gave old taken new → Reports speed (came_within e.core.plan (lateness slack late) taken true).events e
+        → ReportsCall predictors words held old new e
     of_drill : (events seed : ℕ) (speed : Speed) → IsCall predictors words (drill events seed speed) → IsPlanFor drill_query e.core.plan
-        → Reports speed (generated events seed) e → ReportsCall predictors words held old new e
+        → Reports speed (came e.core.plan (generated events seed) true).events e → ReportsCall predictors words held old new e
 
   -- what is reported of a call that answered this number: the end of a run or drill where it was done, and else nothing
   abbrev pub Reported : List (List ℕ) → List (List ℕ) → ToldFiles → Told → Told → ℕ → Option (Ended V T) → Type 0
@@ -52,24 +56,25 @@ module _ {V : Type 0} {T : V → Type 0} where
 
   -- ---- before the line of the status is told
 
-  -- a run of this plan ended so
-  abbrev pub ReportsPlan : Plan → Speed → Told → Told → Ended V T → Type 0
-  ReportsPlan q speed old new e = (e.core.plan ≡ q) × (bytes : List ℕ) × Gave old bytes new × Reports speed bytes e
+  -- a run of this plan ended so, whose events may be late by so much
+  abbrev pub ReportsPlan : Plan → Lateness → Speed → Told → Told → Ended V T → Type 0
+  ReportsPlan q l speed old new e = (e.core.plan ≡ q) × (bytes : List ℕ) × Gave old bytes new × Reports speed (came_within e.core.plan l bytes true).events e
 
   -- a run of the query that stands there ended so
-  abbrev pub ReportsPlace : ToldFiles → Place → Speed → Told → Told → Ended V T → Type 0
-  ReportsPlace held place speed old new e = IsPlanAt held place e.core.plan × (bytes : List ℕ) × Gave old bytes new × Reports speed bytes e
+  abbrev pub ReportsPlace : ToldFiles → Place → Lateness → Speed → Told → Told → Ended V T → Type 0
+  ReportsPlace held place l speed old new e =
+      IsPlanAt held place e.core.plan × (bytes : List ℕ) × Gave old bytes new × Reports speed (came_within e.core.plan l bytes true).events e
 
   -- a drill over so many rows of this seed ended so
   abbrev pub ReportsDrill : ℕ → ℕ → Speed → Ended V T → Type 0
-  ReportsDrill events seed speed e = IsPlanFor drill_query e.core.plan × Reports speed (generated events seed) e
+  ReportsDrill events seed speed e = IsPlanFor drill_query e.core.plan × Reports speed (came e.core.plan (generated events seed) true).events e
 
-  -- where the status is that it was done, there is an end, and it is such a one
+  -- where the status is one of success, there is an end, and it is such a one
   abbrev pub WhereDone : (Ended V T → Type 0) → Status → Option (Ended V T) → Type 0
-  WhereDone Is status (Some e) = status ≡ Done → Is e
-  WhereDone Is status None = status ≢ Done
+  WhereDone Is status (Some e) = number_of status ≡ 0 → Is e
+  WhereDone Is status None = number_of status ≢ 0
 
   -- the same of a call whose words are a run or a drill; for other words there is no end
   abbrev pub Reporting : List (List ℕ) → List (List ℕ) → ToldFiles → Told → Told → Status → Option (Ended V T) → Type 0
-  Reporting predictors words held old new status (Some e) = status ≡ Done → ReportsCall predictors words held old new e
-  Reporting predictors words held old new status None = (command : Command) → IsReported command → IsCall predictors words command → status ≢ Done
+  Reporting predictors words held old new status (Some e) = number_of status ≡ 0 → ReportsCall predictors words held old new e
+  Reporting predictors words held old new status None = (command : Command) → IsReported command → IsCall predictors words command → number_of status ≢ 0

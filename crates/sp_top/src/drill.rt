@@ -15,13 +15,14 @@ ghost use Rattle.sp_commands.specs.Drill.{DrillOutcome, WritesSummary};
 ghost use Rattle.sp_top.specs.Summing.{CanSum, SumsUp};
 ghost use Rattle.sp_top.specs.Report.{ReportsDrill, WhereDone};
 
+use crate::asked::Manner;
 use crate::law;
 use crate::run::run_plan;
 use crate::workshop::{CommandEnd, Workshop};
 use sp_answer::Status;
 use sp_base::Numbers;
 use sp_cli::Speed;
-use sp_commands::status_of_refusal;
+use sp_commands::{Lateness, status_of_refusal};
 use sp_core::Core;
 use sp_drill::query;
 use sp_emit::summary_text;
@@ -30,10 +31,17 @@ use sp_instance::Gate;
 use sp_io::{ByteSource, Discard, Sink};
 use sp_load::{QueryText, Refusal, plan_of_text};
 use sp_plan::{Memory, Plan};
+use sp_slack::LateRule;
 use sp_split::Crew;
 use std::alloc::{AllocError, Global};
 use std::sync::Wait;
 use std::thread::Threads;
+
+// No row of a drill is late.
+const PUNCTUAL: Lateness = Lateness {
+    slack: 0,
+    rule: LateRule::Refuse,
+};
 
 // The plan of the drill's query. It has one, so nothing but want of memory refuses it.
 fn drill_plan(alloc: Global) -> Result<Plan, Refusal>
@@ -98,10 +106,16 @@ fn run_rows<G: Gate, R: Threads + Wait + Sync>(
     law::drill_query_has_plan();
     law::generated_rows_are_read();
     law::rows_stay();
+    // without slack a run reads as where times may not go back
+    law::loose_is_reading();
     match task_of(shop.alloc, events, seed) {
         Ok(task) => {
             let Task { plan, mut rows } = task;
-            run_plan(shop, plan, speed, crew, &mut rows, &mut Discard)
+            let manner = Manner {
+                speed,
+                late: PUNCTUAL,
+            };
+            run_plan(shop, plan, manner, crew, &mut rows, &mut Discard)
         }
         Err(refusal) => CommandEnd::of(status_of_refusal(refusal)),
     }

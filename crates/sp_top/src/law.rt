@@ -7,6 +7,7 @@ pub(crate) use sp_cli::numbers_are_within;
 use sp_core::Core;
 pub(crate) use sp_cut::rows_stay;
 pub(crate) use sp_drill::{drill_query_has_plan, generated_rows_are_read};
+pub(crate) use sp_intake::loose_is_reading;
 pub(crate) use sp_load::one_reading;
 pub(crate) use sp_window::growth;
 

@@ -1,8 +1,8 @@
 // The words, and the answer to them.
 ghost use Rattle.std.specs.Prelude.{◌≡◌, ◌≢◌, ℕ, List, false, None, map, string_bytes};
+ghost use Rattle.sp_answer.specs.Outcome.{number_of};
 ghost use Rattle.sp_answer.specs.Promise.{filed};
 ghost use Rattle.sp_answer.specs.Ran.{outside};
-ghost use Rattle.sp_answer.specs.declared.status.Status.TheVariants.{Done};
 ghost use Rattle.sp_cli.specs.Commands.{seen};
 ghost use Rattle.sp_cli.specs.Limits.{IsWithin};
 ghost use Rattle.sp_commands.specs.Commands.{IsCommand, IsUnendedFor, ReadsInput};
@@ -10,7 +10,7 @@ ghost use Rattle.sp_commands.specs.Outcome.{Answers, Promise};
 ghost use Rattle.sp_top.specs.Prompt.{RunsPromptly};
 ghost use Rattle.sp_top.specs.Report.{Reported, Reporting};
 
-use crate::asked::Run;
+use crate::asked::{Manner, Run};
 use crate::choosing::crew_of;
 use crate::drill::drill;
 use crate::law;
@@ -19,7 +19,7 @@ use crate::workshop::{CommandEnd, Workshop};
 use sp_answer::{Status, tell};
 use sp_chance::Predictor;
 use sp_cli::{Command, UsageFault, read_words};
-use sp_commands::{Trace, place_of, plain, trace};
+use sp_commands::{Lateness, Trace, place_of, plain, trace};
 use sp_instance::Gate;
 use sp_io::{Files, Sink, Source};
 use sp_split::Ended;
@@ -53,15 +53,29 @@ fn carry_out<S: Source, F: Files, K: Sink, G: Gate, R: Threads + Wait + Sync>(
         (outside (S.state input.new) (K.state out.new)) }
 {
     match command {
-        Command::Run { query, speed } => match crew_of(predictors, speed) {
+        Command::Run {
+            query,
+            speed,
+            slack,
+            late,
+        } => match crew_of(predictors, speed) {
             Some(crew) => {
                 let place = place_of(query);
-                run(shop, Run { place, speed }, crew, input, files, out)
+                let late = Lateness {
+                    slack: *slack,
+                    rule: *late,
+                };
+                let manner = Manner { speed, late };
+                run(shop, Run { place, manner }, crew, input, files, out)
             }
             None => CommandEnd::of(Status::Usage),
         },
-        Command::Plain { query } => {
-            CommandEnd::of(plain(shop.alloc, place_of(query), input, files, out))
+        Command::Plain { query, slack, late } => {
+            let late = Lateness {
+                slack: *slack,
+                rule: *late,
+            };
+            CommandEnd::of(plain(shop.alloc, place_of(query), late, input, files, out))
         }
         Command::Trace {
             query,
@@ -119,13 +133,10 @@ fn answer<S: Source, F: Files, K: Sink, G: Gate, R: Threads + Wait + Sync>(
 
 // What a run ended with, where it was done.
 fn if_done(status: Status, ended: Option<Ended>) -> Option<Ended>
-    ensures done { status ≡ Done → result ≡ ended }
-    ensures other { status ≢ Done → result ≡ None }
+    ensures done { number_of status ≡ 0 → result ≡ ended }
+    ensures other { number_of status ≢ 0 → result ≡ None }
 {
-    match status {
-        Status::Done => ended,
-        _ => None,
-    }
+    if status.number() == 0 { ended } else { None }
 }
 
 /// Runs the words, which are the command line without the program's name, over an input that has not

@@ -13,7 +13,7 @@ returns-in-Ok-clause-status g c =
     let sink : SinkState = record { held = None; faults = 0 } in
     let old : Outside = outside (source_state c.in-Ok.task.rows) sink in
     let new : Outside = outside (source_state c.run_plan.new.input) sink in
-    rows_done c.rows_stay.ensures c.drill_query_has_plan.ensures c.generated_rows_are_read.ensures c.in-Ok.task.plan c.in-Ok.ensures.plan c.args.events c.args.seed c.requires.few old new told quiet quiet (used_up c.run_plan.new.input)
+    rows_done c.loose_is_reading.ensures c.rows_stay.ensures c.drill_query_has_plan.ensures c.generated_rows_are_read.ensures c.in-Ok.task.plan c.in-Ok.ensures.plan.is_plan.compiled c.in-Ok.ensures.plan c.args.events c.args.seed c.requires.few old new told quiet quiet (used_up c.run_plan.new.input)
     c.run_plan.result.status c.run_plan.ensures.ran
 
 pub returns-in-Ok-clause-report : goal.returns-in-Ok-clause-report
@@ -22,5 +22,5 @@ returns-in-Ok-clause-report g c =
     let sink : SinkState = record { held = None; faults = 0 } in
     let old : Outside = outside (source_state c.in-Ok.task.rows) sink in
     let new : Outside = outside (source_state c.run_plan.new.input) sink in
-    rows_reported c.rows_stay.ensures c.drill_query_has_plan.ensures c.generated_rows_are_read.ensures c.in-Ok.task.plan c.in-Ok.ensures.plan c.args.events c.args.seed c.requires.few old new told quiet quiet (used_up c.run_plan.new.input)
+    rows_reported c.loose_is_reading.ensures c.rows_stay.ensures c.drill_query_has_plan.ensures c.generated_rows_are_read.ensures c.in-Ok.task.plan c.in-Ok.ensures.plan.is_plan.compiled c.in-Ok.ensures.plan c.args.events c.args.seed c.requires.few old new told quiet quiet (used_up c.run_plan.new.input)
     c.run_plan.result.status c.run_plan.ensures.ran (speed_seen c.args.speed.now) c.run_plan.result.ended c.run_plan.ensures.report
