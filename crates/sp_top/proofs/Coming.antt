@@ -1,6 +1,8 @@
 -- What a reader has read, as what came of its input.
-use Rattle.std.proofs.Common.{◌≡◌, ℕ, Bool, false, List, Option, Some, None, sym, ap, subst}
-use Rattle.std.specs.Prelude.{IfSome}
+use Rattle.std.proofs.Common.{◌≡◌, ℕ, false, List, Option, Some, None, Ok, Err, sym, ap, subst}
+use Rattle.std.specs.Prelude.{Result, IfOk, IfSome}
+use Rattle.std.specs.declared.alloc.AllocError.{AllocError}
+use Rattle.sp_intake.specs.declared.events.EventReader.{EventReader}
 use Rattle.sp_io.specs.Outside.{SourceState}
 use Rattle.sp_plan.specs.Compiled.{IsCompiled}
 use Rattle.sp_plan.specs.declared.event.Event.{Event}
@@ -16,10 +18,15 @@ use Rattle.sp_intake.specs.Pieces.{AsksFrom}
 use Rattle.sp_intake.specs.Standing.{Standing, ReadsFrom, IsFront, stop_in}
 use Rattle.sp_commands.specs.Ends.{CameFrom, came, came_within, late_status}
 use Rattle.sp_commands.specs.Given.{StopsInTime}
-use Rattle.sp_commands.proofs.Came.{within_open}
+use Rattle.sp_commands.proofs.Came.{came_open, within_open}
 use Rattle.sp_commands.proofs.Punctual.{came_in_time}
 use Rattle.sp_commands.proofs.Running.{strict_in_time}
-use Rattle.sp_top.specs.Coming.{late_in, CameSoFar, ComesFrom, CameBefore, AsksInTime}
+use Rattle.sp_top.specs.Coming.{late_in, ComesFrom, AsksInTime}
+
+-- what is so of a reader, where one was made
+pub if_made : (P Q : EventReader → Type 0) (made : Result EventReader AllocError) → ((events : EventReader) → P events → Q events) → IfOk made P → IfOk made Q
+if_made P Q (Ok events) weaker so = weaker events so
+if_made P Q (Err e) weaker so = tt
 
 -- ---- with a slack
 
@@ -57,7 +64,14 @@ comes_in_order q l origin first reads events last gives =
 pub asks_in_order : (q : Plan) (l : Lateness) (origin : SourceState) (first : Standing) → AsksInOrder q l origin first → AsksInTime q l origin first
 asks_in_order q l origin first asks before events last asked =
     let so = asks before events last asked in
-    record { taken = so.0; gave = so.1.read.has.gave; in_time = order_in_time q l so.0 so.1.last; are = so.1.are }
+    let behind : StopsInTime (came_within q l) so.0 = record {
+      front = so.1.last.front;
+      piece = so.1.last.piece;
+      are = so.1.last.are;
+      short = so.1.last.short;
+      goes_on = within_open q l so.1.last.front so.1.last.goes_on;
+    } in
+    record { taken = so.0; gave = so.1.read.has.gave; in_time = behind; are = so.1.are }
 
 -- ---- without
 
@@ -94,5 +108,12 @@ module _ (law : LooseIsReading) (q : Plan) (compiled : IsCompiled q) (origin : S
   pub asks_strictly : AsksFrom q origin first → AsksInTime q punctual origin first
   asks_strictly asks before events last asked =
       let so = asks before events last asked in
-      let own = subst (λ (way : CameFrom). Before way so.taken before) same (strict_in_time q so.taken so.last, so.are) in
+      let behind : StopsInTime (came q) so.taken = record {
+        front = so.last.front;
+        piece = so.last.piece;
+        are = so.last.are;
+        short = so.last.short;
+        goes_on = came_open q so.last.front so.last.goes_on;
+      } in
+      let own = subst (λ (way : CameFrom). Before way so.taken before) same (behind, so.are) in
       record { taken = so.taken; gave = so.has.gave; in_time = own.0; are = own.1 }

@@ -20,7 +20,7 @@ use Rattle.sp_load.specs.Laws.{OneReading}
 use Rattle.sp_load.specs.declared.refusal.Refusal.{Refusal}
 use Rattle.sp_load.specs.declared.refusal.Refusal.TheVariants as r
 use Rattle.sp_answer.specs.declared.status.Status.{Status}
-use Rattle.sp_answer.specs.declared.status.Status.TheVariants.{Done, Memory, Read}
+use Rattle.sp_answer.specs.declared.status.Status.TheVariants.{Done, Memory}
 use Rattle.sp_answer.specs.Outcome.{ending, number_of, outcome}
 use Rattle.sp_answer.specs.Ran.{Outside, outside, Ran, Made}
 use Rattle.sp_answer.proofs.Answering.{made_none}

@@ -1,5 +1,5 @@
 -- A run is prompt: from what an input had given and an outlet had taken to the bytes that were read and written.
-use Rattle.std.proofs.Common.{◌≡◌, ℕ, ℤ, Bool, false, List, [], ◌++◌, Some, refl, sym, ◌∙◌, ap, subst}
+use Rattle.std.proofs.Common.{◌≡◌, ℕ, ℤ, Bool, false, List, ◌++◌, refl, sym, ◌∙◌, ap, subst}
 use Rattle.std.proofs.lemmas.Option.{same_Some}
 use Rattle.sp_io.specs.Outside.{Gave, Grew, SourceState, SinkState, ToldFiles}
 use Rattle.sp_io.proofs.Grew.{grew_more}
@@ -14,7 +14,7 @@ use Rattle.sp_ports.specs.Stopping.{is_end}
 use Rattle.sp_intake.specs.Standing.{Standing}
 use Rattle.sp_answer.specs.Outcome.{Outcome}
 use Rattle.sp_answer.specs.Ran.{Outside, outside}
-use Rattle.sp_cli.specs.Commands.{Command, QuerySource, Speed, command_of, plain, run, trace, drill}
+use Rattle.sp_cli.specs.Commands.{Command, QuerySource, Speed, plain, run, trace, drill}
 use Rattle.sp_load.specs.Places.{Place}
 use Rattle.sp_load.specs.Queries.{IsPlanAt}
 use Rattle.sp_commands.specs.Commands.{IsCommand, place_of, lateness}

@@ -1,5 +1,5 @@
 -- What a run that was done ended with, as what is reported of it.
-use Rattle.std.proofs.Common.{◌≡◌, ◌≢◌, inl, ◌⊎◌, ⊎_elim, ℕ, zero, suc, Bool, true, false, List, [], ◌∷◌, length, map, filter, Option, Some, None, refl, ap, sym, subst, ◌∙◌, arith}
+use Rattle.std.proofs.Common.{◌≡◌, ◌≢◌, inl, ◌⊎◌, ⊎_elim, ℕ, zero, suc, Bool, true, List, [], ◌∷◌, length, map, filter, Option, Some, None, refl, ap, sym, subst, ◌∙◌, arith}
 use Rattle.std.specs.Prelude.{ℤ, pos, ◌+ℤ◌, ◌*ℤ◌, unsigned_abs, find, IfSome, if◌then◌else◌}
 use Rattle.std.specs.List.{filter_map, cons_option, last_or, range_with_len}
 use Rattle.std.specs.Option.{option_map}

@@ -36,7 +36,7 @@ returns-in-Ok-clause-ran g c origin reads =
     before after c.args.lines.now.taken c.drive.new.outlet.taken
     went c.in-Ok.ensures.ended c.steps_lead_to.ensures.reached.sequential in
     subst (λ (s : Status). Ran (IsPlanRun q l) (outside origin before) (outside last.source after) (ending s))
-    (sym (c.status_of_end-status.ensures ∙ ap (λ (n : ℕ). status_of_end l.rule n c.in-Ok.ended.why) c.late_of.ensures)) ran
+    (sym (c.status_of_end-status.ensures ∙ ap (λ (n : ℕ). status_of_end l.rule n c.in-Ok.ended.why) c.late.ensures)) ran
 
 pub returns-in-Ok-clause-report : goal.returns-in-Ok-clause-report
 returns-in-Ok-clause-report g c origin reads done =
@@ -50,7 +50,7 @@ returns-in-Ok-clause-report g c origin reads done =
     reports_plan c.args.core l origin first last reads old.events.stops new.events.stops
     (outlet before c.args.lines.now.taken) (outlet after c.drive.new.outlet.taken)
     (speed_seen c.args.manner.speed.now) c.in-Ok.ended c.in-Ok.ensures.ended c.requires.bound c.steps_lead_to.ensures.replays c.in-Ok.ensures.about c.in-Ok.ensures.asked
-    (ap number_of (sym (c.status_of_end-status.ensures ∙ ap (λ (n : ℕ). status_of_end l.rule n c.in-Ok.ended.why) c.late_of.ensures)) ∙ done)
+    (ap number_of (sym (c.status_of_end-status.ensures ∙ ap (λ (n : ℕ). status_of_end l.rule n c.in-Ok.ended.why) c.late.ensures)) ∙ done)
 
 pub returns-in-Err-clause-ran : goal.returns-in-Err-clause-ran
 returns-in-Err-clause-ran g c origin reads =
