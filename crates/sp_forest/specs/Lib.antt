@@ -1,0 +1,4 @@
+pub mod Parts
+pub mod Shifted
+pub mod Seen
+pub mod Moving
