@@ -1,2 +1,5 @@
 pub mod Worked
+pub mod Lists
+pub mod Moved
+pub mod Bounded
 pub mod MovedOn
