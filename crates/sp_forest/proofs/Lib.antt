@@ -2,4 +2,8 @@ pub mod Worked
 pub mod Lists
 pub mod Moved
 pub mod Bounded
+pub mod Places
+pub mod Opening
+pub mod Cutting
+pub mod Order
 pub mod MovedOn
