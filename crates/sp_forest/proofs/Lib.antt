@@ -6,4 +6,8 @@ pub mod Places
 pub mod Opening
 pub mod Cutting
 pub mod Order
+pub mod Groups
+pub mod Stepping
+pub mod Splitting
+pub mod FallingApart
 pub mod MovedOn

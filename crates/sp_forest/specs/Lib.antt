@@ -1,4 +1,5 @@
 pub mod Parts
 pub mod Shifted
+pub mod Laws
 pub mod Seen
 pub mod Moving
