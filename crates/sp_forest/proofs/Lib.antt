@@ -10,4 +10,7 @@ pub mod Groups
 pub mod Stepping
 pub mod Splitting
 pub mod FallingApart
+pub mod FedWindows
+pub mod Stretching
+pub mod Gathering
 pub mod MovedOn

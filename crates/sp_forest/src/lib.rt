@@ -3,10 +3,12 @@
 //! `specs/Shifted.antt`, and that these are the matches of the whole input in `specs/Laws.antt`.
 #![tactic(auto)]
 
+mod feeding;
 pub mod law;
 mod part;
 mod shift;
+mod stretch;
 
 pub use law::{parts_fall_apart, parts_lie_within};
-pub use part::Part;
+pub use part::{Part, parts};
 pub use shift::shifted;
