@@ -122,6 +122,7 @@ impl RowReader {
     }
 
     // Whether an event of this time is late.
+    #[inline(always)]
     fn is_late(&self, time: i64) -> bool
         ensures { (e : came.Event) → e.time ≡ time → result
             ≡ is_before (before (reader_of self.now).lateness.slack (reader_of self.now).greatest) e }
@@ -133,6 +134,7 @@ impl RowReader {
     }
 
     // The greatest time once an event of this time is given.
+    #[inline(always)]
     fn greatest_with(&self, time: i64) -> i64
         requires low { pos 0 ≤ℤ time }
         requires high { time ≤ℤ pos number_limit }
@@ -148,6 +150,7 @@ impl RowReader {
     }
 
     // Why the row stops the reading whose event is late.
+    #[inline(never)]
     fn late_row(&self) -> Failure
         ensures { result ≡ Failure.Row 6 (reader_of self.now).count
             (time_place_in (plan_of self.now.rows) (read_of self.now.rows).places) }
@@ -160,6 +163,7 @@ impl RowReader {
     }
 
     // What becomes of an event of this time, which the last row gave.
+    #[inline(always)]
     fn fate(&self, time: i64) -> Fate
         ensures { (e : came.Event) → e.time ≡ time → result ≡ fate (reader_of self.now) e }
     {
