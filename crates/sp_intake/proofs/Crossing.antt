@@ -20,6 +20,7 @@ use Rattle.sp_plan.specs.contracts.plan.Plan as plan
 use Rattle.sp_rows.specs.contracts.rows.Rows as rows
 use Rattle.sp_intake.specs.contracts.reader.RowReader as reader
 use Rattle.sp_slack.specs.contracts.slack.Slack as slack
+use Rattle.sp_slack.specs.contracts.waiting.Waiting as waiting
 use Rattle.sp_intake.specs.contracts.held.Held as held
 use Rattle.sp_intake.specs.contracts.events.EventReader as events
 use Rattle.sp_intake.specs.contracts.giving.Input as input
@@ -50,12 +51,17 @@ rows_sent =
 reader_sent : IsSend reader.the_field.row
 reader_sent =
     struct_send (shape reader.the_type)
-    (search (sendable, crosses) depth 30, (rows_sent, (search (sendable, crosses) depth 30, (search (sendable, crosses) depth 30, (search (sendable, crosses) depth 30, (search (sendable, crosses) depth 30, (search (sendable, crosses) depth 30, (search (sendable, crosses) depth 30, (search (sendable, crosses) depth 30, tt)))))))))
+    (search (sendable, crosses) depth 30, (rows_sent, (search (sendable, crosses) depth 30, (search (sendable, crosses) depth 30, (search (sendable, crosses) depth 30, (search (sendable, crosses) depth 30, (search (sendable, crosses) depth 30, (search (sendable, crosses) depth 30, tt))))))))
+
+waiting_sent : IsSend waiting.the_field.row
+waiting_sent =
+    struct_send (shape waiting.the_type)
+    (search (sendable, crosses) depth 30, (search (BTreeMap-send, sendable, crosses) depth 30, (search (sendable, crosses) depth 30, (search (sendable, crosses) depth 30, tt))))
 
 slack_sent : IsSend slack.the_field.row
 slack_sent =
     struct_send (shape slack.the_type)
-    (search (sendable, crosses) depth 30, (search (BTreeMap-send, sendable, crosses) depth 30, (search (sendable, crosses) depth 30, (search (sendable, crosses) depth 30, (search (sendable, crosses) depth 30, (search (sendable, crosses) depth 30, tt))))))
+    (search (sendable, crosses) depth 30, (waiting_sent, (search (sendable, crosses) depth 30, (search (sendable, crosses) depth 30, (search (sendable, crosses) depth 30, tt)))))
 
 held_sent : IsSend held.the_field.row
 held_sent = struct_send (shape held.the_type) (slack_sent, (search (sendable, crosses) depth 30, tt))

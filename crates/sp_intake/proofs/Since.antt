@@ -29,7 +29,7 @@ use Rattle.sp_intake.specs.Laws.{reads_none, reads_more}
 use Rattle.sp_intake.specs.Orderly.{same_next}
 use Rattle.sp_intake.specs.Loose.{Lateness, Loose, take_row, loose, kept}
 use Rattle.sp_intake.specs.LooseLaws.{punctual}
-use Rattle.sp_intake.specs.Reader.{Reader, AreCounted, WereGiven, last_of, time_or_nought, reading_of, Fails}
+use Rattle.sp_intake.specs.Reader.{Reader, AreCounted, WereGiven, last_of, time_or_nought, texts_of, reading_of, Fails}
 use Rattle.sp_intake.specs.Reading.{Way, read, stop_of, stop_or, end_stop}
 use Rattle.sp_intake.specs.Standing.{RowsAt, going, IsFront, HasRead, HasReadBy, Leads, Since, Reads, RowsGive}
 use Rattle.sp_intake.proofs.Gave.{gave_none, gave_more}
@@ -144,6 +144,7 @@ module _ (source : SourceState) (old new : Reader) (events : List Event) where
             never_falls = since.has.never_falls;
           };
           late = tt;
+          texts = tt;
           leads = λ is. on;
         });
   }
@@ -175,6 +176,7 @@ module _ (source : SourceState) (old new : Reader) where
         never_falls = since.has.never_falls;
       };
       late = tt;
+      texts = tt;
       leads = λ is. absurd (cc is);
     });
   }
@@ -246,6 +248,7 @@ module _ (source : SourceState) (reader : Reader) (stop : Stop) where
             never_falls = since.has.never_falls;
           };
           late = ap (λ (r : Loose). r.late) same;
+          texts = ap (λ (r : Loose). r.reading.so_far.texts) same;
           leads = λ going. absurd (cc going);
         });
   }
@@ -260,7 +263,7 @@ pub record SameGiven (old new : Reader) : Type 0 where
 
 -- and at a row that stops it
 module _ (source : SourceState) (old new : Reader) (next : CutRow) (failure : Failure) where
-  pub reads_failed : RowsStay → Begins old.cutter next → Fails next failure old → SameGiven old new
+  pub reads_failed : RowsStay → Begins old.cutter next → Fails next failure (texts_of new) old → SameGiven old new
       → Reads (going source old) [] [] (record { source = source; state = Stopped (Failed failure); reader = new })
   reads_failed stay begins fails still = record {
     plan = still.plan;
@@ -294,6 +297,7 @@ module _ (source : SourceState) (old new : Reader) (next : CutRow) (failure : Fa
             never_falls = since.has.never_falls;
           };
           late = still.late ∙ sym by.late ∙ ap (λ (r : Loose). r.late) same;
+          texts = sym by.texts ∙ ap (λ (r : Loose). r.reading.so_far.texts) same;
           leads = λ going. absurd (cc going);
         });
   }
@@ -348,6 +352,7 @@ module _ (source next : SourceState) (reader : Reader) (settled : IsSettled read
             never_falls = omega (arith, since.has.never_falls, falls);
           };
           late = ap (λ (r : Loose). r.late) same;
+          texts = ap (λ (r : Loose). r.reading.so_far.texts) same;
           leads = λ is. absurd (cc is);
         };
   }
@@ -389,6 +394,7 @@ module _ (source next : SourceState) (reader : Reader) (settled : IsSettled read
               never_falls = omega (arith, since.has.never_falls, faults);
             };
             late = tt;
+            texts = tt;
             leads = λ is. on_first;
           } in
           subst (λ (events : List Event). Since q l origin taken events (going next after)) (sym (append-nil first)) has;
@@ -425,6 +431,7 @@ module _ (source next : SourceState) (reader : Reader) (settled : IsSettled read
               never_falls = omega (arith, since.has.never_falls, faults);
             };
             late = tt;
+            texts = tt;
             leads = λ is. absurd (cc is);
           };
     }
@@ -466,6 +473,7 @@ module _ (source next : SourceState) (reader : Reader) (settled : IsSettled read
             never_falls = omega (arith, since.has.never_falls, faults);
           };
           late = tt;
+          texts = tt;
           leads = λ is. on_first;
         } in
         subst (λ (events : List Event). Since q l origin taken events (going next after)) (sym (append-nil first)) has;
@@ -496,6 +504,7 @@ unread q l source reader opens none =
         never_falls = omega arith;
       };
       late = tt;
+      texts = tt;
       leads = λ is. on;
     }
 
@@ -503,6 +512,9 @@ unread q l source reader opens none =
 module _ (q : Plan) (timed : IsTimeOf q.schema.columns q.schema.time) where
   pub on_time_events : (bytes : List ℕ) (ended : Bool) → (kept q punctual bytes ended).events ≡ (read q bytes ended).events
   on_time_events bytes ended = ap (λ (l : Loose). l.reading.events) (loose_same q timed bytes ended)
+
+  pub on_time_texts : (bytes : List ℕ) (ended : Bool) → (kept q punctual bytes ended).so_far.texts ≡ (read q bytes ended).so_far.texts
+  on_time_texts bytes ended = ap (λ (l : Loose). l.reading.so_far.texts) (loose_same q timed bytes ended)
 
   pub on_time_goes : (bytes : List ℕ) → (kept q punctual bytes false).stopped ≡ None → (read q bytes false).stopped ≡ None
   on_time_goes bytes goes = sym (ap (λ (l : Loose). l.reading.stopped) (loose_same q timed bytes false)) ∙ goes

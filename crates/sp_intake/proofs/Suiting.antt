@@ -56,10 +56,13 @@ pub suits_as : (old new : Rows) → SuitsPlan old → plan_of new ≡ plan_of ol
 suits_as old new suits plan placed same =
     suits_with new (subst (λ (q : Plan). IsTimeOf q.schema.columns q.schema.time) (sym plan) (suits_time old suits)) (subst (λ (q : Plan). PlacesFit q (read_of new).places) (sym plan) placed) (same ∙ suits.loose)
 
+-- so are the places
+pub suits_placed : (old new : Rows) → SuitsPlan old → plan_of new ≡ plan_of old → (read_of new).places ≡ (read_of old).places → is_loose new ≡ is_loose old → SuitsPlan new
+suits_placed old new suits plan is same = suits_as old new suits plan (subst (PlacesFit (plan_of old)) (sym is) (suits_places old suits)) same
+
 -- what was read is the same
 pub suits_still : (old new : Rows) → SuitsPlan old → plan_of new ≡ plan_of old → read_of new ≡ read_of old → is_loose new ≡ is_loose old → SuitsPlan new
-suits_still old new suits plan is same =
-    suits_as old new suits plan (subst (λ (r : RowsRead). PlacesFit (plan_of old) r.places) (sym is) (suits_places old suits)) same
+suits_still old new suits plan is same = suits_placed old new suits plan (ap (λ (r : RowsRead). r.places) is) same
 
 -- ---- a row that gives an event leaves the places
 

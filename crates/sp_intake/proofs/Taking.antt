@@ -31,13 +31,14 @@ use Rattle.sp_slack.specs.declared.late.LateRule.{LateRule}
 use Rattle.sp_slack.specs.declared.late.LateRule.TheVariants.{Refuse, Drop}
 use Rattle.sp_intake.specs.declared.reader.Step.{Step}
 use Rattle.sp_intake.specs.declared.reader.Step.TheVariants as step
-use Rattle.sp_intake.specs.declared.reader.Fate.TheVariants.{Kept, PassedOver, Refused}
+use Rattle.sp_intake.specs.declared.reader.Fate.{Fate}
+use Rattle.sp_intake.specs.declared.reader.Fate.TheVariants.{Kept, PassedOver, Late, Full}
 use Rattle.sp_intake.specs.Following.{ComeNext}
 use Rattle.sp_intake.specs.Laws.{reads_none}
 use Rattle.sp_intake.specs.Loose.{Lateness, Loose, reads_on, is_full, filled, with_late, with_result, with_row, take_row}
 use Rattle.sp_intake.specs.LooseLaws.{punctual}
 use Rattle.sp_intake.specs.Orderly.{one_next}
-use Rattle.sp_intake.specs.Reader.{Reader, WereGiven, last_of, time_or_nought, reading_of, IsReady, SuitsPlan, TakesRow, FailedBy, Fails, fate, fate_by}
+use Rattle.sp_intake.specs.Reader.{Reader, WereGiven, last_of, time_or_nought, texts_of, reading_of, IsReady, SuitsPlan, TakesRow, FailedBy, Fails, fate, fate_by, failure_by, late_failure}
 use Rattle.sp_intake.specs.Reading.{Reading, stopped_by, end_stop}
 use Rattle.sp_intake.specs.Standing.{Reads, going, given_by, state_by}
 use Rattle.sp_intake.proofs.Leading.{taken_leads}
@@ -54,19 +55,20 @@ gives_at : (left mid new : Left) (span : Span) (bytes : List ℕ) → mid ≡ le
 gives_at left mid new span bytes same is gives = subst (λ (l : Left). GivesRow l bytes new) same (subst (λ (b : List ℕ). GivesRow mid b new) (sym is) gives)
 
 -- a reading that was stopped failed so
-failed_by : (events : List Event) (late : ℕ) (failure : Failure) (r : Loose) (s : Reading) → r ≡ record { reading = stopped_by s failure; late = late } → s.events ≡ events → FailedBy events late failure r
-failed_by events late failure r s is same = record {
+failed_by : (events : List Event) (late : ℕ) (known : List (List ℕ)) (failure : Failure) (r : Loose) (s : Reading) → r ≡ record { reading = stopped_by s failure; late = late } → s.events ≡ events → s.so_far.texts ≡ known → FailedBy events late known failure r
+failed_by events late known failure r s is same texts = record {
   events = ap (λ (t : Loose). t.reading.events) is ∙ same;
   late = ap (λ (t : Loose). t.late) is;
+  texts = ap (λ (t : Loose). t.reading.so_far.texts) is ∙ texts;
   stopped = ap (λ (t : Loose). t.reading.stopped) is;
 }
 
 module _ (old : Reader) (ready : IsReady old) (next : CutRow) where
   -- the limit of rows was reached
-  pub full_fails : old.count ≡ 2097152 → Fails next (Limit 2097152) old
+  pub full_fails : old.count ≡ 2097152 → Fails next (Limit 2097152) (texts_of old) old
   full_fails full first given =
-      failed_by first old.late (Limit 2097152) (take_row (plan_of old.rows) old.lateness (reading_of first old) next) (reading_of first old).reading
-      (rw (eq-eqb (read_of old.rows).read 2097152 (sym ready.count ∙ full)) refl) refl
+      failed_by first old.late (texts_of old) (Limit 2097152) (take_row (plan_of old.rows) old.lateness (reading_of first old) next) (reading_of first old).reading
+      (rw (eq-eqb (read_of old.rows).read 2097152 (sym ready.count ∙ full)) refl) refl refl
 
   pub taken : old.count ≢ 2097152 → (first : List Event) → take_row (plan_of old.rows) old.lateness (reading_of first old) next ≡ with_row (plan_of old.rows) old.lateness (reading_of first old) next
   taken less first = rw (ne_eqb (read_of old.rows).read 2097152 (λ is. less (ready.count ∙ is))) refl
@@ -76,15 +78,15 @@ module _ (old : Reader) (ready : IsReady old) (less : old.count ≢ 2097152) whe
   abbrev without : ℕ → List Event → ℕ → Loose
   without code first n = record { reading = stopped_by (reading_of first old).reading (Row code (n + 1) 0); late = old.late }
 
-  pub long_fails : Fails long_row (Row 8 (old.count + 1) 0) old
+  pub long_fails : Fails long_row (Row 8 (old.count + 1) 0) (texts_of old) old
   long_fails first given =
-      failed_by first old.late (Row 8 (old.count + 1) 0) (take_row (plan_of old.rows) old.lateness (reading_of first old) long_row) (reading_of first old).reading
-      (taken old ready long_row less first ∙ ap (without 8 first) (sym ready.count)) refl
+      failed_by first old.late (texts_of old) (Row 8 (old.count + 1) 0) (take_row (plan_of old.rows) old.lateness (reading_of first old) long_row) (reading_of first old).reading
+      (taken old ready long_row less first ∙ ap (without 8 first) (sym ready.count)) refl refl
 
-  pub open_fails : Fails open_quote (Row 9 (old.count + 1) 0) old
+  pub open_fails : Fails open_quote (Row 9 (old.count + 1) 0) (texts_of old) old
   open_fails first given =
-      failed_by first old.late (Row 9 (old.count + 1) 0) (take_row (plan_of old.rows) old.lateness (reading_of first old) open_quote) (reading_of first old).reading
-      (taken old ready open_quote less first ∙ ap (without 9 first) (sym ready.count)) refl
+      failed_by first old.late (texts_of old) (Row 9 (old.count + 1) 0) (take_row (plan_of old.rows) old.lateness (reading_of first old) open_quote) (reading_of first old).reading
+      (taken old ready open_quote less first ∙ ap (without 9 first) (sym ready.count)) refl refl
 
 -- a row is read
 module _ (old : Reader) (ready : IsReady old) (less : old.count ≢ 2097152) (bytes : List ℕ) where
@@ -94,10 +96,10 @@ module _ (old : Reader) (ready : IsReady old) (less : old.count ≢ 2097152) (by
   read_as : (given : RowResult) → given_now ≡ given → (first : List Event) → take_row (plan_of old.rows) old.lateness (reading_of first old) (row bytes) ≡ with_result (plan_of old.rows) old.lateness (reading_of first old) given
   read_as given is first = taken old ready (row bytes) less first ∙ ap (with_result (plan_of old.rows) old.lateness (reading_of first old)) (loose_is old.rows ready.suits bytes given is)
 
-  pub refused_fails : (fault : RowFault) → given_now ≡ refused fault → Fails (row bytes) (Row (code_of fault.kind) fault.row fault.column) old
+  pub refused_fails : (fault : RowFault) → given_now ≡ refused fault → Fails (row bytes) (Row (code_of fault.kind) fault.row fault.column) (texts_of old) old
   refused_fails fault is first given =
-      failed_by first old.late (Row (code_of fault.kind) fault.row fault.column) (take_row (plan_of old.rows) old.lateness (reading_of first old) (row bytes)) (reading_of first old).reading
-      (read_as (refused fault) is first) refl
+      failed_by first old.late (texts_of old) (Row (code_of fault.kind) fault.row fault.column) (take_row (plan_of old.rows) old.lateness (reading_of first old) (row bytes)) (reading_of first old).reading
+      (read_as (refused fault) is first) refl refl
 
   pub nothing_takes : (new : Reader) → given_now ≡ nothing (read_of new.rows) → new.late ≡ old.late → TakesRow (row bytes) [] old new
   nothing_takes new is late first given =
@@ -120,10 +122,11 @@ module _ (old : Reader) (ready : IsReady old) (less : old.count ≢ 2097152) (by
     abbrev full_now : Bool
     full_now = old.given + old.late == event_limit
 
-    fate_is : fate mid e ≡ fate_by is_late_now old.lateness.rule full_now failure
-    fate_is = λ i.
-        fate_by (is_before (before (lateness i).slack (latest i)) e) (lateness i).rule (given i + late i == event_limit)
-        (Row 6 (counted i) (time_place_in (plan i) (event_places old.rows mid.rows ready.suits bytes e is i)))
+    fate_is : fate mid e ≡ fate_by is_late_now old.lateness.rule full_now
+    fate_is = λ i. fate_by (is_before (before (lateness i).slack (latest i)) e) (lateness i).rule (given i + late i == event_limit)
+
+    failure_is : late_failure mid ≡ failure
+    failure_is = λ i. Row 6 (counted i) (time_place_in (plan i) (event_places old.rows mid.rows ready.suits bytes e is i))
 
     -- the same as the reading asks it
     module _ (first : List Event) (were : WereGiven first old) where
@@ -159,7 +162,7 @@ module _ (old : Reader) (ready : IsReady old) (less : old.count ≢ 2097152) (by
           ∙ (λ i. event_so (late_is i) old.lateness.rule (full_is i))
 
     -- it is given
-    kept_so : (late full : Bool) (rule : LateRule) → fate_by late rule full failure ≡ Kept → (first : List Event) (were : WereGiven first old)
+    kept_so : (late full : Bool) (rule : LateRule) → fate_by late rule full ≡ Kept → (first : List Event) (were : WereGiven first old)
         → event_so first were late rule full ≡ reads_on (reading_of first old) (record (reading_of first old).reading { so_far = so_far; events = first ++ e ∷ [] })
     kept_so true full Refuse kept first were = absurd (cc kept)
     kept_so true true Drop kept first were = absurd (cc kept)
@@ -173,7 +176,7 @@ module _ (old : Reader) (ready : IsReady old) (less : old.count ≢ 2097152) (by
         ∙ sym (so first were ∙ kept_so is_late_now full_now old.lateness.rule (sym fate_is ∙ kept) first were)
 
     -- and it was not late
-    kept_by : (late full : Bool) (rule : LateRule) → fate_by late rule full failure ≡ Kept → late ≡ false
+    kept_by : (late full : Bool) (rule : LateRule) → fate_by late rule full ≡ Kept → late ≡ false
     kept_by true full Refuse kept = absurd (cc kept)
     kept_by true true Drop kept = absurd (cc kept)
     kept_by true false Drop kept = absurd (cc kept)
@@ -183,7 +186,7 @@ module _ (old : Reader) (ready : IsReady old) (less : old.count ≢ 2097152) (by
     kept_timely kept = kept_by is_late_now full_now old.lateness.rule (sym fate_is ∙ kept)
 
     -- it is passed over
-    passed_so : (late full : Bool) (rule : LateRule) → fate_by late rule full failure ≡ PassedOver → (first : List Event) (were : WereGiven first old)
+    passed_so : (late full : Bool) (rule : LateRule) → fate_by late rule full ≡ PassedOver → (first : List Event) (were : WereGiven first old)
         → event_so first were late rule full ≡ record { reading = record (reading_of first old).reading { so_far = so_far }; late = old.late + 1 }
     passed_so true full Refuse passed first were = absurd (cc passed)
     passed_so true true Drop passed first were = absurd (cc passed)
@@ -197,29 +200,40 @@ module _ (old : Reader) (ready : IsReady old) (less : old.count ≢ 2097152) (by
         ∙ (λ i. record { reading = record { so_far = same_rows i; events = first; stopped = None }; late = more i })
         ∙ sym (so first were ∙ passed_so is_late_now full_now old.lateness.rule (sym fate_is ∙ passed) first were)
 
+    -- the texts that are known where the reading stops at it: those of its row too, where it is not late
+    abbrev pub known_at : Fate → List (List ℕ)
+    known_at Kept = so_far.texts
+    known_at PassedOver = so_far.texts
+    known_at Late = texts_of old
+    known_at Full = so_far.texts
+
     -- the reading stops at it
-    fails_so : (late full : Bool) (rule : LateRule) (own : Failure) → fate_by late rule full failure ≡ Refused own → (first : List Event) (were : WereGiven first old) → FailedBy first old.late own (event_so first were late rule full)
-    fails_so true full Refuse own stops first were = record { events = refl; late = refl; stopped = ap Some (cc stops) }
-    fails_so true true Drop own stops first were = record { events = refl; late = refl; stopped = ap Some (cc stops) }
+    fails_so : (late full : Bool) (rule : LateRule) (own : Failure) → failure_by (fate_by late rule full) failure ≡ Some own → (first : List Event) (were : WereGiven first old)
+        → FailedBy first old.late (known_at (fate_by late rule full)) own (event_so first were late rule full)
+    fails_so true full Refuse own stops first were = record { events = refl; late = refl; texts = refl; stopped = stops }
+    fails_so true true Drop own stops first were = record { events = refl; late = refl; texts = refl; stopped = stops }
     fails_so true false Drop own stops first were = absurd (cc stops)
-    fails_so false true rule own stops first were = record { events = refl; late = refl; stopped = ap Some (cc stops) }
+    fails_so false true rule own stops first were = record { events = refl; late = refl; texts = refl; stopped = stops }
     fails_so false false rule own stops first were = absurd (cc stops)
 
-    pub event_fails : (own : Failure) → fate mid e ≡ Refused own → Fails (row bytes) own old
-    event_fails own stops first were =
-        subst (FailedBy first old.late own) (sym (so first were)) (fails_so is_late_now full_now old.lateness.rule own (sym fate_is ∙ stops) first were)
+    pub event_fails : (given_fate : Fate) → fate mid e ≡ given_fate → (own : Failure) → failure_by given_fate (late_failure mid) ≡ Some own → Fails (row bytes) own (known_at given_fate) old
+    event_fails given_fate fated own stops first were =
+        let here : fate_by is_late_now old.lateness.rule full_now ≡ given_fate = sym fate_is ∙ fated in
+        let same : failure_by (fate_by is_late_now old.lateness.rule full_now) failure ≡ failure_by given_fate (late_failure mid) = sym (λ i. failure_by (sym here i) (failure_is i)) in
+        subst (λ (f : Fate). FailedBy first old.late (known_at f) own (take_row (plan_of old.rows) old.lateness (reading_of first old) (row bytes))) here
+        (subst (FailedBy first old.late (known_at (fate_by is_late_now old.lateness.rule full_now)) own) (sym (so first were)) (fails_so is_late_now full_now old.lateness.rule own (same ∙ stops) first were))
 
 -- where an event is not refused, the limit was not reached
-not_full_by : (late full : Bool) (rule : LateRule) (own : Failure) → ((failure : Failure) → fate_by late rule full own ≡ Refused failure → full ≡ false) → full ≡ false
-not_full_by late false rule own other = refl
-not_full_by true true Refuse own other = other own refl
-not_full_by true true Drop own other = other (Limit event_limit) refl
-not_full_by false true rule own other = other (Limit event_limit) refl
+not_full_by : (late full : Bool) (rule : LateRule) → (fate_by late rule full ≡ Late → full ≡ false) → (fate_by late rule full ≡ Full → full ≡ false) → full ≡ false
+not_full_by late false rule first other = refl
+not_full_by true true Refuse first other = first refl
+not_full_by true true Drop first other = other refl
+not_full_by false true rule first other = other refl
 
-pub not_full : (reader : Reader) (e : Event) → ((failure : Failure) → fate reader e ≡ Refused failure → (reader.given + reader.late == event_limit) ≡ false) → (reader.given + reader.late == event_limit) ≡ false
-not_full reader e =
+pub not_full : (reader : Reader) (e : Event) (own : Fate) → fate reader e ≡ own → own ≢ Late → own ≢ Full → (reader.given + reader.late == event_limit) ≡ false
+not_full reader e own is not_late not_over =
     not_full_by (is_before (before reader.lateness.slack reader.greatest) e) (reader.given + reader.late == event_limit) reader.lateness.rule
-    (Row 6 reader.count (time_place_in (plan_of reader.rows) (read_of reader.rows).places))
+    (λ late. absurd (not_late (sym is ∙ late))) (λ over. absurd (not_over (sym is ∙ over)))
 
 -- without a slack, an event that is not late comes next
 pub comes_next : (q : Plan) (l : Lateness) (old new : Option ℤ) (e : Event) → l ≡ punctual → fits q e ≡ true → is_before (before l.slack old) e ≡ false → new ≡ with_time old e
@@ -240,7 +254,7 @@ row_suits old new suits bytes (Some e) answers = event_suits old new suits bytes
 
 -- the reading stops at a row, and this is told
 module _ (stay : RowsStay) (source : SourceState) (old new : Reader) (next : CutRow) (failure : Failure) (told : Step) (put : Option Event) where
-  pub reads_refused : told ≡ step.Stop (Failed failure) → Begins old.cutter next → Fails next failure old → SameGiven old new
+  pub reads_refused : told ≡ step.Stop (Failed failure) → Begins old.cutter next → Fails next failure (texts_of new) old → SameGiven old new
       → Reads (going source old) [] (given_by told put) (record { source = source; state = state_by told; reader = new })
   reads_refused is begins fails still =
       subst (λ (s : Step). Reads (going source old) [] (given_by s put) (record { source = source; state = state_by s; reader = new })) (sym is)

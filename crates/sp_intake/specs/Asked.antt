@@ -13,7 +13,7 @@ use Rattle.sp_intake.specs.declared.reader.State.TheVariants.{Going, Stopped, Br
 use Rattle.sp_intake.specs.InOrder.{ReadsInOrder, AsksInOrder}
 use Rattle.sp_intake.specs.Loose.{Lateness}
 use Rattle.sp_intake.specs.Pieces.{AsksFrom}
-use Rattle.sp_intake.specs.RowsSeen.{rows_at, held_of, IsAsking}
+use Rattle.sp_intake.specs.RowsSeen.{reader_of, rows_at, held_of, IsAsking}
 use Rattle.sp_intake.specs.Standing.{Standing, ReadsFrom, IsIdle, seen, with_held}
 
 -- the plan whose columns are read
@@ -22,7 +22,7 @@ plan_in events = plan_of events.rows.rows
 
 -- how many events it has passed over
 abbrev pub late_in : EventReader → ℕ
-late_in events = events.rows.late
+late_in events = (reader_of events.rows).late
 
 -- how an input stands whose source is in this state
 abbrev pub standing : SourceState → EventReader → Standing

@@ -1,4 +1,5 @@
 pub mod Reading
+pub mod Latest
 pub mod Loose
 pub mod LooseLaws
 pub mod Reader

@@ -15,7 +15,7 @@ use Rattle.sp_slack.specs.HeldBack.{greatest, before, is_before}
 use Rattle.sp_slack.specs.declared.late.LateRule.{LateRule}
 use Rattle.sp_slack.specs.declared.late.LateRule.TheVariants.{Refuse, Drop}
 use Rattle.sp_intake.specs.declared.reader.Fate.{Fate}
-use Rattle.sp_intake.specs.declared.reader.Fate.TheVariants.{Kept, PassedOver, Refused}
+use Rattle.sp_intake.specs.declared.reader.Fate.TheVariants.{Kept, PassedOver, Late, Full}
 use Rattle.sp_intake.specs.Loose.{Lateness, Loose, take_row}
 
 -- What it has left to cut, the rows that it has read, how many these were, how many events they gave and how many were passed over, the greatest
@@ -46,6 +46,10 @@ pub record AreCounted (events : List Event) (many : ℕ) (last : Option ℤ) : T
 abbrev pub WereGiven : List Event → Reader → Type 0
 WereGiven events reader = AreCounted events reader.given reader.greatest
 
+-- the texts that it knows, by their numbers
+abbrev pub texts_of : Reader → List (List ℕ)
+texts_of reader = (read_of reader.rows).texts
+
 -- how far the reading has come, with the events that were given
 abbrev pub reading_of : List Event → Reader → Loose
 reading_of events reader = record { reading = record { so_far = read_of reader.rows; events = events; stopped = None }; late = reader.late }
@@ -71,32 +75,42 @@ abbrev pub event_in : Option Event → List Event
 event_in None = []
 event_in (Some e) = e ∷ []
 
--- what becomes of an event that is late or not, by the rule for late ones and where the limit of events was reached or not; a late one's row fails so
-abbrev pub fate_by : Bool → LateRule → Bool → Failure → Fate
-fate_by true Refuse full failure = Refused failure
-fate_by true Drop true failure = Refused (Limit event_limit)
-fate_by true Drop false failure = PassedOver
-fate_by false rule true failure = Refused (Limit event_limit)
-fate_by false rule false failure = Kept
+-- what becomes of an event that is late or not, by the rule for late ones and where the limit of events was reached or not
+abbrev pub fate_by : Bool → LateRule → Bool → Fate
+fate_by true Refuse full = Late
+fate_by true Drop true = Full
+fate_by true Drop false = PassedOver
+fate_by false rule true = Full
+fate_by false rule false = Kept
 
 -- what becomes of the event that the last row gave
 abbrev pub fate : Reader → Event → Fate
-fate reader e =
-    fate_by (is_before (before reader.lateness.slack reader.greatest) e) reader.lateness.rule (reader.given + reader.late == event_limit)
-    (Row 6 reader.count (time_place_in (plan_of reader.rows) (read_of reader.rows).places))
+fate reader e = fate_by (is_before (before reader.lateness.slack reader.greatest) e) reader.lateness.rule (reader.given + reader.late == event_limit)
+
+-- why the reading stops at an event, where it does; the row of a late one fails so
+abbrev pub failure_by : Fate → Failure → Option Failure
+failure_by Kept own = None
+failure_by PassedOver own = None
+failure_by Late own = Some own
+failure_by Full own = Some (Limit event_limit)
+
+-- how the row of a late event fails
+abbrev pub late_failure : Reader → Failure
+late_failure reader = Row 6 reader.count (time_place_in (plan_of reader.rows) (read_of reader.rows).places)
 
 -- a row was taken, and gave these events
 abbrev pub TakesRow : CutRow → List Event → Reader → Reader → Type 0
 TakesRow next given old new =
     (before : List Event) → WereGiven before old → reading_of (before ++ given) new ≡ take_row (plan_of old.rows) old.lateness (reading_of before old) next
 
--- a reading has these events, has passed over so many, and this stopped it
-pub record FailedBy (before : List Event) (passed : ℕ) (failure : Failure) (r : Loose) : Type 0 where
+-- a reading has these events, has passed over so many, knows these texts, and this stopped it
+pub record FailedBy (before : List Event) (passed : ℕ) (known : List (List ℕ)) (failure : Failure) (r : Loose) : Type 0 where
   pub events : r.reading.events ≡ before
   pub late : r.late ≡ passed
+  pub texts : r.reading.so_far.texts ≡ known
   pub stopped : r.reading.stopped ≡ Some failure
 
--- the next row stops the reading for this reason, and gives no event
-abbrev pub Fails : CutRow → Failure → Reader → Type 0
-Fails next failure old =
-    (before : List Event) → WereGiven before old → FailedBy before old.late failure (take_row (plan_of old.rows) old.lateness (reading_of before old) next)
+-- the next row stops the reading for this reason, and gives no event; these texts are known behind it
+abbrev pub Fails : CutRow → Failure → List (List ℕ) → Reader → Type 0
+Fails next failure known old =
+    (before : List Event) → WereGiven before old → FailedBy before old.late known failure (take_row (plan_of old.rows) old.lateness (reading_of before old) next)

@@ -1,10 +1,13 @@
 -- How a reader of rows stands, and what holds its events back.
-use Rattle.std.specs.Prelude.{◌≡◌}
+use Rattle.std.specs.Prelude.{◌≡◌, ◌-◌}
+use Rattle.sp_base.specs.Limits.{event_limit}
 use Rattle.sp_io.specs.Outside.{SourceState}
+use Rattle.sp_rows.specs.Progress.{read_of}
 use Rattle.sp_slack.specs.Standing.{kept_of}
 use Rattle.sp_intake.specs.declared.held.Held as declared
 use Rattle.sp_intake.specs.declared.reader.RowReader.{RowReader}
 use Rattle.sp_intake.specs.declared.reader.State.TheVariants.{Going}
+use Rattle.sp_intake.specs.Latest.{latest_of}
 use Rattle.sp_intake.specs.Loose.{Lateness}
 use Rattle.sp_intake.specs.Reader.{Reader}
 use Rattle.sp_intake.specs.Standing.{RowsAt, Held, IsHungry}
@@ -18,10 +21,10 @@ abbrev pub reader_of : RowReader → Reader
 reader_of rows = record {
   cutter = rows.cutter;
   rows = rows.rows;
-  count = rows.count;
+  count = (read_of rows.rows).read;
   given = rows.given;
-  late = rows.late;
-  greatest = rows.greatest;
+  late = event_limit - rows.most;
+  greatest = latest_of rows.latest.time;
   lateness = lateness_of rows;
 }
 

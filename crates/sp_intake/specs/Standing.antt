@@ -24,7 +24,7 @@ use Rattle.sp_intake.specs.Following.{ComeNext}
 use Rattle.sp_intake.specs.Intake.{StopsInPiece}
 use Rattle.sp_intake.specs.Loose.{Lateness, kept, loose}
 use Rattle.sp_intake.specs.LooseLaws.{punctual}
-use Rattle.sp_intake.specs.Reader.{Reader, WereGiven, last_of, event_in}
+use Rattle.sp_intake.specs.Reader.{Reader, WereGiven, last_of, texts_of, event_in}
 use Rattle.sp_intake.specs.Reading.{Way, read, stop_of}
 
 -- rows that are read, their source seen by its state
@@ -81,12 +81,13 @@ pub record Leads (q : Plan) (l : Lateness) (taken : List ℕ) (events : List Eve
   pub coming : now.reader.cutter.ended ≡ false → (more : List ℕ) (ended : Bool) → comes_to events now.reader more ended ≡ loose q l (taken ++ more) ended
   pub ends : now.reader.cutter.ended ≡ true → ends_as events now.reader ≡ loose q l taken true
 
--- since its source stood so an input has taken these bytes, given these events, and passed over as many as it counted
+-- since its source stood so an input has taken these bytes, given these events, and passed over as many as it counted; where it stopped, it knows the texts of the reading
 pub record Since (q : Plan) (l : Lateness) (origin : SourceState) (taken : List ℕ) (events : List Event) (now : RowsAt) : Type 0 where
   pub plan : plan_of now.reader.rows ≡ q
   pub lateness : now.reader.lateness ≡ l
   pub has : HasReadBy (kept q l) origin now.source taken events (stop_in now.state)
   pub late : IfSome (stop_in now.state) (λ stop. now.reader.late ≡ (loose q l taken now.source.ended).late)
+  pub texts : IfSome (stop_in now.state) (λ stop. texts_of now.reader ≡ (kept q l taken now.source.ended).so_far.texts)
   pub leads : now.state ≡ Going → Leads q l taken events now
 
 -- From one standing to another these bytes were taken of the source, and rows gave these events: whatever was read before, these come behind those. None is late, and without a slack their times never go back.

@@ -96,7 +96,7 @@ impl Held {
                 *event = Some(ready);
                 return Ok(Step::Event);
             }
-            let greatest = rows.greatest();
+            let latest = rows.latest();
             match rows.poll(alloc, event)? {
                 Step::Event => {}
                 Step::Ask => return Ok(Step::Ask),
@@ -110,7 +110,7 @@ impl Held {
             }
             if let Some(came) = event.take() {
                 if self.slack.offer(came).is_err() {
-                    rows.lose(greatest);
+                    rows.lose(latest);
                     return Err(AllocError);
                 }
             }

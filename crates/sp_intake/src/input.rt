@@ -2,7 +2,7 @@ ghost use Rattle.std.specs.Prelude.{◌≡◌, pos, ◌≤ℤ◌, false};
 ghost use Rattle.std.specs.Arc.{arc_value};
 ghost use Rattle.sp_base.specs.Limits.{number_limit};
 ghost use Rattle.sp_plan.specs.Compiled.{IsCompiled};
-ghost use Rattle.sp_intake.specs.Intake.{ReadsInput, ReadsLoose};
+ghost use Rattle.sp_intake.specs.Intake.{ReadsInput, ReadsNamed, ReadsLoose};
 
 use crate::all::read_all;
 use crate::reader::RowReader;
@@ -18,6 +18,15 @@ use std::sync::Arc;
 pub struct InputEvents {
     pub events: Vec<Event>,
     pub stop: Stop,
+}
+
+/// The events that the rows gave, why there are no more, and the texts by their numbers: those of the query first, and
+/// then those of the rows, each where it came first.
+#[derive(Drop)]
+pub struct NamedEvents {
+    pub events: Vec<Event>,
+    pub stop: Stop,
+    pub texts: Vec<String>,
 }
 
 /// The events that the rows gave where they may come out of order, as they came; how many came too late and were
@@ -44,7 +53,28 @@ pub fn read_input<S: Source>(
     read_all(alloc, &mut rows, input)
 }
 
-/// The same where an event may be behind the greatest time before it by a slack. The slack is at most the greatest
+/// The same, and the texts by their numbers. A row at which the reading stops since it is faulty or late has brought
+/// none; one at which it stops since there are as many events as may be has.
+pub fn read_named<S: Source>(
+    alloc: Global,
+    plan: &Arc<Plan>,
+    input: &mut S,
+) -> Result<NamedEvents, Memory>
+    requires compiled { IsCompiled (arc_value plan.now) }
+    requires not_ended { (S.state input.old).ended ≡ false }
+    ensures { ReadsNamed (arc_value plan.now) (S.state input.old) (S.state input.new) result }
+{
+    let mut rows = RowReader::new(alloc, plan, 0, LateRule::Refuse)?;
+    let InputEvents { events, stop } = read_all(alloc, &mut rows, input)?;
+    let texts = rows.texts(alloc)?;
+    Ok(NamedEvents {
+        events,
+        stop,
+        texts,
+    })
+}
+
+/// The same as `read_input` where an event may be behind the greatest time before it by a slack. The slack is at most the greatest
 /// time. An event that is further behind is late: the reading stops at its row, or it is passed over. The events
 /// fit the plan, and stand in the order in which they came.
 pub fn read_loose<S: Source>(

@@ -9,11 +9,12 @@ mod events;
 mod giving;
 mod held;
 mod input;
+mod latest;
 mod law;
 mod reader;
 
 pub use events::EventReader;
 pub use giving::Input;
-pub use input::{InputEvents, LooseEvents, read_input, read_loose};
+pub use input::{InputEvents, LooseEvents, NamedEvents, read_input, read_loose, read_named};
 pub use law::{loose_grows, loose_is_good, loose_is_reading};
 pub use sp_ports::{Failure, Stop};

@@ -1,16 +1,17 @@
-ghost use Rattle.std.specs.Prelude.{◌≡◌, ◌≤◌, ◌<◌, ◌+◌, ◌-◌, pos, ◌≤ℤ◌, [], true, false, Ok, Some, None, IsSome, IsErr, OnErr, length, IfOk, if◌then◌else◌};
+ghost use Rattle.std.specs.Prelude.{◌≡◌, ◌≤◌, ◌<◌, ◌+◌, ◌-◌, pos, ◌≤ℤ◌, [], true, false, Ok, Some, None, IsSome, IsErr, OnErr, length, map, string_bytes, IfOk, if◌then◌else◌};
 ghost use Rattle.std.specs.Arc.{arc_value};
-ghost use Rattle.std.specs.Option.{ForSome};
 ghost use Rattle.sp_base.specs.Limits.{event_limit, number_limit};
 ghost use Rattle.sp_cut.specs.CutRows.{long_row, open_quote};
 ghost use Rattle.sp_io.specs.Outside.{SourceState};
 ghost use Rattle.sp_plan.specs.Compiled.{IsCompiled};
 ghost use Rattle.sp_plan.specs.declared.event.Event as came;
 ghost use Rattle.sp_rows.specs.Codes.{code_of};
-ghost use Rattle.sp_slack.specs.HeldBack.{before, is_before, with_time};
+ghost use Rattle.sp_rows.specs.Progress.{read_of};
+ghost use Rattle.sp_intake.specs.Latest.{latest_of};
 ghost use Rattle.sp_intake.specs.declared.reader.State.TheVariants.{Going, Stopped, Broken};
 ghost use Rattle.sp_intake.specs.Reader.{HasCounted};
 
+use crate::latest::Latest;
 use sp_base::limits::EVENT_LIMIT;
 use sp_cut::{CutFault, Cutter};
 use sp_io::Failed;
@@ -52,8 +53,10 @@ pub(crate) enum Fate {
     Kept,
     /// It is late, and only counted.
     PassedOver,
-    /// The reading stops at it.
-    Refused(Failure),
+    /// It is late, and the reading stops at it.
+    Late,
+    /// The reading stops at it, since as many events were given as may be.
+    Full,
 }
 
 /// Reads the events of rows, in whatever pieces their bytes come: up to the end of the input, to the first row
@@ -63,18 +66,17 @@ pub(crate) enum Fate {
 pub(crate) struct RowReader {
     cutter: Cutter,
     rows: Rows,
-    // How many rows were read, how many events they gave, and how many were passed over.
-    count: u32,
+    // How many events the rows gave, and how many they may give: the limit, less those that were passed over.
     given: u32,
-    late: u32,
+    most: u32,
     // The greatest time of the events that they gave.
-    greatest: Option<i64>,
+    latest: Latest,
     slack: i64,
     rule: LateRule,
     state: State,
-    ghost sound: { state ≡ Going → HasCounted cutter rows count },
-    ghost few: { given + late ≤ event_limit },
-    ghost timed: { ForSome greatest (λ t. (pos 0 ≤ℤ t) × (t ≤ℤ pos number_limit)) },
+    ghost sound: { state ≡ Going → HasCounted cutter rows (read_of rows).read },
+    ghost few: { given + (event_limit - most) ≤ event_limit },
+    ghost limited: { most ≤ event_limit },
     ghost least_slack: { pos 0 ≤ℤ slack },
     ghost most_slack: { slack ≤ℤ pos number_limit },
 }
@@ -83,10 +85,9 @@ impl RowReader {
     ghost use Rattle.sp_intake.specs.Standing.{Reads, Since, WasRead, going, IsHungry, stop_in, is_whole, given_in, given_after, state_after};
     ghost use Rattle.sp_intake.specs.Pieces.{RowsTake};
     ghost use Rattle.sp_intake.specs.RowsSeen.{lateness_of, reader_of, rows_at, IsAsking};
-    ghost use Rattle.sp_intake.specs.Reader.{Fails, fate};
+    ghost use Rattle.sp_intake.specs.Reader.{Fails, texts_of, fate, late_failure};
     ghost use Rattle.sp_intake.specs.Reading.{end_stop};
-    ghost use Rattle.sp_rows.specs.Progress.{plan_of, read_of};
-    ghost use Rattle.sp_rows.specs.Rows.{time_place_in};
+    ghost use Rattle.sp_rows.specs.Progress.{plan_of};
 
     /// Nothing was read yet. The slack is at most the greatest time.
     pub(crate) fn new(
@@ -106,58 +107,28 @@ impl RowReader {
             lateness_of rows ≡ record { slack = slack; rule = rule }) }
         ensures state { IfOk result (λ rows. rows.state ≡ Going) }
         ensures given { IfOk result (λ rows. rows.given ≡ 0) }
-        ensures greatest { IfOk result (λ rows. rows.greatest ≡ None) }
+        ensures greatest { IfOk result (λ rows. latest_of rows.latest.time ≡ None) }
     {
         Ok(RowReader {
             cutter: Cutter::new(alloc),
             rows: Rows::loose(alloc, Arc::try_clone(plan)?)?,
-            count: 0,
             given: 0,
-            late: 0,
-            greatest: None,
+            most: EVENT_LIMIT,
+            latest: Latest::none(),
             slack,
             rule,
             state: State::Going,
         })
     }
 
-    // Whether an event of this time is late.
-    #[inline(always)]
-    fn is_late(&self, time: i64) -> bool
-        ensures { (e : came.Event) → e.time ≡ time → result
-            ≡ is_before (before (reader_of self.now).lateness.slack (reader_of self.now).greatest) e }
-    {
-        match self.greatest {
-            None => false,
-            Some(greatest) => time < greatest - self.slack,
-        }
-    }
-
-    // The greatest time once an event of this time is given.
-    #[inline(always)]
-    fn greatest_with(&self, time: i64) -> i64
-        requires low { pos 0 ≤ℤ time }
-        requires high { time ≤ℤ pos number_limit }
-        ensures low { pos 0 ≤ℤ result }
-        ensures high { result ≤ℤ pos number_limit }
-        ensures greatest { (e : came.Event) → e.time ≡ time
-            → Some result ≡ with_time (reader_of self.now).greatest e }
-    {
-        match self.greatest {
-            None => time,
-            Some(greatest) => greatest.max(time),
-        }
-    }
-
     // Why the row stops the reading whose event is late.
     #[inline(never)]
     fn late_row(&self) -> Failure
-        ensures { result ≡ Failure.Row 6 (reader_of self.now).count
-            (time_place_in (plan_of self.now.rows) (read_of self.now.rows).places) }
+        ensures { result ≡ late_failure (reader_of self.now) }
     {
         Failure::Row {
             code: LATE,
-            row: self.count,
+            row: self.rows.count(),
             column: self.rows.time_column(),
         }
     }
@@ -165,14 +136,15 @@ impl RowReader {
     // What becomes of an event of this time, which the last row gave.
     #[inline(always)]
     fn fate(&self, time: i64) -> Fate
+        requires low { pos 0 ≤ℤ time }
         ensures { (e : came.Event) → e.time ≡ time → result ≡ fate (reader_of self.now) e }
     {
-        let late = self.is_late(time);
+        let late = self.latest.is_late(self.slack, time);
         if late && matches!(self.rule, LateRule::Refuse) {
-            return Fate::Refused(self.late_row());
+            return Fate::Late;
         }
-        if self.given + self.late == EVENT_LIMIT {
-            return Fate::Refused(Failure::Limit { limit: EVENT_LIMIT });
+        if self.given == self.most {
+            return Fate::Full;
         }
         if late { Fate::PassedOver } else { Fate::Kept }
     }
@@ -197,15 +169,15 @@ impl RowReader {
             Err(CutFault::OpenQuote { row: _ }) => return Ok(Some(failed(self.refusal(9)))),
             Err(CutFault::Memory) => return Err(AllocError),
         };
-        if self.count == ROWS {
+        if self.rows.count() == ROWS {
             return Ok(Some(failed(Failure::Limit { limit: ROWS })));
         }
+        let known = self.rows.text_count();
         match self.rows.row_into(alloc, self.cutter.row_at(span), event) {
             Ok(()) => {}
             Err(RowError::Fault(fault)) => return Ok(Some(failed(failure_at(&fault)))),
             Err(RowError::Memory) => return Err(AllocError),
         }
-        self.count += 1;
         self.cutter.pass(span);
         let Some(given) = event else {
             return Ok(None);
@@ -214,12 +186,18 @@ impl RowReader {
         match self.fate(time) {
             Fate::Kept => {}
             Fate::PassedOver => {
-                self.late += 1;
+                self.most -= 1;
                 return Ok(None);
             }
-            Fate::Refused(failure) => return Ok(Some(failed(failure))),
+            Fate::Late => {
+                let failure = self.late_row();
+                // its row is faulty, and brings no text
+                self.rows.forget_texts(known);
+                return Ok(Some(failed(failure)));
+            }
+            Fate::Full => return Ok(Some(failed(Failure::Limit { limit: EVENT_LIMIT }))),
         }
-        self.greatest = Some(self.greatest_with(time));
+        self.latest = self.latest.with(time);
         self.given += 1;
         Ok(Some(Step::Event))
     }
@@ -241,15 +219,17 @@ impl RowReader {
     // Why there is no row in place of the next one, which has this code.
     fn refusal(&self, code: u8) -> Failure
         requires going { self.now.state ≡ Going }
-        ensures long { code ≡ 8 → Fails long_row result (reader_of self.now) }
-        ensures open { code ≡ 9 → Fails open_quote result (reader_of self.now) }
+        ensures long { code ≡ 8
+            → Fails long_row result (texts_of (reader_of self.now)) (reader_of self.now) }
+        ensures open { code ≡ 9
+            → Fails open_quote result (texts_of (reader_of self.now)) (reader_of self.now) }
     {
-        if self.count == ROWS {
+        if self.rows.count() == ROWS {
             return Failure::Limit { limit: ROWS };
         }
         Failure::Row {
             code,
-            row: self.count + 1,
+            row: self.rows.count() + 1,
             column: 0,
         }
     }
@@ -326,23 +306,22 @@ impl RowReader {
     }
 
     /// The greatest time of the events that were given.
-    pub(crate) fn greatest(&self) -> Option<i64>
-        ensures { result ≡ self.now.greatest }
+    pub(crate) fn latest(&self) -> Latest
+        ensures { result ≡ self.now.latest }
     {
-        self.greatest
+        self.latest
     }
 
     /// Memory ran out: what was read is lost, and with it the last event that was given. Before it this was the
     /// greatest time.
-    pub(crate) fn lose(&mut self, greatest: Option<i64>)
+    pub(crate) fn lose(&mut self, latest: Latest)
         requires some { 0 < self.old.given }
-        requires timed { ForSome greatest (λ t. (pos 0 ≤ℤ t) × (t ≤ℤ pos number_limit)) }
         ensures reader { reader_of self.new ≡ record (reader_of self.old)
-            { given = self.old.given - 1; greatest = greatest } }
+            { given = self.old.given - 1; greatest = latest_of latest.time } }
         ensures state { self.new.state ≡ Broken }
     {
         self.given -= 1;
-        self.greatest = greatest;
+        self.latest = latest;
         self.state = State::Broken;
     }
 
@@ -354,11 +333,26 @@ impl RowReader {
         self.state = State::Broken;
     }
 
+    /// The texts by their numbers.
+    pub(crate) fn texts(&self, alloc: Global) -> Result<Vec<String>, Memory>
+        ensures { IfOk result
+            (λ texts. map string_bytes texts.items ≡ texts_of (reader_of self.now)) }
+    {
+        let mut texts = Vec::with_capacity(alloc, self.rows.text_count())?;
+        for number in 0..u32::MAX {
+            match self.rows.text(number) {
+                Some(text) => texts.push(String::from_str(alloc, text)?)?,
+                None => return Ok(texts),
+            }
+        }
+        Err(AllocError)
+    }
+
     /// How many events were late, and passed over.
     pub(crate) fn late(&self) -> u32
-        ensures { result ≡ self.now.late }
+        ensures { result ≡ (reader_of self.now).late }
     {
-        self.late
+        EVENT_LIMIT - self.most
     }
 }
 

@@ -1,4 +1,5 @@
 mod Worked
+mod WorkedTexts
 pub mod Digits
 pub mod FewDigits
 pub mod Cuts

@@ -1,13 +1,18 @@
 -- Texts and their numbers, where a list has something for each text.
-use Rattle.std.proofs.Common.{◌≡◌, inl, inr, ℕ, zero, suc, ◌+◌, Bool, true, false, true≢false, ◌||◌, not, cond, List, [], ◌∷◌, ◌++◌, length, map, Some, None, refl, sym, ◌∙◌, ap, subst, arith}
+use Rattle.std.proofs.Common.{◌≡◌, inl, inr, ℕ, zero, suc, ◌+◌, ◌<◌, get_or, Bool, true, false, true≢false, ◌||◌, not, cond, List, [], ◌∷◌, ◌++◌, length, map, Some, None, refl, sym, ◌∙◌, ap, subst, arith}
 use Rattle.std.specs.Prelude.{if◌then◌else◌, nat_lt}
 use Rattle.std.specs.List.{list_any, position, position_or_len, slice_get, AllByRecursion, IsDistinct}
 use Rattle.std.specs.Str.{bytes_eq}
 use Rattle.std.proofs.lemmas.Bool.{cases_Bool}
 use Rattle.std.proofs.lemmas.List.{map-append}
+use Rattle.std.proofs.lemmas.Option.{slice_get_read}
 use Rattle.std.proofs.lemmas.Map.Keys.{IsDistinct-head, IsDistinct-tail}
 use Rattle.std.proofs.lemmas.Slice.Eq.{bytes_eq-Decides}
 use Rattle.sp_plan.specs.Texts.{symbol_of, with_text}
+
+-- what was looked at in a slice of a list stands there
+pub stands_there : {X : Type 0} (xs own : List X) (i : ℕ) (x : X) → own ≡ xs → i < length own → x ≡ get_or own i x → slice_get xs i ≡ Some x
+stands_there {X = X} xs own i x same within read = ap (λ (l : List X). slice_get l i) (sym same) ∙ slice_get_read own (length own) i x refl within read
 
 module _ {X : Type 0} (f : X → List ℕ) where
   -- a test finds the same place among the texts

@@ -10,3 +10,4 @@ pub mod Holding
 pub mod Progress
 pub mod Plain
 pub mod RowValues
+pub mod Utf8

@@ -1,5 +1,5 @@
 -- What is kept between rows, and what a row is answered with.
-use Rattle.std.specs.Prelude.{◌≡◌, ℕ, Bool, List, Option, Some, None, Result, Ok, Err}
+use Rattle.std.specs.Prelude.{◌≡◌, ℕ, Bool, List, take, Option, Some, None, Result, Ok, Err}
 use Rattle.std.specs.Option.{option_map}
 use Rattle.std.specs.Arc.{arc_value}
 use Rattle.sp_plan.specs.declared.event.Event.{Event}
@@ -14,7 +14,7 @@ use Rattle.sp_rows.specs.Rows.{RowsRead, RowResult, nothing, event, refused}
 
 -- how far reading has come, with these places of the columns
 abbrev pub reading : Option (List ℕ) → Progress → RowsRead
-reading places progress = record { places = places; read = progress.read; last = progress.last; texts = progress.texts }
+reading places progress = record { places = places; read = progress.read; last = progress.clock.last; texts = progress.texts }
 
 -- the plan of the rows
 abbrev pub plan_of : Rows → Plan
@@ -22,11 +22,15 @@ plan_of rows = arc_value rows.plan
 
 -- whether times may go back
 abbrev pub is_loose : Rows → Bool
-is_loose rows = rows.progress.loose
+is_loose rows = rows.progress.clock.loose
 
 -- how far reading has come
 abbrev pub read_of : Rows → RowsRead
 read_of rows = reading (option_map (λ places. places.items) rows.places) rows.progress
+
+-- the same with the texts below this number alone
+abbrev pub with_texts_below : ℕ → RowsRead → RowsRead
+with_texts_below number read = record read { texts = take number read.texts }
 
 -- an error tells the fault that a row has, or want of memory
 abbrev pub ErrorIs : RowResult → RowError → Type 0

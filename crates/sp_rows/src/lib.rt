@@ -3,6 +3,7 @@
 #![tactic(auto)]
 
 mod cells;
+mod clock;
 mod columns;
 mod content;
 mod fault;

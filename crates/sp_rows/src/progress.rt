@@ -4,6 +4,7 @@ ghost use Rattle.sp_rows.specs.Rows as spec;
 ghost use Rattle.sp_rows.specs.Shapes.{column_of, fields_in};
 ghost use Rattle.sp_rows.specs.Progress.{reading, ErrorIs, Gave};
 
+use crate::clock::Clock;
 use crate::columns::{Layout, Placed, place_columns, time_column};
 use crate::fault::{RowError, RowFault, RowKind};
 use crate::header::{Header, read_header};
@@ -13,14 +14,12 @@ use crate::values::{RowValues, read_values, time_in};
 use sp_plan::{Event, Memory, Plan, Values};
 use std::alloc::Global;
 
-/// How many rows were read, the last time, the texts by their numbers, and whether times may go back: the last
-/// time is then 0.
+/// How many rows were read, the last time, and the texts by their numbers.
 #[derive(Drop)]
 pub(crate) struct Progress {
     pub(crate) read: u32,
-    last: i64,
-    texts: Texts,
-    pub(crate) loose: bool,
+    clock: Clock,
+    pub(crate) texts: Texts,
 }
 
 // A place as a column's number from 1. There is none past the last `u32`.
@@ -48,13 +47,12 @@ impl Progress {
     /// No row was read; the texts of the plan have the first numbers.
     pub(crate) fn new(alloc: Global, plan: &Plan, loose: bool) -> Result<Progress, Memory>
         ensures start { IfOk result (λ progress. reading None progress ≡ spec.start plan.now) }
-        ensures loose { IfOk result (λ progress. progress.loose ≡ loose) }
+        ensures loose { IfOk result (λ progress. progress.clock.loose ≡ loose) }
     {
         Ok(Progress {
             read: 0,
-            last: 0,
+            clock: Clock::new(loose),
             texts: Texts::of(alloc, plan.texts.as_slice())?,
-            loose,
         })
     }
 
@@ -85,27 +83,17 @@ impl Progress {
     fn back_in_time(&self, time: i64, column: &Option<Placed>) -> RowError
         requires { self.now.read + 1 < 2 ^ 32 }
         ensures { ErrorIs
-            (spec.refused_at (reading None self.now) (RowKind.BackInTime self.now.last time)
+            (spec.refused_at (reading None self.now) (RowKind.BackInTime self.now.clock.last time)
             (spec.place_or_none (option_map column_of column.now))) result }
     {
         let kind = RowKind::BackInTime {
-            was: self.last,
+            was: self.clock.last,
             now: time,
         };
         match column {
             Some(column) => self.refusal_at(kind, column.place),
             None => RowError::Fault(self.refusal(kind, 0)),
         }
-    }
-
-    // What is kept of the time of an event.
-    fn kept(&self, time: i64) -> i64
-        ensures { result ≡ (if self.now.loose then pos 0 else time) }
-    {
-        if self.loose {
-            return 0;
-        }
-        time
     }
 
     /// Takes the next row as the header: the places of the columns of the plan, the columns with them, and the
@@ -125,7 +113,8 @@ impl Progress {
         ensures time { IfOk result
             (λ given. given.2 ≡ spec.time_place (spec.columns_at plan.now given.0.items)) }
         ensures read { OnOk result (self.new.read ≡ self.old.read + 1) }
-        ensures loose { self.new.loose ≡ self.old.loose }
+        ensures loose { self.new.clock.loose ≡ self.old.clock.loose }
+        ensures texts { self.new.texts ≡ self.old.texts }
         ensures error { IfErr result
             (λ e. ErrorIs (spec.header_row plan.now (reading None self.old) (fields_in cells.now)) e) }
         ensures err { OnErr result (self.new ≡ self.old) }
@@ -159,7 +148,7 @@ impl Progress {
         requires { self.old.read + 1 < 2 ^ 32 }
         ensures event { OnOk result
             (Gave
-            (spec.given_if self.old.loose (spec.event_row layout.now.plan.now
+            (spec.given_if self.old.clock.loose (spec.event_row layout.now.plan.now
             (reading (Some layout.now.places.now) self.old)
             (fields_in cells.now) layout.now.places.now))
             (reading (Some layout.now.places.now) self.new) event.new) }
@@ -168,7 +157,8 @@ impl Progress {
             (λ e. ErrorIs
             (spec.event_row layout.now.plan.now (reading (Some layout.now.places.now) self.old)
             (fields_in cells.now) layout.now.places.now) e) }
-        ensures loose { self.new.loose ≡ self.old.loose }
+        ensures kept { take (length self.old.texts) self.new.texts ≡ self.old.texts }
+        ensures loose { self.new.clock.loose ≡ self.old.clock.loose }
         ensures err { OnErr result (self.new ≡ self.old) }
     {
         let known = self.texts.len();
@@ -190,7 +180,7 @@ impl Progress {
         requires { self.old.read + 1 < 2 ^ 32 }
         ensures event { OnOk result
             (Gave
-            (spec.given_if self.old.loose (spec.event_row layout.now.plan.now
+            (spec.given_if self.old.clock.loose (spec.event_row layout.now.plan.now
             (reading (Some layout.now.places.now) self.old)
             (fields_in cells.now) layout.now.places.now))
             (reading (Some layout.now.places.now) self.new) event.new) }
@@ -200,9 +190,9 @@ impl Progress {
             (spec.event_row layout.now.plan.now (reading (Some layout.now.places.now) self.old)
             (fields_in cells.now) layout.now.places.now) e) }
         ensures same { OnErr result (self.new.read ≡ self.old.read) }
-        ensures last { OnErr result (self.new.last ≡ self.old.last) }
+        ensures last { OnErr result (self.new.clock ≡ self.old.clock) }
         ensures kept { take (length self.old.texts) self.new.texts ≡ self.old.texts }
-        ensures loose { self.new.loose ≡ self.old.loose }
+        ensures loose { self.new.clock.loose ≡ self.old.clock.loose }
     {
         let Ok(values) = Values::with_capacity(alloc, layout.columns.len()) else {
             return Err(RowError::Memory);
@@ -213,11 +203,11 @@ impl Progress {
             Ok(RowValues::Fault(kind, place)) => Err(self.refusal_at(kind, place)),
             Ok(RowValues::Whole) => {
                 let time = time_in(&own.values, layout.plan.schema.time);
-                if time < self.last {
+                if time < self.clock.last {
                     return Err(self.back_in_time(time, &time_column(layout.plan, layout.places)));
                 }
                 self.read += 1;
-                self.last = self.kept(time);
+                self.clock.keep(time);
                 own.time = time;
                 Ok(())
             }

@@ -1,5 +1,6 @@
-ghost use Rattle.std.specs.Prelude.{◌≡◌, ◌<◌, ◌+◌, true, false, if◌then◌else◌, is_ok, map, None, IsSome, IfOk, IfErr, OnOk, OnErr, option_map};
+ghost use Rattle.std.specs.Prelude.{◌≡◌, ◌<◌, ◌+◌, true, false, if◌then◌else◌, is_ok, length, map, take, None, IsSome, IfOk, IfErr, OnOk, OnErr, option_map};
 ghost use Rattle.std.specs.Arc.{arc_value};
+ghost use Rattle.std.specs.List.{slice_get};
 ghost use Rattle.std.specs.Option.{ForSome};
 ghost use Rattle.sp_rows.specs.Rows as spec;
 ghost use Rattle.sp_rows.specs.Shapes.{column_of};
@@ -32,7 +33,7 @@ pub struct Rows {
 }
 
 impl Rows {
-    ghost use Rattle.sp_rows.specs.Progress.{plan_of, read_of, is_loose, Answers, no_header, given_as};
+    ghost use Rattle.sp_rows.specs.Progress.{plan_of, read_of, with_texts_below, is_loose, Answers, no_header, given_as};
 
     // No row was read, and times may go back or not.
     fn begin(alloc: Global, plan: Arc<Plan>, loose: bool) -> Result<Rows, Memory>
@@ -70,11 +71,41 @@ impl Rows {
         Rows::begin(alloc, plan, true)
     }
 
+    /// How many rows were read.
+    pub fn count(&self) -> u32
+        ensures { result ≡ (read_of self.now).read }
+    {
+        self.progress.read
+    }
+
     /// The number of the time's cell from 1; 0 where the plan has no time, or no header came.
     pub fn time_column(&self) -> u32
         ensures { result ≡ spec.time_place_in (plan_of self.now) (read_of self.now).places }
     {
         self.time_column
+    }
+
+    /// How many texts have a number: those of the plan, and those of the rows that were read.
+    pub fn text_count(&self) -> usize
+        ensures { result ≡ length (read_of self.now).texts }
+    {
+        self.progress.texts.len()
+    }
+
+    /// The text of this number; None where no text has it.
+    pub fn text(&self, number: u32) -> Option<&str>
+        ensures { option_map (λ text. text.now) result ≡ slice_get (read_of self.now).texts number }
+    {
+        self.progress.texts.get(number)
+    }
+
+    /// Forgets the texts from this number on, and nothing else. Takes no memory.
+    pub fn forget_texts(&mut self, number: usize)
+        ensures plan { plan_of self.new ≡ plan_of self.old }
+        ensures read { read_of self.new ≡ with_texts_below number (read_of self.old) }
+        ensures loose { is_loose self.new ≡ is_loose self.old }
+    {
+        self.progress.texts.truncate(number);
     }
 
     /// The event of the next row, which comes without its line feed; None where the row is blank or the
@@ -88,6 +119,8 @@ impl Rows {
         ensures answers { Answers (spec.given_if (is_loose self.old)
             (spec.row_result (plan_of self.old) (read_of self.old) row.now))
             (read_of self.old) (read_of self.new) result }
+        ensures kept { take (length (read_of self.old).texts) (read_of self.new).texts
+            ≡ (read_of self.old).texts }
         ensures loose { is_loose self.new ≡ is_loose self.old }
     {
         let mut event = None;
@@ -112,6 +145,8 @@ impl Rows {
         ensures answers { Answers (spec.given_if (is_loose self.old)
             (spec.row_result (plan_of self.old) (read_of self.old) row.now))
             (read_of self.old) (read_of self.new) (given_as result event.new) }
+        ensures kept { take (length (read_of self.old).texts) (read_of self.new).texts
+            ≡ (read_of self.old).texts }
         ensures loose { is_loose self.new ≡ is_loose self.old }
     {
         let cells = match read_cells(row, &mut self.nexts, &mut self.record) {

@@ -1,4 +1,6 @@
-ghost use Rattle.std.specs.Prelude.{◌≡◌, ◌<◌, [], true, fold, length, take, IfOk, OnOk};
+ghost use Rattle.std.specs.Prelude.{◌≡◌, ◌<◌, [], true, fold, length, option_map, take, IfOk, OnOk};
+ghost use Rattle.std.specs.List.{slice_get};
+ghost use Rattle.std.specs.Str.{is_utf8};
 ghost use Rattle.sp_plan.specs.Texts.{symbol_of, with_text};
 
 use indexmap::IndexSet;
@@ -9,8 +11,8 @@ use std::marker::Model;
 // How many marks there are.
 const MARKS: usize = 256;
 
-/// Texts by their numbers: each has its place in the order in which they came. Contracts see the list
-/// of their bytes.
+/// Texts by their numbers: each has its place in the order in which they came, and is UTF-8. Contracts see
+/// the list of their bytes.
 #[derive(Drop)]
 pub(crate) struct Texts {
     set: IndexSet<Vec<u8>>,
@@ -20,11 +22,15 @@ pub(crate) struct Texts {
 }
 
 impl Model for Texts {
-    ghost use Rattle.std.specs.Prelude.{ℕ, List, map};
+    ghost use Rattle.std.specs.Prelude.{◌≡◌, ℕ, List, map, true};
+    ghost use Rattle.std.specs.List.{All};
+    ghost use Rattle.std.specs.Str.{is_utf8};
 
     ghost Value = { List (List ℕ) };
 
     ghost view = { λ texts. map (λ text. text.items) texts.set.keys };
+
+    ghost invariant = { λ texts. All (λ text. is_utf8 text.items ≡ true) texts.set.keys };
 }
 
 impl Texts {
@@ -49,6 +55,14 @@ impl Texts {
         self.set.len()
     }
 
+    /// The text of this number, if one has it.
+    pub(crate) fn get(&self, number: u32) -> Option<&str>
+        ensures { option_map (λ text. text.now) result ≡ slice_get self.now number }
+    {
+        let text = self.set.as_slice().get(number as usize)?;
+        str::from_utf8(text.as_slice()).ok()
+    }
+
     /// Forgets the texts from this number on. Takes no memory.
     pub(crate) fn truncate(&mut self, number: usize)
         ensures { self.new ≡ take number self.old }
@@ -59,6 +73,7 @@ impl Texts {
     /// The number of a text, which is known from now on. One that is known takes no
     /// memory. Where memory is wanted, it may be known or not; those before it are as they were.
     pub(crate) fn number(&mut self, alloc: Global, text: &[u8]) -> Result<u32, Memory>
+        requires { is_utf8 text.now ≡ true }
         ensures number { IfOk result (λ number. number ≡ symbol_of self.old text.now) }
         ensures texts { OnOk result (self.new ≡ with_text self.old text.now) }
         ensures kept { take (length self.old) self.new ≡ self.old }
@@ -86,6 +101,7 @@ impl Texts {
 
     // The number of a text, which is looked for among all.
     fn find(&mut self, alloc: Global, text: &[u8]) -> Result<u32, Memory>
+        requires { is_utf8 text.now ≡ true }
         ensures number { IfOk result (λ number. number ≡ symbol_of self.old text.now) }
         ensures texts { OnOk result (self.new ≡ with_text self.old text.now) }
         ensures kept { take (length self.old) self.new ≡ self.old }

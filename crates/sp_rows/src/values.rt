@@ -3,6 +3,7 @@ ghost use Rattle.std.specs.Prelude.{◌≡◌, [], length, take, IfOk, OnOk};
 ghost use Rattle.sp_rows.specs.Rows as spec;
 ghost use Rattle.sp_rows.specs.Shapes.{cell_shape, fields_in};
 ghost use Rattle.sp_rows.specs.RowValues.{ValuesAre, TimeIs, fault_of, time_among};
+ghost use Rattle.sp_rows.specs.Utf8.{GivesUtf8};
 
 use crate::columns::Layout;
 use crate::content::{Content, content_in};
@@ -28,6 +29,7 @@ fn push_content(
     texts: &mut Texts,
     content: Content<'_>,
 ) -> Result<Option<RowKind>, Memory>
+    requires { GivesUtf8 (cell_shape content) }
     ensures value { OnOk result
         ((values.new, texts.new)
         ≡ spec.with_cell (values.old, texts.old) (cell_shape content.entry)) }

@@ -220,13 +220,6 @@ last_cmp t u n a less = by (int_lt t u) (int_lt u t)
     by false true = refl
     by false false = last
 
-pub first_time : (n : ℕ) (es : List ((ℤ × ℕ) × Event)) (entry : (ℤ × ℕ) × Event) (e : Event) (rest : List Event) → All (Placed n) es → slice_get es 0 ≡ Some entry → values_of es ≡ e ∷ rest → entry.0.0 ≡ e.time
-first_time n [] entry e rest placed first are = absurd (cc first)
-first_time n (f ∷ es) entry e rest placed first are =
-    let same : f ≡ entry = cc first in
-    let own : f.1 ≡ e = cc are in
-    subst (λ (x : (ℤ × ℕ) × Event). x.0.0 ≡ e.time) same ((placed 0 f (omega arith)).0 ∙ ap (λ (x : Event). x.time) own)
-
 module _ (n : ℕ) (e : Event) where
   unfoldable pub inserted : List ((ℤ × ℕ) × Event) → List ((ℤ × ℕ) × Event)
   inserted es = insert_entry place_cmp es (e.time, n) e
@@ -275,3 +268,7 @@ placed_rest n f es placed j d inside = placed (suc j) d (omega (arith, inside))
 pub placed_taken : (n : ℕ) (taken : Option ((ℤ × ℕ) × Event)) (old new : List ((ℤ × ℕ) × Event)) → All (Placed n) old → IfSome taken (λ f. old ≡ f ∷ new) → IfNone taken (new ≡ old) → All (Placed n) new
 placed_taken n None old new placed some none = subst (All (Placed n)) (sym none) placed
 placed_taken n (Some f) old new placed some none = placed_rest n f new (subst (All (Placed n)) some placed)
+
+-- a further arrival is above all that were
+pub placed_more : (n : ℕ) (es : List ((ℤ × ℕ) × Event)) → All (Placed n) es → All (Placed (n + 1)) es
+placed_more n es placed = All-weaker (Placed n) (Placed (n + 1)) (λ x is. (is.0, omega (arith, is.1))) es placed

@@ -3,6 +3,7 @@ use Rattle.std.specs.Prelude.{ℤ, ◌-ℤ◌, Bool, true, false, List, [], ◌�
 use Rattle.std.specs.Int.{int_max}
 use Rattle.std.specs.List.{fold, filter}
 use Rattle.sp_plan.specs.declared.event.Event.{Event}
+use Rattle.sp_slack.specs.declared.waiting.First.{First}
 
 -- sorted events with one more, which stands behind all that are not later
 abbrev pub put : List Event → Event → List Event
@@ -49,6 +50,18 @@ is_late slack events e = is_before (least slack events) e
 abbrev pub slacked : ℤ → List Event → Bool → List Event
 slacked slack events true = sorted events
 slacked slack events false = filter (is_up_to (least slack events)) (sorted events)
+
+-- of an event in a line and one behind it the first, the one in the line where the test holds
+abbrev pub first_of : Bool → Event → Event → First
+first_of true x y = record { time = x.time; in_line = true }
+first_of false x y = record { time = y.time; in_line = false }
+
+-- of events that are held in a line and behind it, the time of the first, and whether it stands in the line
+abbrev pub first_held : List Event → List Event → Option First
+first_held [] [] = None
+first_held (x ∷ line) [] = Some (record { time = x.time; in_line = true })
+first_held [] (y ∷ behind) = Some (record { time = y.time; in_line = false })
+first_held (x ∷ line) (y ∷ behind) = Some (first_of (int_le x.time y.time) x y)
 
 -- none of the events that come behind these is late
 abbrev pub AreTimely : ℤ → List Event → List Event → Type 0

@@ -1,3 +1,4 @@
 pub mod HeldBack
+pub mod Waiting
 pub mod Standing
 pub mod Laws

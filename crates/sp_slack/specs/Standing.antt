@@ -1,9 +1,9 @@
 -- What callers see of a slack, and when it stands for the events that it kept.
 use Rattle.std.specs.Prelude.{◌≡◌, ◌≤◌, ℕ, ℤ, Bool, true, false, List, length, take, drop, Option}
 use Rattle.std.specs.List.{All}
-use Rattle.std.specs.BTreeMap.{values}
 use Rattle.sp_plan.specs.declared.event.Event.{Event}
 use Rattle.sp_slack.specs.declared.slack.Slack.{Slack}
+use Rattle.sp_slack.specs.Waiting.{held_in}
 use Rattle.sp_slack.specs.HeldBack.{sorted, greatest, least, slacked, is_up_to}
 
 -- What a slack keeps: how much it is, the events that it holds back, the greatest time that it kept, how many events were offered, how many of
@@ -17,7 +17,7 @@ pub record Kept : Type 0 where
   pub ended : Bool
 
 abbrev pub kept_of : Slack → Kept
-kept_of s = record { slack = s.slack; held = values s.held; greatest = s.greatest; offered = s.offered; late = s.late; ended = s.ended }
+kept_of s = record { slack = s.slack; held = held_in s.waiting; greatest = s.waiting.greatest; offered = s.offered; late = s.late; ended = s.ended }
 
 -- It kept these events, in this order, and has given so many: it holds the others, by time.
 pub record Stands (k : Kept) (events : List Event) (given : ℕ) : Type 0 where

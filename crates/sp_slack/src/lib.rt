@@ -6,6 +6,7 @@
 mod late;
 pub mod law;
 mod slack;
+mod waiting;
 
 pub use late::{LateRule, Offered};
 pub use law::{slacked_events, slacked_grows};

@@ -3,28 +3,26 @@ ghost use Rattle.std.specs.List.{All};
 ghost use Rattle.std.specs.Option.{ForSome};
 ghost use Rattle.sp_base.specs.Limits.{number_limit};
 ghost use Rattle.sp_plan.specs.declared.event.Event as came;
-ghost use Rattle.sp_slack.specs.HeldBack.{before, is_before, is_late, is_up_to, least, with_time};
+ghost use Rattle.sp_slack.specs.HeldBack.{before, is_before, is_late, is_up_to, least};
 
 use crate::late::Offered;
+use crate::waiting::Waiting;
 use sp_plan::{Event, Memory};
-use std::alloc::{AllocError, Global};
-use std::collections::BTreeMap;
+use std::alloc::Global;
 
 /// Holds events back until none that isn't late can come before them: up to so much of time. Contracts see
 /// what it keeps, and for which events it stands.
 #[derive(Drop)]
 pub struct Slack {
     slack: i64,
-    // The events that were not given, by time and arrival.
-    held: BTreeMap<(i64, u32), Event>,
-    greatest: Option<i64>,
+    // The events that were not given.
+    waiting: Waiting,
     offered: u32,
     late: u32,
     ended: bool,
     ghost least_slack: { pos 0 ≤ℤ slack },
     ghost most_slack: { slack ≤ℤ pos number_limit },
-    ghost timed: { ForSome greatest (λ t. (pos 0 ≤ℤ t) × (t ≤ℤ pos number_limit)) },
-    ghost placed: { All (λ entry. (entry.0.0 ≡ entry.1.time) × (entry.0.1 < offered)) held.entries },
+    ghost came: { waiting.came ≤ offered },
     ghost few: { offered ≤ 2097152 },
     ghost some_late: { late ≤ offered },
 }
@@ -44,8 +42,7 @@ impl Slack {
     {
         Slack {
             slack,
-            held: BTreeMap::new(alloc),
-            greatest: None,
+            waiting: Waiting::new(alloc),
             offered: 0,
             late: 0,
             ended: false,
@@ -56,7 +53,7 @@ impl Slack {
     fn least(&self) -> Option<i64>
         ensures { result ≡ before (kept_of self.now).slack (kept_of self.now).greatest }
     {
-        match self.greatest {
+        match self.waiting.greatest() {
             None => None,
             Some(greatest) => Some(greatest - self.slack),
         }
@@ -72,21 +69,6 @@ impl Slack {
         match self.least() {
             Some(least) if now < least => Some(least),
             _ => None,
-        }
-    }
-
-    // The greatest time once an event of this time is kept.
-    fn greatest_with(&self, time: i64) -> i64
-        requires low { pos 0 ≤ℤ time }
-        requires high { time ≤ℤ pos number_limit }
-        ensures low { pos 0 ≤ℤ result }
-        ensures high { result ≤ℤ pos number_limit }
-        ensures greatest { (e : came.Event) → e.time ≡ time
-            → Some result ≡ with_time (kept_of self.now).greatest e }
-    {
-        match self.greatest {
-            None => time,
-            Some(greatest) => greatest.max(time),
         }
     }
 
@@ -124,13 +106,8 @@ impl Slack {
             self.late += 1;
             return Ok(Offered::Late { now, least });
         }
-        let greatest = self.greatest_with(now);
-        match self.held.insert((now, self.offered), event) {
-            Ok(_) => {}
-            Err(_) => return Err(AllocError),
-        }
+        self.waiting.add(event)?;
         self.offered += 1;
-        self.greatest = Some(greatest);
         Ok(Offered::Kept)
     }
 
@@ -154,19 +131,6 @@ impl Slack {
         }
     }
 
-    // Whether the first of the events that are held is to be given.
-    fn is_ready(&self) -> bool
-        ensures none { (kept_of self.now).held ≡ [] → result ≡ false }
-        ensures ready { (e : came.Event) (rest : List came.Event)
-            → (kept_of self.now).held ≡ e ∷ rest → result ≡ ((kept_of self.now).ended
-            || is_up_to (before (kept_of self.now).slack (kept_of self.now).greatest) e) }
-    {
-        let Some((place, _)) = self.held.first_key_value() else {
-            return false;
-        };
-        self.ended || self.reaches(place.0)
-    }
-
     /// Gives the next of the events that are to be given, None exactly where all of them were.
     pub fn next(&mut self) -> Option<Event>
         ensures event { (events : List came.Event) (given : ℕ)
@@ -180,11 +144,11 @@ impl Slack {
         ensures rest { kept_of self.new
             ≡ record (kept_of self.old) { held = (kept_of self.new).held } }
     {
-        if !self.is_ready() {
+        let first = self.waiting.first()?;
+        if !self.ended && !self.reaches(first.time) {
             return None;
         }
-        let (_, event) = self.held.pop_first()?;
-        Some(event)
+        self.waiting.take(first)
     }
 
     /// How many of the events that were offered were late.

@@ -53,6 +53,13 @@ returns-clause-given g c from events before =
     let here = standing (g.S.Source.state c.loop.self.source.now) c.loop.self.events in
     gives_on (standing (g.S.Source.state from.source.now) from.events) old here events [] c.loop.self.events.rows.few before c.loop.invariant.gives
 
+pub returns-clause-asked : goal.returns-clause-asked
+returns-clause-asked g c from before events asked =
+    let source = g.S.Source.state c.loop.self.source.now in
+    let first = standing (g.S.Source.state from.source.now) from.events in
+    let here = standing source c.loop.self.events in
+    either_still first here here before events [] c.loop.self.events.rows.few (gives_none here (sound_in source c.loop.self.events)) (c.loop.invariant.asked first before events asked)
+
 pub loop-preserved : goal.loop-preserved
 loop-preserved g c =
     let before = g.S.Source.state c.loop.self.source.now in

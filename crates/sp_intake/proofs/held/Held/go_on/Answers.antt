@@ -11,6 +11,8 @@ use Rattle.sp_intake.specs.declared.reader.State.{State}
 use Rattle.sp_intake.specs.declared.reader.State.TheVariants.{Going, Stopped}
 use Rattle.sp_intake.specs.Laws.{reads_none, gives_none, gives_more, sound_at}
 use Rattle.sp_intake.specs.Reader.{Reader, event_in}
+use Rattle.sp_intake.specs.Latest.{latest_of}
+use Rattle.sp_intake.specs.declared.latest.Latest.{Latest}
 use Rattle.sp_intake.specs.RowsSeen.{reader_of, rows_at, held_of}
 use Rattle.sp_intake.specs.Standing.{Held, Holds, Reads, Passes, GivesBy, IsIdle, given_by, is_stopped, is_whole, stop_in, seen_by, with_held}
 use Rattle.sp_intake.proofs.HoldingBack.{GivesNext, WasOffered, not_idle, holds_next, gives_next, gives_quiet, holds_rows, holds_still, holds_ended, passes_ended, passes_still, offered_holds, reads_lost_rows, only_end, broken_seen, not_broken, not_stopped, none_given, no_source, one_less, put_given, put_none, on_err, stopped_for}
@@ -100,12 +102,12 @@ offer-requires-clause-high c =
     let reads = put_given here (rows_at no_source c.poll.new.self) c.poll.new.event c.take.result c.in-Some-take.came c.take.ensures.value c.in-Some-take.is polled in
     (time_between (plan_of here.reader.rows) c.in-Some-take.came (All-head (λ x. fits (plan_of here.reader.rows) x ≡ true) c.in-Some-take.came [] reads.fit)).1
 
-pub lose-requires-clause-some : goal.lose-requires-clause-some
-lose-requires-clause-some c =
+pub lose-requires : goal.lose-requires
+lose-requires c =
     let here = rows_at no_source c.loop.rows in
     let polled : Reads here [] (event_in c.poll.new.event) (rows_at no_source c.poll.new.self) = rw c.in-Event.is at c.in_ok-poll.ensures.reads no_source in
     let reads = put_given here (rows_at no_source c.poll.new.self) c.poll.new.event c.take.result c.in-Some-take.came c.take.ensures.value c.in-Some-take.is polled in
-    omega (arith, reads.count)
+    record { some = omega (arith, reads.count) }
 
 -- ---- there was no memory for it
 
@@ -125,7 +127,7 @@ returns-then-is_err-clause-holds c =
     let kept : lost.kept ≡ old.kept = on_err c.offer.result (sym c.is_err.ensures.value ∙ c.if-is_err.true) c.offer.ensures.err ∙ same in
     let broken = c.lose.ensures.state in
     let step = reads_lost_rows no_source c.loop.rows.state c.lose.new.self.state here.reader (reader_of c.lose.new.self) c.loop.invariant.going broken (ap (λ (r : Reader). plan_of r.rows) at ∙ reads.plan) (ap (λ (r : Reader). r.lateness) at ∙ reads.lateness)
-    (one_less here.reader.given mid.reader.given (reader_of c.lose.new.self).given reads.count (ap (λ (r : Reader). r.given) at)) (ap (λ (r : Reader). r.greatest) at ∙ c.greatest-greatest.ensures) in
+    (one_less here.reader.given mid.reader.given (reader_of c.lose.new.self).given reads.count (ap (λ (r : Reader). r.given) at)) (ap (λ (r : Reader). r.greatest) at ∙ ap (λ (l : Latest). latest_of l.time) c.latest-latest.ensures) in
     holds_still here (rows_at no_source c.lose.new.self) old lost step c.loop.invariant.holds kept (open_ ∙ sym (ap whole_in broken)) (not_broken c.lose.new.self.state broken) none
 
 pub returns-then-is_err-clause-gives : goal.returns-then-is_err-clause-gives
@@ -141,7 +143,7 @@ returns-then-is_err-clause-gives c source =
     let at = c.lose.ensures.reader in
     let kept : lost.kept ≡ old.kept = on_err c.offer.result (sym c.is_err.ensures.value ∙ c.if-is_err.true) c.offer.ensures.err ∙ same in
     let step = reads_lost_rows source c.loop.rows.state c.lose.new.self.state here.reader (reader_of c.lose.new.self) c.loop.invariant.going c.lose.ensures.state (ap (λ (r : Reader). plan_of r.rows) at ∙ reads.plan) (ap (λ (r : Reader). r.lateness) at ∙ reads.lateness)
-    (one_less here.reader.given mid.reader.given (reader_of c.lose.new.self).given reads.count (ap (λ (r : Reader). r.given) at)) (ap (λ (r : Reader). r.greatest) at ∙ c.greatest-greatest.ensures) in
+    (one_less here.reader.given mid.reader.given (reader_of c.lose.new.self).given reads.count (ap (λ (r : Reader). r.given) at)) (ap (λ (r : Reader). r.greatest) at ∙ ap (λ (l : Latest). latest_of l.time) c.latest-latest.ensures) in
     gives_more (with_held (rows_at source c.args.rows.now) (Some (held_of c.args.self.now))) (with_held here (Some old)) (with_held new (Some lost)) [] [] [] [] c.lose.new.self.few (c.loop.invariant.gives source)
     (gives_quiet here new old lost [] step (passes_still old.kept lost.kept kept) (returns-then-is_err-clause-holds c))
 
