@@ -1,9 +1,9 @@
-mod Answering
+pub mod Answering
 mod Runs
-mod Numbers
-mod Commas
+pub mod Numbers
+pub mod Commas
 mod Named
-mod Lines
+pub mod Lines
 mod StateTexts
 mod WorkedStates
 mod WorkedSummary

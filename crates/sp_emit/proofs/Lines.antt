@@ -15,13 +15,13 @@ use Rattle.sp_emit.proofs.Commas.{first_number, places_numbers, places_one}
 use Rattle.sp_emit.proofs.Named.{bindings_one, before_used, before_used_ends}
 
 -- a list of numbers is empty or not
-is_some : (n : ℕ) (ns : List ℕ) → n ∷ ns ≢ []
+pub is_some : (n : ℕ) (ns : List ℕ) → n ∷ ns ≢ []
 is_some n ns e = cc
 
 -- ---- the consumed numbers
 
 -- no text of numbers begins with a dash
-no_dash : (text ns r s : List ℕ) → PlacesAt text ns r → text ≡ codes "-" ++ s → ⊥
+pub no_dash : (text ns r s : List ℕ) → PlacesAt text ns r → text ≡ codes "-" ++ s → ⊥
 no_dash text [] r s a e = a.some refl
 no_dash text (n ∷ ns) r s a e =
     let first = first_number text n ns r (places_numbers text (n ∷ ns) r a) in
@@ -152,7 +152,3 @@ line_read q text second third fourth m w k b u = record {
 pub one_match : OneMatch
 one_match q text m other a b =
     same_match q text other b m.window (behind_window q m) (window_at q text m a) m.number (behind_number q m) (number_at q text m a) m.bound (end_of m) (bound_at q text m a) m.used (used_at q text m a)
-
--- the line of a match under another name
-pub same_line : (q : Plan) (text other : List ℕ) (m : Match) → text ≡ other → IsLine q m other → IsLine q m text
-same_line q text other m e a = record { held = a.held; binds = a.binds; is = e ∙ a.is }

@@ -87,8 +87,8 @@ pub(crate) fn labelled_at<'a>(text: &'a [u8], label: &[u8]) -> Option<(u64, &'a 
     number_at(behind(text, label)?, u64::MAX)
 }
 
-/// The same of numbers of 32 bits.
-pub(crate) fn short_labelled_at<'a>(text: &'a [u8], label: &[u8]) -> Option<(u32, &'a [u8])>
+/// The number of 32 bits behind a label, and the rest; None exactly where no such number is behind it in front.
+pub fn short_labelled_at<'a>(text: &'a [u8], label: &[u8]) -> Option<(u32, &'a [u8])>
     ensures { Answers (LabelledAt label.now 4294967295 text.now) (λ p. (p.0, p.1.now)) result }
 {
     short_number_at(behind(text, label)?)

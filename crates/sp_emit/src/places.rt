@@ -7,8 +7,8 @@ use crate::number::short_number_at;
 use sp_plan::{Memory, Places};
 use std::alloc::Global;
 
-// The numbers in front, and the rest.
-fn numbers_at<'a>(alloc: Global, text: &'a [u8]) -> Result<Option<(Vec<u32>, &'a [u8])>, Memory>
+/// The numbers in front, each of 32 bits, and the rest; None exactly where none are in front.
+pub fn numbers_at<'a>(alloc: Global, text: &'a [u8]) -> Result<Option<(Vec<u32>, &'a [u8])>, Memory>
     ensures { IfOk result (Answers (NumbersAt text.now) (λ p. (p.0.items, p.1.now))) }
 {
     let Some((first, mut rest)) = short_number_at(text) else {

@@ -1,0 +1,7 @@
+mod Cutting
+mod Heads
+mod Alone
+mod Going
+mod Feeds
+mod Written
+mod WorkedListings

@@ -1,0 +1,5 @@
+pub mod Limits
+pub mod Lines
+pub mod Listing
+pub mod Reading
+pub mod Written
