@@ -1,0 +1,11 @@
+mod JoinedLists
+mod Picked
+mod Searching
+mod NamedElements
+mod LooksAhead
+mod TurnsShow
+mod SplitLists
+mod TurnsTaken
+mod RunsGoOn
+mod ReadsOn
+mod Worked

@@ -1,0 +1,23 @@
+-- An event that is offered to the runs of a window.
+use Rattle.std.specs.Prelude.{◌≡◌, [], Option, IfSome}
+use Rattle.sp_plan.specs.declared.event.Event.{Event}
+use Rattle.sp_plan.specs.Bounds.{IsSmall}
+use Rattle.sp_plan.specs.Compiled.{IsCompiled}
+use Rattle.sp_plan.specs.Windows.{Numbered}
+use Rattle.sp_scan.specs.declared.offer.Offer.{Offer}
+use Rattle.sp_scan.specs.inside.Ahead.{IsAhead}
+
+-- the event with its number
+abbrev pub numbered : Offer → Numbered
+numbered o = (o.number, o.event.now)
+
+-- The plan is compiled, the event's numbers are small, and the run that a new one begins as has bound none.
+pub record IsOffer (o : Offer) : Type 0 where
+  pub compiled : IsCompiled o.plan.now
+  pub small : IsSmall o.event.now
+  pub none : o.empty.now.pairs ≡ []
+  pub ahead_is : IsAhead o.plan.now [] o.empty.now.ahead
+
+-- What runs share of an event is the event, where one has bound it.
+abbrev pub IsShared : Offer → Option Event → Type 0
+IsShared o shared = IfSome shared (λ event. event ≡ o.event.now)
