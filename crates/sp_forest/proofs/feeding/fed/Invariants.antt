@@ -1,6 +1,0 @@
-use Rattle.std.specs.Arc.{arc_value}
-use Rattle.sp_forest.proofs.FedWindows.{Fed}
-use Rattle.sp_forest.proofs.feeding.fed.Given as goal
-
-abbrev pub invariant-loop-event : goal.invariant-loop-event
-invariant-loop-event l = Fed l.windows l.events l.event-index (arc_value l.fn.plan)
