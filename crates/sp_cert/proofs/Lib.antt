@@ -1,0 +1,13 @@
+pub mod Worked
+pub mod Within
+pub mod Telling
+pub mod Right
+pub mod Flagging
+pub mod Taken
+pub mod Making
+pub mod Judging
+pub mod Chunks
+pub mod Leads
+pub mod Passing
+pub mod Matches
+pub mod Shown
