@@ -1,5 +1,6 @@
 -- A core after a piece came home is what the machine makes of it.
-use Rattle.std.proofs.Common.{◌≡◌, ◌⊎◌, inl, inr, ℕ, zero, suc, ◌+◌, ◌*◌, ◌<◌, ◌≤◌, Bool, true, false, cond, ◌||◌, ◌==◌, nat_lt, List, [], ◌∷◌, ◌++◌, filter, length, map, Option, Some, None, refl, sym, ap, subst, ◌∙◌, arith, get_or}
+use Rattle.std.proofs.Common.{◌≡◌, ◌⊎◌, inl, inr, ℕ, zero, suc, ◌+◌, ◌*◌, ◌<◌, ◌≤◌, Bool, true, false, cond, ◌&&◌, ◌||◌, ◌==◌, nat_le, nat_lt, List, [], ◌∷◌, ◌++◌, filter, length, map, Option, Some, None, refl, sym, ap, subst, ◌∙◌, arith, get_or}
+use Rattle.std.specs.Prelude.{IfSome}
 use Rattle.std.specs.List.{All, flat_map, remove, sum}
 use Rattle.std.specs.List.Sorted.{IsStrictlyIncreasing}
 use Rattle.std.proofs.lemmas.Bool.Decides.{nat_tests}
@@ -35,8 +36,10 @@ use Rattle.sp_tree.specs.Grown.{AreGrown, Entry, Grown, kin, lifted, pruned, wit
 use Rattle.sp_core.specs.declared.homecoming.Brought.{Brought}
 use Rattle.sp_core.specs.declared.given.Given.TheVariants as g
 use Rattle.sp_core.specs.declared.lent.Lent.{Lent}
+use Rattle.sp_core.specs.declared.news.News.{News}
 use Rattle.sp_core.specs.Carrying.{ticket_of}
 use Rattle.sp_core.specs.Holding.{Holding, Holds, IsCore, machine_of, running, unnumbered, version_of}
+use Rattle.sp_core.specs.News.{AreNew, is_new}
 use Rattle.sp_core.specs.Homecoming.{IsBrought, IsTakenUp, completions, ended_in, is_grouped, outcome_of, spent_run, unnumbered_told, used_told}
 use Rattle.sp_core.specs.Returning.{IsGiven, IsPlaceOf, after_return, reading_entries}
 use Rattle.sp_core.specs.Rooms.{matches_held, numbers_held}
@@ -45,6 +48,7 @@ use Rattle.sp_core.specs.Settling.{HomeLaws, IsFrom, IsSettled, with_settled}
 use Rattle.sp_core.proofs.Coming.{Coming, adds, before, comes, completed_now, grouped_now, has_before, has_now, held, id_is, live_here, local_is, now, plan_now, reached_is, stands_now, version_home}
 use Rattle.sp_core.proofs.Deciding.{ended_alike, foresaw_alike, versions_decided}
 use Rattle.sp_core.proofs.Journal.{replayed_by}
+use Rattle.sp_core.proofs.Newly.{news_home}
 use Rattle.sp_core.proofs.Later.{length_numbers, numbers_more, spent_are, unnumbered_are, unnumbered_more, used_are}
 use Rattle.sp_core.proofs.Owed.{owed_most}
 use Rattle.sp_core.proofs.Owner.{only_one, settled, settled_are, settled_if, sum_settled}
@@ -364,9 +368,10 @@ module _ (laws : HomeLaws) (h : Holding) (p : Pieced) (a : Coming h p) (b : Brou
   returns_is : IsReadAndReturned h.plan h.tree.bound (machine_of h) n a.ticket p.read p.closed
   returns_is = laws.returns h.plan h.tree.bound (machine_of h) n a.ticket p.read p.closed a.out (comes laws h p a).so_far
 
-  module _ (grown : AreGrown tree) (tickets : List Lent) (consumed : NumberList) (journal : List step.Entry) (journal_room emitted_room : ℕ)
+  module _ (grown : AreGrown tree) (tickets : List Lent) (consumed : NumberList) (journal : List step.Entry) (news : List News) (journal_room emitted_room : ℕ)
       (tickets_are : map ticket_of tickets ≡ without n ts) (consumed_is : consumed.list ≡ h.consumed.list)
-      (journal_is : journal ≡ h.journal ++ reading_entries n (readings p.read p.closed) ++ once (s.Return n) ∷ []) where
+      (journal_is : journal ≡ h.journal ++ reading_entries n (readings p.read p.closed) ++ once (s.Return n) ∷ [])
+      (heard : (later i : ℕ) → is_new news later i ≡ (is_new h.news later i || (nat_lt e.value.window later && nat_le p.job.first i))) where
     -- the core after the piece came home
     abbrev pub after : Holding
     after = record h {
@@ -374,6 +379,7 @@ module _ (laws : HomeLaws) (h : Holding) (p : Pieced) (a : Coming h p) (b : Brou
       tickets = tickets;
       consumed = consumed;
       journal = journal;
+      news = news;
       journal_room = journal_room;
       emitted_room = emitted_room;
     }
@@ -384,15 +390,16 @@ module _ (laws : HomeLaws) (h : Holding) (p : Pieced) (a : Coming h p) (b : Brou
     abbrev machine_then : Machine
     machine_then = steps h.plan h.tree.bound (machine_of h) (reads_and_return n (readings p.read p.closed))
 
-    machine_is : machine_of after ≡ steps h.plan h.tree.bound (machine_of h) (reads_and_return n (readings p.read p.closed))
-    machine_is =
+    home_is : machine_of after ≡ home h.plan (machine_of h) n (read_to a.ticket p.read p.closed) (Some (version_of e))
+    home_is =
         let m = machine_of h in
         ap (λ (vs : List machine.Version). record m { versions = vs; tickets = map ticket_of tickets; consumed = consumed.list; next_id = tree.next }) versions_are
         ∙ ap (λ (us : List Ticket). record m { versions = versions_then; tickets = us; consumed = consumed.list; next_id = tree.next }) tickets_are
         ∙ ap (λ (ns : List ℕ). record m { versions = versions_then; tickets = without n ts; consumed = ns; next_id = tree.next }) consumed_is
         ∙ ap (λ (t : Grown Version). record m { versions = versions_then; tickets = without n ts; next_id = t.next }) tree_is
-        ∙ sym (ap (home h.plan m n (read_to a.ticket p.read p.closed)) (comes laws h p a).live)
-        ∙ sym returns_is.whole
+
+    machine_is : machine_of after ≡ steps h.plan h.tree.bound (machine_of h) (reads_and_return n (readings p.read p.closed))
+    machine_is = home_is ∙ sym (ap (home h.plan (machine_of h) n (read_to a.ticket p.read p.closed)) (comes laws h p a).live) ∙ sym returns_is.whole
 
     bound_is : tree.bound ≡ h.tree.bound
     bound_is = ap (λ (t : Grown Version). t.bound) tree_is
@@ -420,6 +427,8 @@ module _ (laws : HomeLaws) (h : Holding) (p : Pieced) (a : Coming h p) (b : Brou
           replayed = replayed_by h after entries c.replayed refl bound_is (journal_is ∙ append_assoc h.journal (reading_entries n (readings p.read p.closed)) (once (s.Return n) ∷ []))
               (subst (Fits h.plan h.tree.bound (machine_of h)) (sym (flat_return n (readings p.read p.closed))) (fits_return h.plan h.tree.bound (machine_of h) n (readings p.read p.closed)))
               (ap (steps h.plan h.tree.bound (machine_of h)) (flat_return n (readings p.read p.closed)) ∙ sym machine_is) (omega arith) (omega arith);
+          news_are = subst (λ (m : Machine). AreNew h.plan m news) (sym home_is) (news_home h.plan (laws.lawful h.plan c.compiled) (machine_of h) n a.ticket (version_of e) p.read p.closed (comes laws h p a)
+              h.news news (λ later i. heard later i ∙ ap (λ (f : ℕ). is_new h.news later i || (nat_lt e.value.window later && nat_le f i)) a.carries.first) c.news_are);
           rooms = record {
             entries = let owed = owed_most h.ended tree.entries in let fewer = length_most in omega arith;
             matches = let most = matches_most in omega arith;
@@ -443,16 +452,29 @@ module _ (laws : HomeLaws) (h : Holding) (p : Pieced) (a : Coming h p) (b : Brou
       record { reading = returns_is.accepts_reads; returning = returns_is.accepts_return },
     )
 
+-- what is heard of a piece, in the words of its version
+pub heard_home : (laws : HomeLaws) (h : Holding) (p : Pieced) (a : Coming h p) (window first : ℕ) (earlier news : List News)
+    → IfSome (entry_at kin h.tree.entries p.job.version) (λ e. window ≡ e.value.window) → first ≡ p.job.first → earlier ≡ h.news
+    → ((later i : ℕ) → is_new news later i ≡ (is_new earlier later i || (nat_lt window later && nat_le first i)))
+    → (later i : ℕ) → is_new news later i ≡ (is_new h.news later i || (nat_lt a.entry.value.window later && nat_le p.job.first i))
+heard_home laws h p a window first earlier news of is same heard later i =
+    let own : window ≡ a.entry.value.window = subst (λ (o : Option (Entry Version)). IfSome o (λ e. window ≡ e.value.window)) (live_here laws h p a) of in
+    heard later i
+    ∙ ap (λ (ns : List News). is_new ns later i || (nat_lt window later && nat_le first i)) same
+    ∙ ap (λ (w : ℕ). is_new h.news later i || (nat_lt w later && nat_le first i)) own
+    ∙ ap (λ (f : ℕ). is_new h.news later i || (nat_lt a.entry.value.window later && nat_le f i)) is
+
 -- it is a place among the tickets
 pub place_within : (ls : List Lent) (n place : ℕ) → IsPlaceOf (map ticket_of ls) n place → place < length ls
 place_within ls n place at = let many = length-map ls ticket_of in let within = slice_get_within (map ticket_of ls) place at.0 at.1 in omega arith
 
 -- What a core promises where a piece comes home, with the matches as they are given.
 module _ (laws : HomeLaws) (h : Holding) (p : Pieced) (a : Coming h p) (b : Brought) (from : IsFrom h.tree p b) (tree : Grown Version) (set : IsSettled h.tree p b tree)
-    (grown : AreGrown tree) (tickets : List Lent) (emitted : List Match) (consumed : NumberList) (journal : List step.Entry) (journal_room emitted_room : ℕ)
+    (grown : AreGrown tree) (tickets : List Lent) (emitted : List Match) (consumed : NumberList) (journal : List step.Entry) (news : List News) (journal_room emitted_room : ℕ)
     (place : ℕ) (at : IsPlaceOf (map ticket_of h.tickets) p.job.ticket place) (tickets_are : tickets ≡ remove h.tickets place)
     (emitted_is : emitted ≡ h.emitted) (consumed_is : consumed.list ≡ h.consumed.list)
-    (journal_is : journal ≡ h.journal ++ reading_entries p.job.ticket (readings p.read p.closed) ++ once (s.Return p.job.ticket) ∷ []) where
+    (journal_is : journal ≡ h.journal ++ reading_entries p.job.ticket (readings p.read p.closed) ++ once (s.Return p.job.ticket) ∷ [])
+    (heard : (later i : ℕ) → is_new news later i ≡ (is_new h.news later i || (nat_lt a.entry.value.window later && nat_le p.job.first i))) where
   abbrev with_matches : List Match → Holding
   with_matches ms = record h {
     tree = tree;
@@ -460,6 +482,7 @@ module _ (laws : HomeLaws) (h : Holding) (p : Pieced) (a : Coming h p) (b : Brou
     emitted = ms;
     consumed = consumed;
     journal = journal;
+    news = news;
     journal_room = journal_room;
     emitted_room = emitted_room;
   }
@@ -471,10 +494,10 @@ module _ (laws : HomeLaws) (h : Holding) (p : Pieced) (a : Coming h p) (b : Brou
       → numbers_held h.tree.entries + length b.used.list ≤ consumed.spare → IsCore (with_matches emitted)
   core_comes fits emits consumes =
       subst (λ (ms : List Match). IsCore (with_matches ms)) (sym emitted_is)
-      (core_home laws h p a b from tree set grown tickets consumed journal journal_room emitted_room left_are consumed_is journal_is fits emits consumes)
+      (core_home laws h p a b from tree set grown tickets consumed journal news journal_room emitted_room left_are consumed_is journal_is heard fits emits consumes)
 
   pub given_comes : (earlier : Running) → running h ≡ earlier → IsGiven earlier (running (with_matches emitted)) p g.Home
   given_comes earlier is =
       subst (λ (x : Running). IsGiven x (running (with_matches emitted)) p g.Home) is
       (subst (λ (ms : List Match). IsGiven (running h) (running (with_matches ms)) p g.Home) (sym emitted_is)
-      (given_home laws h p a b from tree set grown tickets consumed journal journal_room emitted_room left_are consumed_is journal_is))
+      (given_home laws h p a b from tree set grown tickets consumed journal news journal_room emitted_room left_are consumed_is journal_is heard))

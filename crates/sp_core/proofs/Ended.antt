@@ -11,6 +11,7 @@ use Rattle.sp_group.specs.Machine as machine
 use Rattle.sp_group.specs.Machine.{Machine, Ticket, ticket_at, version_at}
 use Rattle.sp_group.specs.Refusing.{return_refusal}
 use Rattle.sp_group.specs.Effects.{effect, home, returned, without}
+use Rattle.sp_spread.proofs.Hits.{by_ending}
 use Rattle.sp_rules.specs.Schedules.{EverySchedule, Reached}
 use Rattle.sp_tree.specs.Grown.{AreGrown, Entry, Grown, kin, with_value, written}
 use Rattle.sp_core.specs.declared.lent.Lent.{Lent}
@@ -22,6 +23,7 @@ use Rattle.sp_core.specs.Running.{after, once}
 use Rattle.sp_core.proofs.Carried.{IsOutFor, here, lent_is, out_there, ticket_there}
 use Rattle.sp_core.proofs.Entries.{all_found, found_of_all, version_found, version_is}
 use Rattle.sp_core.proofs.Journal.{reached, replayed_on}
+use Rattle.sp_core.proofs.Newly.{news_on}
 use Rattle.sp_core.proofs.NothingRead.{nothing_home, same_version}
 use Rattle.sp_core.proofs.Owed.{owed_most}
 use Rattle.sp_core.proofs.Renewing.{at_entry}
@@ -182,6 +184,7 @@ module _ (h : Holding) (n : ℕ) (d : Lent) (left : List Lent) (a : IsOutAt h n 
             grown = l.grown;
             versions = subst (λ (us : List Ticket). All (Holds h.plan h.events us) t.entries) (sym a.rest) l.hold;
             replayed = replayed_on h (after_return t) (s.Return n) k.replayed refl l.bound refl tt (ap (return_refusal n) a.out) machine_after (omega (arith, l.next)) (omega arith);
+            news_are = news_on h (machine_of (after_return t)) (without_ticket (machine_of h) n) k.news_are (machine_after ∙ machine_left) (by_ending h.plan (machine_of h) n);
             rooms = record { entries = omega arith; matches = omega (arith, l.matches, rooms.matches); numbers = omega (arith, l.numbers, rooms.numbers) };
           }
 

@@ -18,6 +18,9 @@ use Rattle.sp_group.specs.declared.refusal.Refusal.TheVariants as r
 use Rattle.sp_group.specs.declared.step.Entry as step
 use Rattle.sp_group.specs.declared.step.Step.TheVariants as s
 use Rattle.sp_group.specs.Effects.{effect, finished_one, new_matches, popped, settled}
+use Rattle.sp_spread.proofs.Hits.{NoneHitAnew, by_finish}
+use Rattle.sp_rules.proofs.Facts.{facts}
+use Rattle.sp_rules.specs.Lawful.{Lawful}
 use Rattle.sp_group.specs.Family.{entry_at}
 use Rattle.sp_group.specs.Machine as machine
 use Rattle.sp_group.specs.Machine.{Machine, inner, is_out}
@@ -37,6 +40,7 @@ use Rattle.sp_core.specs.Suppressing.{conflict_of}
 use Rattle.sp_core.proofs.HeirConflict.{versions_then}
 use Rattle.sp_core.proofs.Heirs.{CameOf, came_of, idle, orphan, orphaned, other, popped_from}
 use Rattle.sp_core.proofs.Journal.{reached, replayed_on}
+use Rattle.sp_core.proofs.Newly.{news_on}
 use Rattle.sp_core.proofs.Numbering.{numbered_on}
 use Rattle.sp_core.proofs.Entries.{found_of_all}
 use Rattle.sp_core.proofs.Pruning.{all_pruned, sum_without}
@@ -234,8 +238,8 @@ module _ (law : EverySchedule) (h : Holding) (c : IsCore h) (root window : ℕ) 
       bound_is : new.bound ≡ h.tree.bound
       bound_is = settled_so.bound ∙ ap (λ (g : Grown Version). g.bound) pops
 
-      pub core_finished : IsCore after_finish
-      core_finished = record {
+      pub core_finished : Lawful h.plan → IsCore after_finish
+      core_finished lawful = record {
         compiled = c.compiled;
         known_are = c.known_are;
         some = subst (λ n. 1 ≤ n) (sym bound_is) c.some;
@@ -246,6 +250,9 @@ module _ (law : EverySchedule) (h : Holding) (c : IsCore h) (root window : ℕ) 
         versions = settled_so.held;
         replayed = replayed_on h after_finish s.Finish c.replayed refl bound_is entered tt passes does
             (let next = settled_so.next in let same = ap (λ (g : Grown Version). g.next) pops in omega arith) (omega arith);
+        news_are = news_on h (machine_of after_finish) (effect h.plan (machine_of h) s.Finish) c.news_are does
+            (subst (λ (o : Option machine.Version). NoneHitAnew h.plan (machine_of h) (finished_one h.plan (machine_of h) o)) (sym d.at.version)
+            (by_finish h.plan (facts h.plan lawful) (machine_of h) (version_of held_root) d.at.version d.done kept));
         rooms = record {
           entries = let less = settled_so.entries in let same = ap (λ es. sum (map entries_for es)) entries_are in let rest = entries_rest in
               let owed = c.rooms.entries in omega arith;

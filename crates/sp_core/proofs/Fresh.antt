@@ -27,6 +27,7 @@ use Rattle.sp_group.specs.Machine as machine
 use Rattle.sp_group.specs.Machine.{Ticket, inner, is_group, is_out, out_for}
 use Rattle.sp_group.specs.Refusing.{child_with, id_of, not_open}
 use Rattle.sp_group.specs.Effects.{any_spawned, child_spawned, effect, fresh, spawned}
+use Rattle.sp_spread.proofs.Hits.{by_spawn}
 use Rattle.sp_tree.specs.Grown.{Grown, Entry, AreGrown, CanStand, groups_of, is_open, kin, with_child}
 use Rattle.sp_rules.specs.Schedules.{Reached}
 use Rattle.sp_core.specs.Holding.{Holding, Holds, IsCore, machine_of, running, unnumbered, version_of}
@@ -37,6 +38,7 @@ use Rattle.sp_core.specs.Spawning.{spawned_window, window_behind}
 use Rattle.sp_core.proofs.Children.{root_found, no_root, lacks_child, all_pass}
 use Rattle.sp_core.proofs.Entries.{found_of_all, version_is}
 use Rattle.sp_core.proofs.Journal.{replayed_on}
+use Rattle.sp_core.proofs.Newly.{news_on}
 use Rattle.sp_core.proofs.Refused.{passes_if, passes_for}
 use Rattle.sp_core.proofs.SpawnRefusals.{child_refused, parent_gone}
 
@@ -205,6 +207,8 @@ core_with h parent label v journal room core reached is fits f live entered owed
       versions = All-cons (Holds h.plan h.events tickets) e h.tree.entries
           (holds_fresh h.plan h.events tickets (spawned_window (machine_of h) parent) v h.tree.next parent label f none) core.versions;
       replayed = replayed_on h k (s.Spawn parent label) core.replayed refl refl entered fits is (spawn_does h parent label v journal room pass f) (omega arith) (omega arith);
+      news_are = news_on h (machine_of k) (effect h.plan (machine_of h) (s.Spawn parent label)) core.news_are (spawn_does h parent label v journal room pass f)
+          (by_spawn h.plan (machine_of h) parent label reached.kept.sane);
       rooms = record {
         entries = owed;
         matches = let more = sum_by-cons (λ n. n) (length v.copies.items) (map (λ x. length x.value.copies.items) h.tree.entries) in

@@ -13,6 +13,7 @@ use Rattle.sp_group.specs.Machine as machine
 use Rattle.sp_group.specs.Machine.{Machine, Ticket, version_at}
 use Rattle.sp_group.specs.Effects as effects
 use Rattle.sp_group.specs.Effects.{effect, leased}
+use Rattle.sp_spread.proofs.Hits.{by_lease}
 use Rattle.sp_tree.specs.Grown.{Entry, Grown, kin, written, with_value}
 use Rattle.sp_core.specs.declared.lent.Lent.{Lent}
 use Rattle.sp_core.specs.Running.{after, once, refused}
@@ -20,6 +21,7 @@ use Rattle.sp_core.specs.Carrying.{ticket_of}
 use Rattle.sp_core.specs.Leasing.{IsLent, out_where, with_out}
 use Rattle.sp_core.specs.Holding.{Holding, Holds, IsCore, machine_of, running, version_of}
 use Rattle.sp_core.proofs.Journal.{replayed_on}
+use Rattle.sp_core.proofs.Newly.{news_on}
 use Rattle.sp_core.proofs.Entries.{version_found, version_is}
 use Rattle.sp_core.proofs.Owed.{owed_most}
 use Rattle.sp_core.proofs.Written.{all_written, grown_written, length_written, map_written}
@@ -152,6 +154,8 @@ module _ (h : Holding) (lent : Lent) (n : ℕ) (a : Leases h lent n) where
           grown = grown_written h.tree lent.version (out_now a.entry.entry.value lent.ticket) k.grown;
           versions = all_hold;
           replayed = replayed_on h after_lease (s.Lease lent.version n) k.replayed refl refl refl tt a.passes machine_after (omega arith) (omega arith);
+          news_are = news_on h (machine_of after_lease) (effect h.plan (machine_of h) (s.Lease lent.version n)) k.news_are machine_after
+              (by_lease h.plan (machine_of h) n (version_at (machine_of h).versions lent.version));
           rooms = record { entries = omega arith; matches = omega (arith, matches, rooms.matches); numbers = omega (arith, numbers, rooms.numbers) };
         }
 

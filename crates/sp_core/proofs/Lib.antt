@@ -34,6 +34,7 @@ pub mod Leased
 pub mod Least
 pub mod Lending
 pub mod LinesRead
+pub mod Newly
 pub mod NothingRead
 pub mod Numbering
 pub mod OneStepOn

@@ -12,6 +12,7 @@ use Rattle.sp_group.specs.Machine as machine
 use Rattle.sp_group.specs.Machine.{Machine, kin, version_at, is_out, conflict}
 use Rattle.sp_group.specs.Family.{prune}
 use Rattle.sp_group.specs.Effects.{fresh, but, rolled, effect}
+use Rattle.sp_spread.proofs.Hits.{by_roll}
 use Rattle.sp_group.specs.Refusing.{refuse_if, roll_refusal}
 use Rattle.sp_tree.specs.Grown.{Grown, Entry, AreGrown}
 use Rattle.sp_rules.specs.Schedules.{EverySchedule}
@@ -23,6 +24,7 @@ use Rattle.sp_core.specs.Rooms.{entries_for, is_touched, matches_held, numbers_h
 use Rattle.sp_core.specs.Suppressing.{conflict_of, conflict_at}
 use Rattle.sp_core.proofs.Conflicting.{out_is, touched}
 use Rattle.sp_core.proofs.Journal.{reached, replayed_on}
+use Rattle.sp_core.proofs.Newly.{news_on}
 use Rattle.sp_core.proofs.Entries.{found_of_all, version_found}
 use Rattle.sp_core.proofs.Renewing.{at_entry, versions_anew, all_hold_anew, sum_anew}
 
@@ -144,6 +146,8 @@ module _ (law : EverySchedule) (h : Holding) (c : IsCore h) (id : ℕ) (hit : is
       versions = all_hold h c.versions unborn id t a hit;
       replayed = replayed_on h then (s.Roll id) c.replayed refl bound_is entered tt passes rolls
           (let next = ap (λ (g : Grown Version). g.next) a.is in omega arith) (omega arith);
+      news_are = news_on h (machine_of then) (effect h.plan (machine_of h) (s.Roll id)) c.news_are rolls
+          (by_roll h.plan (machine_of h) (version_at (machine_of h).versions id) (reached law h c).kept.sane);
       rooms = record {
         entries = let less = entries_anew h c.versions unborn id t a hit in let room = c.rooms.entries in omega arith;
         matches = let less = matches_anew h c.versions unborn id t a hit in let room = c.rooms.matches in omega arith;

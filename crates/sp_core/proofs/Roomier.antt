@@ -13,6 +13,8 @@ use Rattle.sp_version.specs.declared.version.Version.{Version}
 use Rattle.sp_group.specs.declared.step.Entry as step
 use Rattle.sp_group.specs.Machine as machine
 use Rattle.sp_group.specs.Machine.{Ticket, inner, is_group}
+use Rattle.sp_core.specs.declared.news.News.{News}
+use Rattle.sp_core.specs.News.{AreNew}
 use Rattle.sp_tree.specs.Grown.{Entry, Grown, with_value, written}
 use Rattle.sp_core.specs.Carrying.{ticket_of}
 use Rattle.sp_core.specs.Holding.{Holding, Holds, IsCore, machine_of, running, unnumbered, version_of}
@@ -79,6 +81,7 @@ module _ (h : Holding) (c : IsCore h) (consumed : NumberList) (journal_room emit
       ids = c.replayed.ids;
       tickets = c.replayed.tickets;
     };
+    news_are = subst (λ (m : machine.Machine). AreNew h.plan m h.news) (sym machine_same) c.news_are;
     rooms = record {
       entries = let room = c.rooms.entries in omega arith;
       matches = let room = c.rooms.matches in omega arith;
@@ -126,6 +129,7 @@ module _ (h : Holding) (c : IsCore h) (id : ℕ) (tree : Grown Version) (same : 
       ids = c.replayed.ids;
       tickets = c.replayed.tickets;
     };
+    news_are = subst (λ (m : machine.Machine). AreNew h.plan m h.news) (sym machine_same) c.news_are;
     rooms = record {
       entries = let room = c.rooms.entries in let all = ap sum (same_of entries_for (owed_same e same.value same.same)) in omega arith;
       matches = let room = c.rooms.matches in let all = ap sum (same_of (λ x. length x.value.copies.items) (ap length same.same.copies)) in omega arith;
@@ -160,3 +164,14 @@ module _ (h : Holding) (c : IsCore h) (id : ℕ) (tree : Grown Version) (same : 
 
   pub running_left : running (with_both emitted journal) ≡ running h
   running_left = ap running both_are ∙ running_same made made_core id tree same ∙ running_roomier h c consumed journal_room emitted_room consumed_is spares enters emits
+
+-- the core with rooms made for all of these
+pub core_made : (h : Holding) → IsCore h → (emitted : List Match) (consumed : NumberList) (journal : List step.Entry) (news : List News) (journal_room emitted_room : ℕ)
+    → emitted ≡ h.emitted → consumed.list ≡ h.consumed.list → journal ≡ h.journal → news ≡ h.news
+    → h.consumed.spare ≤ consumed.spare → h.journal_room ≤ journal_room → h.emitted_room ≤ emitted_room
+    → IsCore (record h { emitted = emitted; consumed = consumed; journal = journal; news = news; journal_room = journal_room; emitted_room = emitted_room })
+core_made h c emitted consumed journal news journal_room emitted_room emitted_is consumed_is journal_is news_is spares enters emits =
+    subst (λ (ms : List Match). IsCore (record h { emitted = ms; consumed = consumed; journal = journal; news = news; journal_room = journal_room; emitted_room = emitted_room })) (sym emitted_is)
+    (subst (λ (es : List step.Entry). IsCore (record h { consumed = consumed; journal = es; news = news; journal_room = journal_room; emitted_room = emitted_room })) (sym journal_is)
+    (subst (λ (ns : List News). IsCore (record h { consumed = consumed; news = ns; journal_room = journal_room; emitted_room = emitted_room })) (sym news_is)
+    (core_roomier h c consumed journal_room emitted_room consumed_is spares enters emits)))

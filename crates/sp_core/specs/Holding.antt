@@ -19,8 +19,10 @@ use Rattle.sp_tree.specs.Grown.{Grown, AreGrown}
 use Rattle.sp_rules.specs.Schedules.{Fits}
 use Rattle.sp_core.specs.declared.machine.Core.TheInside.{Inside}
 use Rattle.sp_core.specs.declared.lent.Lent.{Lent}
+use Rattle.sp_core.specs.declared.news.News.{News}
 use Rattle.sp_core.specs.Running.{Running, flat}
 use Rattle.sp_core.specs.Carrying.{ticket_of}
+use Rattle.sp_core.specs.News.{AreNew}
 use Rattle.sp_core.specs.Rooms.{room, entries_owed, matches_held, numbers_held}
 pub use Rattle.sp_core.specs.Showing.{Holds, unnumbered, version_of}
 
@@ -39,6 +41,7 @@ pub record Holding : Type 0 where
   pub tickets : List Lent
   pub next_ticket : ℕ
   pub journal : List step.Entry
+  pub news : List News
   pub journal_room : ℕ
   pub emitted_room : ℕ
 
@@ -56,6 +59,7 @@ holding c = record {
   tickets = c.tickets.items;
   next_ticket = c.next_ticket;
   journal = c.journal.items;
+  news = c.news.items;
   journal_room = room c.journal;
   emitted_room = room c.emitted;
 }
@@ -101,4 +105,5 @@ pub record IsCore (h : Holding) : Type 0 where
   pub grown : AreGrown h.tree
   pub versions : All (Holds h.plan h.events (map ticket_of h.tickets)) h.tree.entries
   pub replayed : IsReplayed h
+  pub news_are : AreNew h.plan (machine_of h) h.news
   pub rooms : HasRooms h

@@ -4,6 +4,7 @@ pub mod Finishing
 pub mod Holding
 pub mod Homecoming
 pub mod Leasing
+pub mod News
 pub mod Printing
 pub mod Renewing
 pub mod Returning

@@ -1,5 +1,5 @@
 -- What is suppressed for a version, within a range of numbers; conflicts; and which versions are ready.
-use Rattle.std.specs.Prelude.{ℕ, ◌+◌, ◌&&◌, not, nat_le, nat_lt, List, Option, Some, None, filter, map, reverse}
+use Rattle.std.specs.Prelude.{ℕ, ◌+◌, Bool, ◌&&◌, not, nat_le, nat_lt, List, Option, Some, None, filter, map, reverse}
 use Rattle.std.specs.List.{range_with_len}
 use Rattle.sp_base.specs.Numbers.{is_among}
 use Rattle.sp_plan.specs.declared.plan.Plan.{Plan}
@@ -11,10 +11,13 @@ use Rattle.sp_group.specs.Steps.{is_ready}
 abbrev pub suppressed_within : Plan → Machine → ℕ → ℕ → ℕ → List ℕ
 suppressed_within q m id first count = filter (is_suppressed q m id) (range_with_len first count)
 
--- the least number of a range that is suppressed for a version, and is not among others
+-- whether a number of a range is suppressed for a version, and is not among others
+abbrev pub is_unskipped : Plan → Machine → ℕ → ℕ → ℕ → List ℕ → ℕ → Bool
+is_unskipped q m id first count skipped i = is_suppressed q m id i && (nat_le first i && nat_lt i (first + count) && not (is_among skipped i))
+
+-- the least such number
 abbrev pub least_suppressed : Plan → Machine → ℕ → ℕ → ℕ → List ℕ → Option ℕ
-least_suppressed q m id first count skipped =
-    least (λ i. is_suppressed q m id i && (nat_le first i && nat_lt i (first + count) && not (is_among skipped i))) first count
+least_suppressed q m id first count skipped = least (is_unskipped q m id first count skipped) first count
 
 -- the conflict of a version, if it is live and in conflict
 abbrev pub conflict_of : Plan → Machine → Option Version → Option ℕ

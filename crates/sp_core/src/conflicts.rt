@@ -1,14 +1,16 @@
 // What is suppressed for a version: what is consumed, what the matches of its ancestors used, and the groups
 // that its label and theirs name. All of it is looked for within a range of numbers, from the version up to
 // the root.
-ghost use Rattle.std.specs.Prelude.{◌≡◌, IfOk, IsSome, is_none};
+ghost use Rattle.std.specs.Prelude.{◌≡◌, ℕ, ◌<◌, false, IfOk, IsSome, is_none};
 ghost use Rattle.sp_group.specs.declared.step.Step.TheVariants as s;
 ghost use Rattle.sp_group.specs.Machine.{version_at};
 ghost use Rattle.sp_core.specs.Running.{refused};
 ghost use Rattle.sp_core.specs.Withheld.{lesser};
-ghost use Rattle.sp_core.specs.Suppressing.{conflict_at, least_suppressed, ready_ids, suppressed_within};
+ghost use Rattle.sp_core.specs.Suppressing.{conflict_at, is_unskipped, least_suppressed, ready_ids, suppressed_within};
+ghost use Rattle.sp_spread.specs.Calm.{AreCalm};
 
 use crate::lent::lent_under;
+use crate::news::first_new;
 use crate::withheld::{least_withheld, withheld_within};
 use crate::{Core, Memory, law};
 use sp_base::Numbers;
@@ -82,21 +84,64 @@ impl Core {
         Ok(numbers)
     }
 
+    // The same, where all that are suppressed and not skipped are from a number on: none before it is looked at.
+    fn least_suppressed_from(
+        &self,
+        version: u64,
+        from: u32,
+        first: u32,
+        count: u32,
+        skipped: &Numbers,
+    ) -> Option<u32>
+        requires live { IsSome (version_at self.now.machine.versions version) }
+        requires old { (i : ℕ)
+            → i < from
+            → is_unskipped self.now.plan self.now.machine version first count skipped.now.list i
+            ≡ false }
+        ensures { result
+            ≡ least_suppressed self.now.plan self.now.machine version first count skipped.now.list }
+    {
+        let before = from.saturating_sub(first).min(count);
+        self.least_suppressed(version, first + before, count - before, skipped)
+    }
+
     // The conflict of a version; None exactly where it is not live, or in none.
     pub(crate) fn conflict_of(&self, version: u64) -> Option<u32>
         ensures { result ≡ conflict_at self.now.plan self.now.machine version }
     {
         // The state is one to which steps lead: what a version read, and what is lent to it, is within its
-        // window.
+        // window; and the root is in no conflict.
         law::every_schedule();
+        if self.tree.parent(version).is_none() {
+            return None;
+        }
         let held = self.tree.get(version)?;
-        let read = self.least_suppressed(version, held.first, held.position, &held.skipped);
+        let from = first_new(&self.news, held.window)?;
+        let read = self.least_suppressed_from(
+            version,
+            from,
+            held.first,
+            held.position,
+            &held.skipped,
+        );
         if read.is_some() {
             return read;
         }
         let ticket = held.out?;
         let lent = lent_under(&self.tickets, ticket)?;
-        self.least_suppressed(version, lent.first, lent.count, &lent.snapshot)
+        self.least_suppressed_from(version, from, lent.first, lent.count, &lent.snapshot)
+    }
+
+    /// Takes note that no live version is in conflict, as its caller knows: what came home before is not looked at
+    /// for conflicts again. The core is as before.
+    pub fn note_calm(&mut self)
+        requires { AreCalm self.old.plan self.old.machine }
+        ensures { self.new ≡ self.old }
+    {
+        // The state is one to which steps lead: what a version read, and what is lent to it, is within its
+        // window.
+        law::every_schedule();
+        self.news.clear();
     }
 
     /// The conflict of a live version: the least event that it read and did not skip, or that is lent to it

@@ -152,6 +152,7 @@ impl Core {
         // The state is one to which steps lead; and rising lists are the same where they have the same
         // members.
         law::every_schedule();
+        law::compiled_plans_are_lawful();
         law::rising_same();
         let finished = self.finished;
         let Some((root, window)) = self.done_root() else {

@@ -18,6 +18,7 @@ mod leasing;
 mod lent;
 mod looking;
 mod machine;
+mod news;
 mod returning;
 mod rolling;
 mod rooms;

@@ -4,6 +4,7 @@ ghost use Rattle.sp_base.specs.Limits.{live_limit};
 ghost use Rattle.sp_plan.specs.Compiled.{IsCompiled};
 ghost use Rattle.sp_core.specs.Running.{begun};
 
+use crate::news::News;
 use crate::{Lent, Memory};
 use sp_base::Numbers;
 use sp_group::Entry;
@@ -34,6 +35,8 @@ pub struct Core {
     pub(crate) tickets: Vec<Lent>,
     pub(crate) next_ticket: u64,
     pub(crate) journal: Vec<Entry>,
+    // What came home since no version was in conflict.
+    pub(crate) news: Vec<News>,
 }
 
 impl Model for Core {
@@ -80,6 +83,7 @@ impl Core {
             tickets: Vec::new(alloc),
             next_ticket: 1,
             journal,
+            news: Vec::new(alloc),
         })
     }
 }

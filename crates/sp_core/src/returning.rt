@@ -12,6 +12,7 @@ ghost use Rattle.sp_core.specs.Homecoming.{AreLeft};
 ghost use Rattle.sp_core.specs.Settling.{CanBring, CanSettle, CanTakeUp, HasRooms, HasTakenUp, IsFrom, IsPassing, IsSameTree, IsSettled, IsWithin};
 
 use crate::homecoming::{Brought, bring, decide_ended, is_grouped, make_ready, take_up};
+use crate::news::{hear, window_of};
 use crate::rooms::{enter, make_room, make_rooms_for};
 use crate::{Core, Given, Lent, Memory, law};
 use sp_base::Numbers;
@@ -286,6 +287,11 @@ impl Core {
         let Ok(brought) = brings(alloc, &self.tree, &piece) else {
             return Err(piece);
         };
+        let window = window_of(&self.tree, piece.job().version);
+        let first = piece.job().first;
+        let Ok(()) = self.news.reserve(1) else {
+            return Err(piece);
+        };
         let Ok(()) = make_rooms_for(
             alloc,
             &self.tree,
@@ -297,6 +303,7 @@ impl Core {
             return Err(piece);
         };
         settle(alloc, &mut self.tree, piece, brought)?;
+        hear(&mut self.news, window, first);
         self.tickets.remove(place);
         enter_return(&mut self.journal, ticket, times);
         Ok(())

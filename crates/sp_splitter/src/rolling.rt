@@ -78,5 +78,7 @@ pub(crate) fn roll_all(alloc: Global, core: &mut Core) -> Result<(), Memory>
     // By window, and then by id.
     found.sort_unstable();
     roll_listed(core, &found);
+    // So what came home by now is not looked at for conflicts again.
+    core.note_calm();
     Ok(())
 }

@@ -104,7 +104,7 @@ module _ (q : Plan) (E : List Event) (fin : ℕ) (r : Version) where
           (subst (λ (l : List ℕ). is_withheld q (inner q E a.0) l i ≡ true) (ap (λ (z : Version). z.label) ev) y'))))
           (or_cases (suppressed_by q (inner q E) (with_numbers c (used_by_all q (inner q E r))) ws m i) (withheld_by q (inner q E) (version_at ws m) v'.label i) hb'))
 
-rises_window : (r : ℕ) (v v' : Version) → Promoted r v v' → v'.window ≡ v.window
+pub rises_window : (r : ℕ) (v v' : Version) → Promoted r v v' → v'.window ≡ v.window
 rises_window r v v' (up n p e) = ap (λ (z : Version). z.window) e
 rises_window r v v' (idle_one n p e) = ap (λ (z : Version). z.window) e
 
@@ -112,7 +112,7 @@ rises_read : (q : Plan) (E : List Event) (r : ℕ) (v v' : Version) (i : ℕ) �
 rises_read q E r v v' i (up n p e) h = subst (λ (z : Version). HasRead q E z i) e h
 rises_read q E r v v' i (idle_one n p e) h = subst (λ (z : Version). HasRead q E z i) e h
 
-popped_hit : (q : Plan) (m : Machine) (r : Version) → Sane q m → root_in m.versions ≡ Some r → (id : ℕ) (w : Version) → version_at (popped q m r).versions id ≡ Some w
+pub popped_hit : (q : Plan) (m : Machine) (r : Version) → Sane q m → root_in m.versions ≡ Some r → (id : ℕ) (w : Version) → version_at (popped q m r).versions id ≡ Some w
     → (v : Version) → Promoted r.id v w → (i : ℕ) → is_hit q (popped q m r) w i ≡ true → is_hit q m v i ≡ true
 popped_hit q m r h root id w e v rises i x =
     let o = hit_cases q (popped q m r) w i x in

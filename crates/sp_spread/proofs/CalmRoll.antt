@@ -54,10 +54,10 @@ cut_shrinks q f c a fin vs0 ws0 (stays {v = v} {v' = v'} {vs = vs} {ws = ws} kv 
         (ap (λ (b : Bool). b || withheld_by q f (version_at ws m) v'.label i) (ih m u.0 u.1) ∙ ap (λ (o : Option Version). suppressed_by q f c vs m i || withheld_by q f o v'.label i) (u.1 ∙ sym up))
 
 -- taking a version away, with all below it
-abbrev cut : Machine → ℕ → Machine
+abbrev pub cut : Machine → ℕ → Machine
 cut m id = record m { versions = prune kin (but id) m.versions }
 
-cut_hit : (q : Plan) (m : Machine) (a : ℕ) → Sane q m → (id : ℕ) (w : Version) → version_at (prune kin (but a) m.versions) id ≡ Some w → (i : ℕ) → is_hit q (cut m a) w i ≡ true → is_hit q m w i ≡ true
+pub cut_hit : (q : Plan) (m : Machine) (a : ℕ) → Sane q m → (id : ℕ) (w : Version) → version_at (prune kin (but a) m.versions) id ≡ Some w → (i : ℕ) → is_hit q (cut m a) w i ≡ true → is_hit q m w i ≡ true
 cut_hit q m a h id w e i x =
     let o = hit_cases q (cut m a) w i x in
     let wid = at_id (prune kin (but a) m.versions) id w e in

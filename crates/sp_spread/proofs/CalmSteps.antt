@@ -41,7 +41,7 @@ eq_true : (a b : ℕ) → (a == b) ≡ true → a ≡ b
 eq_true a b h = grind (arith, nat_tests)
 
 -- what is suppressed of what is lent is in the snapshot
-lent_hit : (q : Plan) (m : Machine) (n : ℕ) (v w : Version) (i : ℕ) → is_hit q (leased q m n (Some v)) w i ≡ true → is_hit q m w i ≡ true
+pub lent_hit : (q : Plan) (m : Machine) (n : ℕ) (v w : Version) (i : ℕ) → is_hit q (leased q m n (Some v)) w i ≡ true → is_hit q m w i ≡ true
 lent_hit q m n v w i x =
     let o = hit_cases q (leased q m n (Some v)) w i x in
     ⊎_elim

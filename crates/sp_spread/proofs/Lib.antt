@@ -10,3 +10,6 @@ pub mod Ready
 pub mod BusyCounted
 pub mod Growing
 pub mod Followed
+pub mod NewNumbers
+pub mod HomeHits
+pub mod Hits

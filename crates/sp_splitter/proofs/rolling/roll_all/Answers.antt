@@ -1,6 +1,9 @@
 use Rattle.std.proofs.Common.{ℕ, List, subst, sym}
 use Rattle.std.specs.Prelude.{IsSorted}
-use Rattle.sp_splitter.specs.Rolling.{AreListed, place_cmp}
+use Rattle.sp_core.specs.Running.{Running}
+use Rattle.sp_spread.specs.Calm.{AreCalm}
+use Rattle.sp_splitter.specs.Rolling.{AreListed, Rolls, place_cmp}
+use Rattle.sp_splitter.specs.Stages.{Goes, NoneEmitted, NoneRead, Went}
 use Rattle.sp_splitter.proofs.ToRoll.{listed_permuted}
 use Rattle.sp_splitter.proofs.rolling.roll_all.Goals as goal
 
@@ -12,3 +15,22 @@ roll_listed-requires-clause-listed c =
 
 pub roll_listed-requires-clause-sorted : goal.roll_listed-requires-clause-sorted
 roll_listed-requires-clause-sorted c = subst (λ (l : List (ℕ × ℕ)). IsSorted place_cmp l) (sym c.deref.ensures.value) c.sort_unstable.ensures.sorted
+
+-- what is noted changes nothing
+pub returns-clause-went : goal.returns-clause-went
+returns-clause-went c = λ n batch. subst (λ (x : Running). Went n batch c.args.core.now x) (sym c.note_calm.ensures) (c.roll_listed.ensures.quiet.went n batch)
+
+pub returns-clause-goes : goal.returns-clause-goes
+returns-clause-goes c = λ n. subst (λ (x : Running). Goes n c.args.core.now x) (sym c.note_calm.ensures) (c.roll_listed.ensures.quiet.goes n)
+
+pub returns-clause-emitted : goal.returns-clause-emitted
+returns-clause-emitted c = subst (λ (x : Running). NoneEmitted c.args.core.now x) (sym c.note_calm.ensures) c.roll_listed.ensures.quiet.emitted
+
+pub returns-clause-read : goal.returns-clause-read
+returns-clause-read c = subst (λ (x : Running). NoneRead c.args.core.now x) (sym c.note_calm.ensures) c.roll_listed.ensures.quiet.read
+
+pub returns-clause-calm : goal.returns-clause-calm
+returns-clause-calm c = subst (λ (x : Running). AreCalm x.plan x.machine) (sym c.note_calm.ensures) c.roll_listed.ensures.calm
+
+pub returns-clause-rolls : goal.returns-clause-rolls
+returns-clause-rolls c = subst (λ (x : Running). Rolls c.args.core.now x) (sym c.note_calm.ensures) c.roll_listed.ensures.rolls

@@ -29,6 +29,7 @@ invariant_of-self c =
       versions = i.versions;
       replayed = replayed_on h k s.End i.replayed refl refl c.enter.ensures.items tt
           (ap (λ (b : Bool). refuse_if b r.AfterEnd None) c.if-self.false) refl (omega arith) (omega arith);
+      news_are = i.news_are;
       rooms = record {
         entries = less_owed inside.ended _ _ _ c.if-self.false i.rooms.entries c.enter.ensures.kept;
         matches = i.rooms.matches;

@@ -55,6 +55,7 @@ invariant_of-self c =
     core_finished c.every_schedule.ensures h c.self.invariant c.in-Some.root c.in-Some.window d c.rising_same.ensures pop.new.tree pop.ensures.tree pop.ensures.grown
     pop.new.emitted.items (room pop.new.emitted) pop.new.consumed left c.is_some-rolls.result told c.settle-root.new.tree c.settle-root.ensures.tree
     c.settle-root.ensures.grown c.enter.new.journal.items (room c.enter.new.journal) c.enter.ensures.items c.enter.ensures.kept
+    (c.compiled_plans_are_lawful.ensures h.plan c.self.invariant.compiled)
 
 pub returns-clause-done : goal.returns-clause-done
 returns-clause-done c =

@@ -9,6 +9,9 @@ use Rattle.sp_match.specs.public.Known.{IsKnown}
 use Rattle.sp_window.specs.Standing as window
 use Rattle.sp_group.specs.declared.step.Step.TheVariants as s
 use Rattle.sp_group.specs.declared.refusal.Refusal.TheVariants as r
+use Rattle.sp_rules.proofs.Facts.{facts}
+use Rattle.sp_rules.proofs.Feeding.{fed}
+use Rattle.sp_spread.proofs.Hits.{by_feed}
 use Rattle.sp_core.specs.Holding.{Holding, Holds, holding, machine_of, running}
 use Rattle.sp_core.specs.Carrying.{ticket_of}
 use Rattle.sp_core.specs.Rooms.{room}
@@ -16,6 +19,7 @@ use Rattle.sp_core.specs.Running.{Running, once, refused}
 use Rattle.sp_core.proofs.Journal.{replayed_on, reached}
 use Rattle.sp_core.proofs.Fed.{fits_last, in_order, all_hold_fed}
 use Rattle.sp_core.proofs.KnownEvents.{one_more_known}
+use Rattle.sp_core.proofs.Newly.{news_on}
 use Rattle.sp_core.proofs.Refused.{passes_if}
 use Rattle.sp_core.proofs.Owed.{room_for}
 use Rattle.sp_core.proofs.machine.Core.take_in.Goals as goal
@@ -62,6 +66,8 @@ invariant_of-self-2 c =
       versions = subst (λ (events : List Event). All (Holds h.plan events (map ticket_of h.tickets)) h.tree.entries) (sym pushed)
           (all_hold_fed h e law good i (reached c.every_schedule.ensures h i));
       replayed = replayed_on h k (s.Feed e) i.replayed refl refl journal (λ _. good) passes (ap (λ (events : List Event). record (machine_of h) { events = events }) pushed) (omega arith) (omega arith);
+      news_are = news_on h (machine_of k) (fed (machine_of h) e) i.news_are (ap (λ (events : List Event). record (machine_of h) { events = events }) pushed)
+          (by_feed h.plan (facts h.plan law) (machine_of h) e good (reached c.every_schedule.ensures h i).kept);
       rooms = record {
         entries = room_for h.ended h.tree.entries c.live.result _ _ (let live = c.live.ensures.live in omega arith) c.in_ok-make_room.ensures.ok c.enter.ensures.kept;
         matches = i.rooms.matches;
