@@ -15,3 +15,4 @@ pub mod Over
 pub mod Prompt
 pub mod Relieved
 pub mod Due
+pub mod Serves

@@ -1,9 +1,12 @@
 -- One predictor after another goes to work.
 use Rattle.std.proofs.Common.{◌≡◌, ◌⊎◌, inl, inr, ℕ, zero, suc, ◌+◌, ◌≤◌, List, [], ◌∷◌, Some, drop, length, length-drop, map, refl, sym, ◌∙◌, ap, subst, arith}
+use Rattle.std.specs.Prelude.{Ok, Err, IfOk, OnOk}
+use Rattle.std.specs.declared.result.Result.{Result}
 use Rattle.std.proofs.Math.Seq.{drop-nil}
 use Rattle.std.proofs.lemmas.List.{length-map}
 use Rattle.sp_ports.specs.declared.stop.Stop.{Stop}
 use Rattle.sp_split.specs.declared.crew.Crew.{Crew}
+use Rattle.sp_split.specs.declared.ended.Went.{Went}
 use Rattle.sp_split.specs.declared.ended.Why.{Why}
 use Rattle.sp_split.specs.declared.ended.Why.TheVariants as why
 use Rattle.sp_split.specs.declared.relay.Team.{Team}
@@ -99,3 +102,9 @@ module _ {V : Type 0} {T : V → Type 0} where
 
         count : AreDue b.relay finished → relieved.count ≡ due before finished
         count is = sym gone ∙ is ∙ ap (λ (e : ℕ). due_of e (b.relay.gone + length b.relay.rest.items) finished) every ∙ ap (λ (n : ℕ). due_of before.every n finished) others
+
+    -- and what it leaves, where it ended so
+    pub relayed_end : {E : Type 0} (a b : Team V T) (after : Crew V T) (end : Result Went E) → a.relay.gone ≡ 0 → after ≡ crew_of b → OnOk end (Relieved named a b)
+        → IfOk end (λ w. IsThrough (Some w.why) → AreDue b.relay w.core.machine.finished) → IfOk end (λ w. Relayed named (crew_of a) after w.why w.core.machine.finished)
+    relayed_end a b after (Ok w) none same relieved is_due = relayed (crew_of a) after a b w.why w.core.machine.finished (team_first a none) same relieved is_due
+    relayed_end a b after (Err e) none same relieved is_due = tt

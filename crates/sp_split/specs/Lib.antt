@@ -8,3 +8,4 @@ pub mod Stopping
 pub mod Seatings
 pub mod Going
 pub mod Prompt
+pub mod Stretches

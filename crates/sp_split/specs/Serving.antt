@@ -21,6 +21,7 @@ use Rattle.sp_splitter.specs.Stages.{Goes, IsSpreading, StaysWithin}
 use Rattle.sp_split.specs.declared.crew.Crew.{Crew}
 use Rattle.sp_split.specs.declared.ended.Ended as ended_as
 use Rattle.sp_split.specs.declared.ended.Went as went
+use Rattle.sp_split.specs.declared.ended.Why.{Why}
 use Rattle.sp_split.specs.Driving.{CameAbout, Drove, FellShort}
 use Rattle.sp_split.specs.Stages.{FedOn}
 
@@ -106,6 +107,11 @@ pub record MayServe (c : Running) (instances batch : ℕ) (kept : List Job) (by 
   pub free : seat.holding ≡ None
   pub intake_plan : intake ≡ c.plan
   pub outlet_plan : outlet ≡ c.plan
+
+-- with what core a run ended so
+abbrev pub went_by : {E : Type 0} → Running → Result Why E → Result went.Went E
+went_by c (Ok why) = Ok (record { core = c; why = why })
+went_by c (Err e) = Err e
 
 -- A run with n instances, of which no lease asked for more events than so many, ended so, with what its hub did.
 pub record Ends {V : Type 0} {T : V → Type 0} {E : Type 0} (gave : List Event → Type 0) (ended : Bool) (before behind : ℕ) (kept : Option Stop) (n most : ℕ) (c : Running) (old new : OutletState) (end : Result (ended_as.Ended V T) E) : Type 0 where

@@ -2,8 +2,9 @@
 ghost use Rattle.std.specs.Prelude.{◌≡◌, true, None, length, map, vec_capacity};
 ghost use Rattle.std.specs.List.{All};
 
+use crate::office::Office;
 use sp_hub::{Hub, Naming, Seat};
-use sp_instance::{Gate, work_all};
+use sp_instance::{Gate, work, work_all};
 use sp_piece::{Job, Piece};
 use std::alloc::Global;
 use std::marker::Model;
@@ -58,4 +59,22 @@ pub(crate) fn attend_all<L: Naming + Send + Sync, G: Gate, R: Threads + Wait + S
     ensures over { All (λ s. s.over ≡ true) seating.new.seats }
 {
     work_all(rt, alloc, hub, &mut seating.seats, gate);
+}
+
+/// Has each of the seats answered that the hub is closed and empty, one after another and on this thread: what is still
+/// listed is done first. No seat is lost, and each stands where it stood.
+pub(crate) fn dismiss<L: Naming, G: Gate, R: Wait>(
+    office: &Office<'_, L, G, R>,
+    seating: &mut Seating<L>,
+)
+    requires free { All (λ s. s.holding ≡ None) seating.old.seats }
+    ensures len { length seating.new.seats ≡ length seating.old.seats }
+    ensures room { seating.new.room ≡ seating.old.room }
+    ensures numbers { map (λ s. s.number) seating.new.seats
+        ≡ map (λ s. s.number) seating.old.seats }
+    ensures over { All (λ s. s.over ≡ true) seating.new.seats }
+{
+    for seat in seating.seats.iter_mut() {
+        work(office.rt, office.alloc, office.hub, seat, office.gate);
+    }
 }

@@ -39,8 +39,9 @@ use std::thread::Threads;
 /// last one works on. Those that are left come back, by their names and in their order; the ones that have not worked are
 /// as they were.
 ///
-/// Besides, and no clause says so: an instance has a thread of its own where one can be made, and does each job inside
-/// the gate; at most `batch` events, 1 to 1,024, are fed between two turns; it is the predictor in work that is asked and
+/// Besides, and no clause says so: from where a turn lists a job that is worth waking an instance for, each instance has a
+/// thread of its own where one can be made; a run that is over before starts no thread. Each job is done inside the gate;
+/// at most `batch` events, 1 to 1,024, are fed between two turns; it is the predictor in work that is asked and
 /// taught; and the next one takes its place at the end of the turn that finished the window or, without an instance,
 /// right behind the finish.
 pub fn drive<I: Intake, O: Outlet, G: Gate, R: Threads + Wait + Sync>(

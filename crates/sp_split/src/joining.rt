@@ -1,18 +1,21 @@
-// A splitter and its instances side by side, at a hub of their own.
-ghost use Rattle.std.specs.Prelude.{◌≡◌, ◌≤◌, ◌<◌, ◌+◌, [], true, None, IfOk, List, drop, length, map, vec_len, vec_capacity};
+// A splitter, and its instances side by side with it where they are wanted, at a hub of their own.
+ghost use Rattle.std.specs.Prelude.{◌≡◌, ◌≤◌, ◌<◌, ◌+◌, [], true, None, Some, IfOk, OnOk, List, drop, length, map, vec_len, vec_capacity};
 ghost use Rattle.std.specs.List.{All, range_with_len};
 ghost use Rattle.std.specs.Thread.{IsSync};
 ghost use Rattle.sp_base.specs.Limits.{batch_limit};
 ghost use Rattle.sp_core.specs.Running.{begun};
 ghost use Rattle.sp_split.specs.Prompt.{IsPrompt};
 ghost use Rattle.sp_split.specs.Relay.{Relayed};
-ghost use Rattle.sp_split.specs.Relieving.{crew_of};
-ghost use Rattle.sp_split.specs.Serving.{Ends, MayServe, Serves, WoundUp, ending};
+ghost use Rattle.sp_split.specs.Relieving.{AreDue, Relieved, crew_of};
+ghost use Rattle.sp_split.specs.Serving.{Ends, IsServing, MayServe, Serves, WoundUp, ending};
+ghost use Rattle.sp_split.specs.Stopping.{IsThrough};
+ghost use Rattle.sp_split.specs.Stretches.{IsUnderWay, ServesOn};
+ghost use Rattle.sp_split.specs.declared.feeding.Fed.TheVariants as f;
 
-use crate::attending::{Seating, attend_all};
+use crate::attending::{Seating, attend_all, dismiss};
+use crate::feeding::Fed;
 use crate::office::Office;
-use crate::relay::Relay;
-use crate::serving::{Crewed, Desk, Served, serve};
+use crate::serving::{Crewed, Desk, Served, Serving, leave, serve, serve_on};
 use crate::{Crew, Ended, Memory, Went, law};
 use sp_hub::{History, Hub, Naming, Opened, Poster, Seat};
 use sp_instance::Gate;
@@ -45,33 +48,36 @@ fn part<L: Naming>(seats: Vec<Seat<Piece, L>>) -> (Seat<Piece, L>, Vec<Seat<Piec
     (mine, seats)
 }
 
-// Runs the instances on threads of their own, and the splitter on this one, until it closes the hub.
+// Runs the instances on threads of their own, and goes on with the splitter on this one, until it closes the hub.
 fn beside<L: Naming + Send + Sync, I: Intake, O: Outlet, G: Gate, R: Threads + Wait + Sync>(
     office: &Office<'_, L, G, R>,
     seating: Seating<L>,
-    desk: Desk<L>,
-    relay: Relay,
+    serving: Serving<'_, L, R>,
     ways: Ways<I, O>,
 ) -> (Seating<L>, Served<L>, Ways<I, O>)
     requires free { All (λ s. s.holding ≡ None) seating.seats }
-    requires may { MayServe desk.splitter.core desk.splitter.instances desk.splitter.batch
-        desk.splitter.kept.items desk.by desk.seat (I.plan ways.intake) (O.plan ways.outlet) }
-    requires none { relay.gone ≡ 0 }
+    requires ready { IsServing serving.desk.splitter.instances serving.desk.splitter.batch
+        serving.desk.splitter.kept.items serving.desk.splitter.core
+        serving.desk.by serving.desk.seat }
+    requires due { AreDue serving.relay serving.desk.splitter.core.machine.finished }
+    requires under_way { IsUnderWay I.gave I.asked I.ended I.stops I.cause I.plan ways.intake
+        serving.desk.splitter.core (O.state ways.outlet) serving.fed }
+    requires plan { O.plan ways.outlet ≡ serving.desk.splitter.core.plan }
     ensures len { length result.0.seats ≡ length seating.seats }
     ensures room { result.0.room ≡ seating.room }
     ensures numbers { map (λ s. s.number) result.0.seats ≡ map (λ s. s.number) seating.seats }
     ensures over { All (λ s. s.over ≡ true) result.0.seats }
-    ensures served { Serves (λ events. I.gave ways.intake events result.2.intake)
-        (I.ended result.2.intake)
-        (I.stops ways.intake) (I.stops result.2.intake) (I.cause result.2.intake)
-        desk.splitter.instances desk.splitter.batch desk.splitter.core
-        (O.state ways.outlet) (O.state result.2.outlet) result.1.end (length result.1.by.got) }
-    ensures crew { IfOk result.1.end (λ end. Relayed (λ one. named one)
-        (crew_of (record { first = desk.splitter.predictor; relay = relay })) result.1.crew
-        end.why end.core.machine.finished) }
+    ensures served { ServesOn I.gave I.asked I.ended I.stops I.cause I.plan
+        ways.intake result.2.intake serving.entry.desk.splitter.core
+        (O.state ways.outlet) (O.state result.2.outlet) serving.entry.fed
+        serving.entry.desk.splitter.instances serving.entry.desk.splitter.batch
+        result.1.end (length result.1.by.got) }
+    ensures relieved { OnOk result.1.end (Relieved (λ one. named one)
+        (record { first = serving.entry.desk.splitter.predictor; relay = serving.entry.relay })
+        result.1.team) }
+    ensures due { IfOk result.1.end (λ end. IsThrough (Some end.why)
+        → AreDue result.1.team.relay end.core.machine.finished) }
     ensures closed { result.1.by.closed ≡ true }
-    ensures prompt { IsPrompt (I.asked ways.intake) result.2.intake desk.splitter.core.plan
-        (O.state ways.outlet) (O.state result.2.outlet) }
     ensures same { (I.plan result.2.intake ≡ I.plan ways.intake)
         × (I.token result.2.intake ≡ I.token ways.intake) }
     ensures same_out { (O.plan result.2.outlet ≡ O.plan ways.outlet)
@@ -84,7 +90,7 @@ fn beside<L: Naming + Send + Sync, I: Intake, O: Outlet, G: Gate, R: Threads + W
         gate,
     } = *office;
     // Where no thread can be made the second branch runs first, and closes the hub. The other way round the
-    // instances would wait for jobs, and the splitter would never begin.
+    // instances would wait for jobs, and the splitter would never go on.
     let (seating, (served, ways)) = thread::join(
         rt,
         || -> Seating<L>
@@ -98,31 +104,88 @@ fn beside<L: Naming + Send + Sync, I: Intake, O: Outlet, G: Gate, R: Threads + W
             seating
         },
         || -> (Served<L>, Ways<I, O>)
-            requires { (relay.gone ≡ 0) × MayServe desk.splitter.core desk.splitter.instances
-                desk.splitter.batch desk.splitter.kept.items desk.by desk.seat
-                (I.plan ways.intake) (O.plan ways.outlet) }
-            ensures served { Serves (λ events. I.gave ways.intake events result.1.intake)
-                (I.ended result.1.intake)
-                (I.stops ways.intake) (I.stops result.1.intake) (I.cause result.1.intake)
-                desk.splitter.instances desk.splitter.batch desk.splitter.core
-                (O.state ways.outlet) (O.state result.1.outlet) result.0.end
-                (length result.0.by.got) }
-            ensures crew { IfOk result.0.end (λ end. Relayed (λ one. named one)
-                (crew_of (record { first = desk.splitter.predictor; relay = relay }))
-                result.0.crew end.why end.core.machine.finished) }
+            requires { IsServing serving.desk.splitter.instances serving.desk.splitter.batch
+                serving.desk.splitter.kept.items serving.desk.splitter.core
+                serving.desk.by serving.desk.seat
+                × AreDue serving.relay serving.desk.splitter.core.machine.finished
+                × IsUnderWay I.gave I.asked I.ended I.stops I.cause I.plan ways.intake
+                serving.desk.splitter.core (O.state ways.outlet) serving.fed
+                × (O.plan ways.outlet ≡ serving.desk.splitter.core.plan) }
+            ensures served { ServesOn I.gave I.asked I.ended I.stops I.cause I.plan
+                ways.intake result.1.intake serving.entry.desk.splitter.core
+                (O.state ways.outlet) (O.state result.1.outlet) serving.entry.fed
+                serving.entry.desk.splitter.instances serving.entry.desk.splitter.batch
+                result.0.end (length result.0.by.got) }
+            ensures relieved { OnOk result.0.end (Relieved (λ one. named one)
+                (record {
+                  first = serving.entry.desk.splitter.predictor;
+                  relay = serving.entry.relay;
+                }) result.0.team) }
+            ensures due { IfOk result.0.end (λ end. IsThrough (Some end.why)
+                → AreDue result.0.team.relay end.core.machine.finished) }
             ensures closed { result.0.by.closed ≡ true }
-            ensures prompt { IsPrompt (I.asked ways.intake) result.1.intake
-                desk.splitter.core.plan (O.state ways.outlet) (O.state result.1.outlet) }
             ensures same { (I.plan result.1.intake ≡ I.plan ways.intake)
                 × (I.token result.1.intake ≡ I.token ways.intake) }
             ensures same_out { (O.plan result.1.outlet ≡ O.plan ways.outlet)
                 × (O.token result.1.outlet ≡ O.token ways.outlet) }
         {
             let mut ways = ways;
-            let served = serve(office, desk, relay, &mut ways.intake, &mut ways.outlet);
+            let served = serve(office, serving, &mut ways.intake, &mut ways.outlet);
             (served, ways)
         },
     );
+    (seating, served, ways)
+}
+
+// Serves alone at first, with each job done on this thread, and beside the instances from where one of them is wanted: a
+// run that is over before starts no thread. Either way each of the instances' seats is told that no job will come.
+fn with_instances<L: Naming + Send + Sync, I: Intake, O: Outlet, G: Gate, R: Threads + Wait + Sync>(
+    office: &Office<'_, L, G, R>,
+    seating: Seating<L>,
+    serving: Serving<'_, L, R>,
+    ways: Ways<I, O>,
+) -> (Seating<L>, Served<L>, Ways<I, O>)
+    requires free { All (λ s. s.holding ≡ None) seating.seats }
+    requires may { MayServe serving.desk.splitter.core serving.desk.splitter.instances
+        serving.desk.splitter.batch serving.desk.splitter.kept.items serving.desk.by
+        serving.desk.seat (I.plan ways.intake) (O.plan ways.outlet) }
+    requires none { serving.relay.gone ≡ 0 }
+    requires begins { serving.fed ≡ f.More }
+    ensures len { length result.0.seats ≡ length seating.seats }
+    ensures room { result.0.room ≡ seating.room }
+    ensures numbers { map (λ s. s.number) result.0.seats ≡ map (λ s. s.number) seating.seats }
+    ensures over { All (λ s. s.over ≡ true) result.0.seats }
+    ensures served { Serves (λ events. I.gave ways.intake events result.2.intake)
+        (I.ended result.2.intake)
+        (I.stops ways.intake) (I.stops result.2.intake) (I.cause result.2.intake)
+        serving.entry.desk.splitter.instances serving.entry.desk.splitter.batch
+        serving.entry.desk.splitter.core (O.state ways.outlet) (O.state result.2.outlet)
+        result.1.end (length result.1.by.got) }
+    ensures relieved { OnOk result.1.end (Relieved (λ one. named one)
+        (record { first = serving.entry.desk.splitter.predictor; relay = serving.entry.relay })
+        result.1.team) }
+    ensures due { IfOk result.1.end (λ end. IsThrough (Some end.why)
+        → AreDue result.1.team.relay end.core.machine.finished) }
+    ensures closed { result.1.by.closed ≡ true }
+    ensures prompt { IsPrompt (I.asked ways.intake) result.2.intake
+        serving.entry.desk.splitter.core.plan (O.state ways.outlet) (O.state result.2.outlet) }
+    ensures same { (I.plan result.2.intake ≡ I.plan ways.intake)
+        × (I.token result.2.intake ≡ I.token ways.intake) }
+    ensures same_out { (O.plan result.2.outlet ≡ O.plan ways.outlet)
+        × (O.token result.2.outlet ≡ O.token ways.outlet) }
+{
+    let (mut seating, mut serving, mut ways) = (seating, serving, ways);
+    let Some(end) = serve_on(
+        office,
+        &mut serving,
+        true,
+        &mut ways.intake,
+        &mut ways.outlet,
+    ) else {
+        return beside(office, seating, serving, ways);
+    };
+    let served = leave(office, serving, end);
+    dismiss(office, &mut seating);
     (seating, served, ways)
 }
 
@@ -197,24 +260,30 @@ pub(crate) fn under<
         Err(AllocError) => return (Err(AllocError), ways),
     };
     let (seat, others) = part(seats);
-    let Crewed { splitter, relay } = crewed;
-    let desk = Desk { splitter, by, seat };
     let seating = Seating::of(others);
+    let Crewed { splitter, relay } = crewed;
+    let serving = Serving {
+        rt,
+        hub: &hub,
+        desk: Desk { splitter, by, seat },
+        relay,
+        fed: Fed::More,
+    };
     let office = Office {
         rt,
         alloc,
         hub: &hub,
         gate,
     };
-    let (seating, served, ways) = beside(&office, seating, desk, relay, ways);
+    let (seating, served, ways) = with_instances(&office, seating, serving, ways);
     let Served {
         by,
         seat,
-        crew,
+        team,
         end,
     } = served;
     let history = wind_up(hub, by, seating.into_seats(), seat);
-    (with_history(end, history, crew), ways)
+    (with_history(end, history, team.into_crew()), ways)
 }
 
 // How it ended, with what the hub did, and those that are left of the crew.

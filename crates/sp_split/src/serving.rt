@@ -1,21 +1,18 @@
 // A splitter serves its instances, between an intake and an outlet.
-ghost use Rattle.std.specs.Prelude.{◌≡◌, ◌≤◌, ◌+◌, ◌↔◌, ◌++◌, ◌∷◌, [], None, Some, true, false, length, IfOk, IsTrue, OnOk, OnErr};
+ghost use Rattle.std.specs.Prelude.{◌≡◌, ◌≤◌, ◌+◌, ◌↔◌, ◌++◌, ◌∷◌, [], None, Some, true, false, length, IfOk, IfSome, IsSome, IsTrue, OnOk, OnErr};
 ghost use Rattle.sp_ports.specs.Giving.{AreGood};
-ghost use Rattle.sp_core.specs.Running.{begun};
-ghost use Rattle.sp_split.specs.Driving.{Drove, FellShort};
-ghost use Rattle.sp_split.specs.Prompt.{IsPrompt};
-ghost use Rattle.sp_split.specs.Relay.{Relayed};
-ghost use Rattle.sp_split.specs.Relieving.{AreDue, AreWithin, Relieved, crew_of};
+ghost use Rattle.sp_split.specs.Relieving.{AreDue, AreWithin, Relieved};
 ghost use Rattle.sp_split.specs.Stopping.{IsThrough};
+ghost use Rattle.sp_split.specs.Stretches.{IsUnderWay, ServesOn, Stretched};
 ghost use Rattle.sp_instance.specs.Seats.{PutAll};
-ghost use Rattle.sp_split.specs.Serving.{CameServing, CanTurn, Filled, IsToWait, Serves};
+ghost use Rattle.sp_split.specs.Serving.{CameServing, Filled, IsServing, IsToWait, went_by};
 
 use crate::driver::Driver;
 use crate::feeding::{Fed, all_finished};
 use crate::office::Office;
 use crate::relay::{Relay, Team};
 use crate::running::round;
-use crate::{Crew, Memory, Went, Why};
+use crate::{Memory, Went, Why};
 use sp_core::{Core, CoreFault, Emitted};
 use sp_hub::{Hub, Naming, Poster, Seat};
 use sp_instance::{Gate, work_some};
@@ -48,7 +45,7 @@ pub(crate) struct Served<L: Naming> {
     pub(crate) by: Poster<Piece, L>,
     pub(crate) seat: Seat<Piece, L>,
     /// The predictors that are left.
-    pub(crate) crew: Crew,
+    pub(crate) team: Team,
     /// How it ended. `Err` is want of memory while the core was fed: an event may be lost.
     pub(crate) end: Result<Went, Memory>,
 }
@@ -132,13 +129,15 @@ fn relieve(splitter: &mut Splitter, relay: &mut Relay)
     }
 }
 
-// A splitter that works at its desk, with instances at the same hub, and the predictors that follow its own.
+/// A splitter that works at its desk, with instances at the same hub, and the predictors that follow its own.
 #[derive(Drop)]
-struct Serving<'a, L: Naming, R: Wait> {
-    rt: &'a R,
-    hub: &'a Hub<Job, Piece, L>,
-    desk: Desk<L>,
-    relay: Relay,
+pub(crate) struct Serving<'a, L: Naming, R: Wait> {
+    pub(crate) rt: &'a R,
+    pub(crate) hub: &'a Hub<Job, Piece, L>,
+    pub(crate) desk: Desk<L>,
+    pub(crate) relay: Relay,
+    /// How feeding ended last.
+    pub(crate) fed: Fed,
 }
 
 impl<'a, L: Naming, R: Wait> Driver for Serving<'a, L, R> {
@@ -188,56 +187,74 @@ impl<'a, L: Naming, R: Wait> Driver for Serving<'a, L, R> {
     }
 }
 
-// Round after round, until the run is over; answers why it is. Between two rounds jobs are done that are still listed, for
-// which no instance is on its way.
-fn serve_on<I: Intake, O: Outlet, L: Naming, G: Gate, R: Wait>(
+// Whether the last turn listed a job for which an instance is to be woken, where none was woken yet: any but its first one,
+// which the splitter does itself, and each that is dear. Nothing but the time of a run rests on it.
+fn wants_instance<L: Naming>(desk: &Desk<L>) -> bool {
+    desk.by.waiting() > 1 || desk.splitter.unheard.is_dear()
+}
+
+/// Round after round, until the run is over; answers how it ended. Before each round jobs are done that are listed, for
+/// which no instance is on its way. A splitter that is alone yet also stops behind a round that wants an instance, and
+/// answers nothing: what that round listed is left to be done. It never waits for a piece before, since it does each job
+/// itself.
+pub(crate) fn serve_on<I: Intake, O: Outlet, L: Naming, G: Gate, R: Wait>(
     office: &Office<'_, L, G, R>,
     serving: &mut Serving<'_, L, R>,
+    alone: bool,
     intake: &mut I,
     outlet: &mut O,
-) -> Result<Why, Memory>
-    requires fresh { serving.old.desk.splitter.core
-        ≡ begun serving.old.desk.splitter.core.plan serving.old.desk.splitter.core.bound }
-    requires can { CanTurn serving.old.desk.splitter.instances serving.old.desk.splitter.batch
-        serving.old.desk.splitter.kept.items
-        serving.old.desk.splitter.core.machine.next_ticket serving.old.desk.by }
-    requires free { serving.old.desk.seat.holding ≡ None }
+) -> Option<Result<Why, Memory>>
+    requires ready { IsServing serving.old.desk.splitter.instances serving.old.desk.splitter.batch
+        serving.old.desk.splitter.kept.items serving.old.desk.splitter.core
+        serving.old.desk.by serving.old.desk.seat }
     requires due { AreDue serving.old.relay serving.old.desk.splitter.core.machine.finished }
-    requires intake_plan { I.plan intake.old ≡ serving.old.desk.splitter.core.plan }
-    requires outlet_plan { O.plan outlet.old ≡ serving.old.desk.splitter.core.plan }
-    ensures ended { IfOk result (λ why. Drove (λ events. I.gave intake.old events intake.new)
-        (I.ended intake.new)
-        (I.stops intake.old) (I.stops intake.new) (I.cause intake.new)
-        serving.old.desk.splitter.core (O.state outlet.old) (O.state outlet.new)
-        (record { core = serving.new.desk.splitter.core; why = why })) }
+    requires under_way { IsUnderWay I.gave I.asked I.ended I.stops I.cause I.plan intake.old
+        serving.old.desk.splitter.core (O.state outlet.old) serving.old.fed }
+    requires plan { O.plan outlet.old ≡ serving.old.desk.splitter.core.plan }
+    ensures stretched { Stretched I.gave I.asked I.ended I.stops I.cause I.plan
+        intake.old intake.new
+        serving.old.desk.splitter.core serving.new.desk.splitter.core
+        (O.state outlet.old) (O.state outlet.new) serving.old.fed serving.new.fed result }
     ensures came { CameServing serving.old.desk.splitter.instances
         serving.old.desk.splitter.batch serving.new.desk.splitter.core serving.new.desk.by }
-    ensures relieved { OnOk result (Relieved (λ one. named one)
+    ensures ready { result ≡ None
+        → IsServing serving.new.desk.splitter.instances serving.new.desk.splitter.batch
+        serving.new.desk.splitter.kept.items serving.new.desk.splitter.core
+        serving.new.desk.by serving.new.desk.seat
+        × AreDue serving.new.relay serving.new.desk.splitter.core.machine.finished }
+    ensures relieved { result ≡ None → Relieved (λ one. named one)
         (record { first = serving.old.desk.splitter.predictor; relay = serving.old.relay })
-        (record { first = serving.new.desk.splitter.predictor; relay = serving.new.relay })) }
-    ensures due { IfOk result (λ why. IsThrough (Some why)
-        → AreDue serving.new.relay serving.new.desk.splitter.core.machine.finished) }
-    ensures short { OnErr result
-        (FellShort (λ events. I.gave intake.old events intake.new) (I.ended intake.new)
-        serving.old.desk.splitter.core.plan (O.state outlet.old) (O.state outlet.new)) }
-    ensures prompt { IsPrompt (I.asked intake.old) intake.new
-        serving.old.desk.splitter.core.plan (O.state outlet.old) (O.state outlet.new) }
+        (record { first = serving.new.desk.splitter.predictor; relay = serving.new.relay }) }
+    ensures relieved_end { IfSome result (λ end. OnOk end (Relieved (λ one. named one)
+        (record { first = serving.old.desk.splitter.predictor; relay = serving.old.relay })
+        (record { first = serving.new.desk.splitter.predictor; relay = serving.new.relay }))) }
+    ensures due { IfSome result (λ end. IfOk end (λ why. IsThrough (Some why)
+        → AreDue serving.new.relay serving.new.desk.splitter.core.machine.finished)) }
+    ensures ends { alone ≡ false → IsSome result }
+    ensures terms { (serving.new.desk.splitter.instances ≡ serving.old.desk.splitter.instances)
+        × (serving.new.desk.splitter.batch ≡ serving.old.desk.splitter.batch) }
     ensures same { (I.plan intake.new ≡ I.plan intake.old)
         × (I.token intake.new ≡ I.token intake.old) }
     ensures same_out { (O.plan outlet.new ≡ O.plan outlet.old)
         × (O.token outlet.new ≡ O.token outlet.old) }
 {
-    let mut fed = Fed::More;
     for _ in office.rt.forever() {
-        let round = round(office.alloc, serving, fed, intake, outlet)?;
-        if let Some(why) = round.over {
-            return Ok(why);
-        }
-        fed = round.fed;
         let desk = &mut serving.desk;
-        let must_wait = !matches!(fed, Fed::More) && !all_finished(desk.splitter.core());
+        let must_wait = !matches!(serving.fed, Fed::More) && !all_finished(desk.splitter.core());
         let dear = desk.splitter.unheard.is_dear();
         help(office, &desk.by, &mut desk.seat, must_wait, dear);
+        let last = serving.fed;
+        let round = match round(office.alloc, serving, last, intake, outlet) {
+            Ok(round) => round,
+            Err(AllocError) => return Some(Err(AllocError)),
+        };
+        serving.fed = round.fed;
+        if let Some(why) = round.over {
+            return Some(Ok(why));
+        }
+        if alone && wants_instance(&serving.desk) {
+            return None;
+        }
     }
     unreachable!()
 }
@@ -253,46 +270,19 @@ fn shut<L: Naming, G: Gate, R: Wait>(office: &Office<'_, L, G, R>, desk: &mut De
     office.hub.close(office.rt, &mut desk.by);
 }
 
-/// Runs a splitter whose core has done no step, from an intake to an outlet, until the intake gives no more and every
-/// closed window is finished, or a match is refused, or memory runs out. Turn after turn events are fed, a turn is
-/// taken, predictors that are due go to work, the matches of the windows that it finished are put, and then the splitter
-/// does jobs that are still listed. Behind the last turn it closes its hub.
-pub(crate) fn serve<I: Intake, O: Outlet, L: Naming, G: Gate, R: Wait>(
+/// Behind the last round of a run that ended so the splitter closes its hub, and leaves what it has.
+pub(crate) fn leave<L: Naming, G: Gate, R: Wait>(
     office: &Office<'_, L, G, R>,
-    desk: Desk<L>,
-    relay: Relay,
-    intake: &mut I,
-    outlet: &mut O,
+    serving: Serving<'_, L, R>,
+    end: Result<Why, Memory>,
 ) -> Served<L>
-    requires fresh { desk.splitter.core ≡ begun desk.splitter.core.plan desk.splitter.core.bound }
-    requires can { CanTurn desk.splitter.instances desk.splitter.batch desk.splitter.kept.items
-        desk.splitter.core.machine.next_ticket desk.by }
-    requires free { desk.seat.holding ≡ None }
-    requires none { relay.gone ≡ 0 }
-    requires intake_plan { I.plan intake.old ≡ desk.splitter.core.plan }
-    requires outlet_plan { O.plan outlet.old ≡ desk.splitter.core.plan }
-    ensures served { Serves (λ events. I.gave intake.old events intake.new) (I.ended intake.new)
-        (I.stops intake.old) (I.stops intake.new) (I.cause intake.new)
-        desk.splitter.instances desk.splitter.batch desk.splitter.core (O.state outlet.old)
-        (O.state outlet.new) result.end (length result.by.got) }
-    ensures crew { IfOk result.end (λ end. Relayed (λ one. named one)
-        (crew_of (record { first = desk.splitter.predictor; relay = relay })) result.crew
-        end.why end.core.machine.finished) }
+    requires open { serving.desk.by.closed ≡ false }
     ensures closed { result.by.closed ≡ true }
-    ensures prompt { IsPrompt (I.asked intake.old) intake.new desk.splitter.core.plan
-        (O.state outlet.old) (O.state outlet.new) }
-    ensures same { (I.plan intake.new ≡ I.plan intake.old)
-        × (I.token intake.new ≡ I.token intake.old) }
-    ensures same_out { (O.plan outlet.new ≡ O.plan outlet.old)
-        × (O.token outlet.new ≡ O.token outlet.old) }
+    ensures got { result.by.got ≡ serving.entry.desk.by.got }
+    ensures team { result.team
+        ≡ record { first = serving.entry.desk.splitter.predictor; relay = serving.entry.relay } }
+    ensures end { result.end ≡ went_by serving.entry.desk.splitter.core end }
 {
-    let mut serving = Serving {
-        rt: office.rt,
-        hub: office.hub,
-        desk,
-        relay,
-    };
-    let why = serve_on(office, &mut serving, intake, outlet);
     let Serving {
         mut desk,
         relay,
@@ -309,15 +299,54 @@ pub(crate) fn serve<I: Intake, O: Outlet, L: Naming, G: Gate, R: Wait>(
         first: predictor,
         relay,
     };
-    let crew = team.into_crew();
-    let end = match why {
+    let end = match end {
         Ok(why) => Ok(Went { core, why }),
         Err(AllocError) => Err(AllocError),
     };
     Served {
         by,
         seat,
-        crew,
+        team,
         end,
     }
+}
+
+/// Goes on with a run from where it stands, until the intake gives no more and every closed window is finished, or a match
+/// is refused, or memory runs out. Turn after turn events are fed, a turn is taken, predictors that are due go to work, the
+/// matches of the windows that it finished are put, and then the splitter does jobs that are still listed. Behind the last
+/// turn it closes its hub.
+pub(crate) fn serve<I: Intake, O: Outlet, L: Naming, G: Gate, R: Wait>(
+    office: &Office<'_, L, G, R>,
+    serving: Serving<'_, L, R>,
+    intake: &mut I,
+    outlet: &mut O,
+) -> Served<L>
+    requires ready { IsServing serving.desk.splitter.instances serving.desk.splitter.batch
+        serving.desk.splitter.kept.items serving.desk.splitter.core
+        serving.desk.by serving.desk.seat }
+    requires due { AreDue serving.relay serving.desk.splitter.core.machine.finished }
+    requires under_way { IsUnderWay I.gave I.asked I.ended I.stops I.cause I.plan intake.old
+        serving.desk.splitter.core (O.state outlet.old) serving.fed }
+    requires plan { O.plan outlet.old ≡ serving.desk.splitter.core.plan }
+    ensures served { ServesOn I.gave I.asked I.ended I.stops I.cause I.plan
+        intake.old intake.new serving.entry.desk.splitter.core
+        (O.state outlet.old) (O.state outlet.new) serving.entry.fed
+        serving.entry.desk.splitter.instances serving.entry.desk.splitter.batch
+        result.end (length result.by.got) }
+    ensures relieved { OnOk result.end (Relieved (λ one. named one)
+        (record { first = serving.entry.desk.splitter.predictor; relay = serving.entry.relay })
+        result.team) }
+    ensures due { IfOk result.end (λ end. IsThrough (Some end.why)
+        → AreDue result.team.relay end.core.machine.finished) }
+    ensures closed { result.by.closed ≡ true }
+    ensures same { (I.plan intake.new ≡ I.plan intake.old)
+        × (I.token intake.new ≡ I.token intake.old) }
+    ensures same_out { (O.plan outlet.new ≡ O.plan outlet.old)
+        × (O.token outlet.new ≡ O.token outlet.old) }
+{
+    let mut serving = serving;
+    let Some(end) = serve_on(office, &mut serving, false, intake, outlet) else {
+        unreachable!()
+    };
+    leave(office, serving, end)
 }

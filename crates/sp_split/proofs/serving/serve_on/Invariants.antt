@@ -1,4 +1,6 @@
 use Rattle.std.proofs.Common.{◌≡◌}
+use Rattle.sp_core.specs.Running.{Running}
+use Rattle.sp_ports.specs.Taking.{OutletState}
 use Rattle.sp_split.specs.Going.{IsGoing}
 use Rattle.sp_split.specs.Relieving.{AreDue, Relieved}
 use Rattle.sp_split.specs.Serving.{IsServing}
@@ -6,7 +8,9 @@ use Rattle.sp_split.proofs.serving.serve_on.Given as goal
 
 abbrev pub invariant-loop : goal.invariant-loop
 invariant-loop g l = record {
-  going : IsGoing g.I.Intake.gave g.I.Intake.asked g.I.Intake.ended g.I.Intake.stops g.I.Intake.cause l.initial.intake l.intake l.initial.serving.desk.splitter.core l.serving.desk.splitter.core (g.O.Outlet.state l.initial.outlet) (g.O.Outlet.state l.outlet) l.fed;
+  going : (from : _) (first : Running) (old : OutletState)
+      → IsGoing g.I.Intake.gave g.I.Intake.asked g.I.Intake.ended g.I.Intake.stops g.I.Intake.cause from l.initial.intake first l.initial.serving.desk.splitter.core old (g.O.Outlet.state l.initial.outlet) l.initial.serving.fed
+      → IsGoing g.I.Intake.gave g.I.Intake.asked g.I.Intake.ended g.I.Intake.stops g.I.Intake.cause from l.intake first l.serving.desk.splitter.core old (g.O.Outlet.state l.outlet) l.serving.fed;
   ready : IsServing l.serving.desk.splitter.instances l.serving.desk.splitter.batch l.serving.desk.splitter.kept.items l.serving.desk.splitter.core l.serving.desk.by l.serving.desk.seat
       × AreDue l.serving.relay l.serving.desk.splitter.core.machine.finished;
   relieved : Relieved (λ one. (goal.Predictor-dyn g (one.vtable, one.value)).named one.value) (record { first = l.initial.serving.desk.splitter.predictor; relay = l.initial.serving.relay })
