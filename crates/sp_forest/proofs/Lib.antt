@@ -1,0 +1,10 @@
+pub mod OneCore
+pub mod Weaving
+pub mod Passing
+pub mod PutOn
+pub mod ListOn
+pub mod Few
+pub mod Jobs
+pub mod CanDrive
+pub mod RunAlike
+pub mod RoundOn

@@ -1,0 +1,3 @@
+pub mod AllGiven
+pub mod Crossing
+pub mod Told
