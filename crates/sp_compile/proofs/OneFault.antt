@@ -142,10 +142,10 @@ one_opening : (query : Query) (opening : QueryOpening) → IsOne (OpeningFault q
 one_opening query (o.Every step unit span) a b d e = d ∙ sym e
 one_opening query (o.When pred) a b d e = one_test (scope_of query None) pred a b d e
 
-one_found : (found : Option CompileFault) → IsOne (Finds found)
+pub one_found : (found : Option CompileFault) → IsOne (Finds found)
 one_found found a b d e = d ∙ sym e
 
-one_then : (P Q : Option CompileFault → Type 0) → IsOne P → IsOne Q → IsOne (Then P Q)
+pub one_then : (P Q : Option CompileFault → Type 0) → IsOne P → IsOne Q → IsOne (Then P Q)
 one_then P Q p q _ _ (stops f d) (stops g e) = p (Some f) (Some g) d e
 one_then P Q p q _ _ (stops f d) (goes b e i) =
     let k = p (Some f) None d e in

@@ -27,7 +27,7 @@ use Rattle.sp_compile.specs.declared.fault.CompileFault.TheVariants as f
 use Rattle.sp_compile.specs.declared.sort.Sort.{Sort}
 use Rattle.sp_compile.specs.declared.sort.Sort.TheVariants as s
 use Rattle.sp_compile.specs.Scopes.{Scope}
-use Rattle.sp_compile.specs.Sorts.{Verdict, first, constant_sort, is_arithmetic, own_sort, earlier_sort, minus_sort, binary_sort, test_fault}
+use Rattle.sp_compile.specs.Sorts.{Verdict, first, constant_sort, known_sort, is_arithmetic, own_sort, earlier_sort, minus_sort, binary_sort, test_fault}
 use Rattle.sp_compile.specs.Checks.{span_of, Types, constant, own, earlier, minus, binary, is_junction, Tests, compared, joined as linked, denied, columns_fault, time_fault, elements_fault, length_fault, consume_fault, scope_of, defined, defined_fault, Defines, none, misnamed, faulty, fine, OpeningFault, step_is_fine, Then, stops, goes, Finds, Checks}
 
 -- ---- trees
@@ -68,7 +68,7 @@ constant_is : (tokens : List Token) (t : Tree) → g.Constant tokens t → Typed
 constant_is tokens t d scope =
     let sort = constant_typed d.phrase.token.kernel d.of d.phrase.is in
     let node : (out-Tree t).node ≡ d.of = ap (λ t. (out-Tree t).node) d.is ∙ root_of d.of [] tokens in
-    (Ok sort.0, constant t sort.0 (Ok sort.0) (ap constant_sort node ∙ sort.1) refl)
+    (known_sort scope (span_of t) (out-Tree t).node sort.0, constant t sort.0 (known_sort scope (span_of t) (out-Tree t).node sort.0) (ap constant_sort node ∙ sort.1) refl)
 
 named_is : (tokens : List Token) (t : Tree) (p : List ℕ × Option (List ℕ)) → t ≡ g.named tokens p → Typed t
 named_is tokens t (text, None) is scope =

@@ -95,6 +95,7 @@ module _ (span : Span) where
           subst (λ (n : ℕ). HasScale r one n) (omega (arith, p)) (i.scaled r k both.0),
           subst (λ (n : ℕ). HasScale r two n) (omega (arith, q)) (j.scaled r m both.1),
         );
+        reads = λ both. (i.reads both.0, j.reads both.1);
       }
   aligned (l, s.Text) right by more all one two x y sort is i j = absurd (cc sort)
   aligned (l, s.Number k b) (r, s.Text) by more all one two x y sort is i j = absurd (cc sort)

@@ -1,9 +1,10 @@
 -- What the compiler's functions answer.
-use Rattle.std.specs.Prelude.{◌≡◌, ℕ, ℤ, ◌≤◌, List, Option, Some, None, Result, Ok, Err, length, map, count_by, nat_lt}
+use Rattle.std.specs.Prelude.{◌≡◌, ℕ, ℤ, ◌≤◌, true, false, List, [], Option, Some, None, Result, Ok, Err, length, map, count_by, nat_lt}
 use Rattle.std.specs.List.{All}
 use Rattle.sp_lex.specs.declared.token.Word.TheVariants as w
 use Rattle.sp_plan.specs.declared.event.Event.{Event}
 use Rattle.sp_plan.specs.declared.plan.Expr.{Expr}
+use Rattle.sp_plan.specs.declared.plan.Expr as e
 use Rattle.sp_plan.specs.declared.plan.Pred.{Pred}
 use Rattle.sp_plan.specs.Bounds.{bound, StaysWithin, PredWithin}
 use Rattle.sp_plan.specs.Comparable.{Readable, IsText, HasScale, IsComparable}
@@ -22,7 +23,7 @@ use Rattle.sp_compile.specs.Stands.{plan_column}
 
 -- the scope of a query's predicate
 abbrev pub scope_in : Query → Option ℕ → Scope
-scope_in query here = record { columns = query.columns; names = pattern_names query; here = here }
+scope_in query here = record { columns = query.columns; names = pattern_names query; here = here; at_hand = true; known = [] }
 
 -- What the checks of columns and names have shown before predicates are looked at: there are few of them, kinds have few decimals,
 -- and names stand in the order of their elements.
@@ -59,12 +60,25 @@ abbrev pub HasSort : Readable → Expr → Sort → Type 0
 HasSort r expr s.Text = IsText r expr
 HasSort r expr (s.Number scale most) = HasScale r expr scale
 
--- The expression has the sort that the tree has, stays within bounds, and comes to what the tree means.
+-- No column of an event at hand is read.
+abbrev pub ReadsEarlier : Expr → Type 0
+ReadsEarlier (e.Literal n) = Unit {0}
+ReadsEarlier (e.Word s) = Unit {0}
+ReadsEarlier (e.Column place) = ⊥
+ReadsEarlier (e.Earlier name place) = Unit {0}
+ReadsEarlier (e.Raise' by p inner) = ReadsEarlier inner
+ReadsEarlier (e.Minus' p inner) = ReadsEarlier inner
+ReadsEarlier (e.Add' p left q right) = ReadsEarlier left × ReadsEarlier right
+ReadsEarlier (e.Sub' p left q right) = ReadsEarlier left × ReadsEarlier right
+ReadsEarlier (e.Mul' p left q right) = ReadsEarlier left × ReadsEarlier right
+
+-- The expression has the sort that the tree has, stays within bounds, and comes to what the tree means. Where no event is at hand, it reads none.
 pub record Compiled (scope : Scope) (texts : List (List ℕ)) (tree : Tree) (expr : Expr) (sort : Sort) : Type 0 where
   pub types : Types scope tree (Ok sort)
   pub bounded : IsBounded expr sort
   pub within : StaysWithin expr
   pub sorted : HasSort (readable_in scope texts) expr sort
+  pub reads : scope.at_hand ≡ false → ReadsEarlier expr
   pub means : (event : Event) (bound : BoundEvents) → Means scope texts event bound tree (datum sort (value expr event bound))
 
 abbrev pub Untyped : Scope → Tree → CompileFault → Type 0

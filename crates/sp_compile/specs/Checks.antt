@@ -24,7 +24,7 @@ use Rattle.sp_compile.specs.declared.fault.CompileFault.{CompileFault}
 use Rattle.sp_compile.specs.declared.fault.CompileFault.TheVariants as f
 use Rattle.sp_compile.specs.declared.sort.Sort.{Sort}
 use Rattle.sp_compile.specs.Scopes.{Scope, pattern_names, column_place, name_place, PatternName}
-use Rattle.sp_compile.specs.Sorts.{Verdict, first, column_there, name_there, own_sort, earlier_sort, constant_sort, is_arithmetic, binary_sort, minus_sort, test_fault}
+use Rattle.sp_compile.specs.Sorts.{Verdict, first, column_there, name_there, own_sort, earlier_sort, constant_sort, known_sort, is_arithmetic, binary_sort, minus_sort, test_fault}
 
 -- ---- expressions and predicates: parts before the whole, left before right
 
@@ -33,7 +33,7 @@ span_of t = (out-Tree t).span
 
 -- The sort of an expression, or the first fault in it.
 pub data Types (scope : Scope) : Tree → Verdict → Type 0 where
-  constant : (t : Tree) (sort : Sort) (verdict : Verdict) → constant_sort (out-Tree t).node ≡ Some sort → verdict ≡ Ok sort → Types scope t verdict
+  constant : (t : Tree) (sort : Sort) (verdict : Verdict) → constant_sort (out-Tree t).node ≡ Some sort → verdict ≡ known_sort scope (span_of t) (out-Tree t).node sort → Types scope t verdict
   own : (t : Tree) (text : List ℕ) (verdict : Verdict) → (out-Tree t).node ≡ n.Own text → verdict ≡ own_sort scope (span_of t) text → Types scope t verdict
   earlier : (t : Tree) (name text : List ℕ) (verdict : Verdict) → (out-Tree t).node ≡ n.Earlier name text → verdict ≡ earlier_sort scope (span_of t) name text → Types scope t verdict
   minus : (t part : Tree) (inner verdict : Verdict) → (out-Tree t).node ≡ n.Minus → (out-Tree t).parts ≡ part ∷ [] → Types scope part inner → verdict ≡ minus_sort (span_of t) inner → Types scope t verdict
@@ -119,8 +119,8 @@ elements_fault query = first (names_fault [] (pattern_names query)) (ends_fault 
 
 -- the scope of the predicate of a name that is there
 abbrev pub scope_of : Query → Option PatternName → Scope
-scope_of query None = record { columns = query.columns; names = pattern_names query; here = None }
-scope_of query (Some name) = record { columns = query.columns; names = pattern_names query; here = Some name.element }
+scope_of query None = record { columns = query.columns; names = pattern_names query; here = None; at_hand = true; known = [] }
+scope_of query (Some name) = record { columns = query.columns; names = pattern_names query; here = Some name.element; at_hand = true; known = [] }
 
 abbrev pub defined_fault : List (List ℕ) → Ident → Option PatternName → Option CompileFault
 defined_fault before name None = Some (f.Unknown name.span)

@@ -18,9 +18,9 @@ use Rattle.sp_compile.specs.declared.fault.CompileFault.TheVariants as f
 use Rattle.sp_compile.specs.declared.sort.Sort.{Sort}
 use Rattle.sp_compile.specs.declared.sort.Sort.TheVariants as s
 use Rattle.sp_compile.specs.Scopes.{Scope, column_place, name_place, binding_from}
-use Rattle.sp_compile.specs.Sorts.{Verdict, sum_sort, product_sort, negative_sort, operator_sort}
+use Rattle.sp_compile.specs.Sorts.{Verdict, known_sort, sum_sort, product_sort, negative_sort, operator_sort}
 use Rattle.sp_compile.specs.Meaning.{Datum, number, text, datum_of, combined, negative}
-use Rattle.sp_compile.specs.Answers.{datum, IsBounded, HasSort, bound_names}
+use Rattle.sp_compile.specs.Answers.{datum, IsBounded, HasSort, ReadsEarlier, bound_names}
 use Rattle.sp_compile.specs.Stands.{plan_column}
 
 -- a bound, if no value may be greater
@@ -65,12 +65,22 @@ comes_to p event bound = datum p.1 (value p.0 event bound)
 abbrev pub BothSorted : Expr × Sort → Expr × Sort → Readable → Type 0
 BothSorted left right r = HasSort r left.0 left.1 × HasSort r right.0 right.1
 
--- An expression with the sort of this verdict, which comes to these data; it is of its sort where its parts are of theirs.
-pub record Made (verdict : Verdict) (meant : Event → BoundEvents → Option Datum) (parts : Readable → Type 0) (p : Expr × Sort) : Type 0 where
+-- neither of two expressions reads an event at hand
+abbrev pub BothEarlier : Expr × Sort → Expr × Sort → Type 0
+BothEarlier left right = ReadsEarlier left.0 × ReadsEarlier right.0
+
+-- whatever else holds
+abbrev pub Anyway : Type 0
+Anyway = Unit {0}
+
+-- An expression with the sort of this verdict, which comes to these data; it is of its sort where its parts are of theirs, and reads no
+-- event at hand where that is so.
+pub record Made (verdict : Verdict) (meant : Event → BoundEvents → Option Datum) (parts : Readable → Type 0) (without : Type 0) (p : Expr × Sort) : Type 0 where
   pub sort : verdict ≡ Ok p.1
   pub sound : IsSound p
   pub comes : (event : Event) (bound : BoundEvents) → meant event bound ≡ Some (comes_to p event bound)
   pub sorted : (r : Readable) → parts r → HasSort r p.0 p.1
+  pub reads : without → ReadsEarlier p.0
 
 -- the verdict is a fault; want of memory says nothing
 abbrev pub Refused : Verdict → CompileFault → Type 0
@@ -78,9 +88,9 @@ Refused verdict f.Memory = Unit {0}
 Refused verdict fault = verdict ≡ Err fault
 
 -- such an expression, or the verdict's fault
-abbrev pub MadeAnswer : Verdict → (Event → BoundEvents → Option Datum) → (Readable → Type 0) → Result (Expr × Sort) CompileFault → Type 0
-MadeAnswer verdict meant parts (Ok p) = Made verdict meant parts p
-MadeAnswer verdict meant parts (Err fault) = Refused verdict fault
+abbrev pub MadeAnswer : Verdict → (Event → BoundEvents → Option Datum) → (Readable → Type 0) → Type 0 → Result (Expr × Sort) CompileFault → Type 0
+MadeAnswer verdict meant parts without (Ok p) = Made verdict meant parts without p
+MadeAnswer verdict meant parts without (Err fault) = Refused verdict fault
 
 -- A number with more decimals.
 pub record IsRaised (expr : Expr) (by : ℕ) (raised : Expr) : Type 0 where
@@ -88,6 +98,7 @@ pub record IsRaised (expr : Expr) (by : ℕ) (raised : Expr) : Type 0 where
   pub bounded : bound raised ≡ bound expr * 10 ^ by
   pub raises : (event : Event) (bound : BoundEvents) → value raised event bound ≡ value expr event bound *ℤ pos (10 ^ by)
   pub scaled : (r : Readable) (scale : ℕ) → HasScale r expr scale → HasScale r raised (scale + by)
+  pub reads : ReadsEarlier expr → ReadsEarlier raised
 
 -- a number with more decimals, or want of memory
 abbrev pub RaisedAnswer : Expr → ℕ → Result Expr CompileFault → Type 0
@@ -115,6 +126,7 @@ pub record Aligned (span : Span) (left right : Expr × Sort) (one other : Expr) 
   pub sums : (event : Event) (bound : BoundEvents) → combined n.Add (comes_to left event bound) (comes_to right event bound) ≡ Some (datum all (value one event bound +ℤ value other event bound))
   pub differences : (event : Event) (bound : BoundEvents) → combined n.Sub (comes_to left event bound) (comes_to right event bound) ≡ Some (datum all (value one event bound -ℤ value other event bound))
   pub sorted : (r : Readable) → BothSorted left right r → HasScale r one scale × HasScale r other scale
+  pub reads : BothEarlier left right → ReadsEarlier one × ReadsEarlier other
 
 -- two such numbers, or the fault of their sum
 abbrev pub AlignedAnswer : Span → Expr × Sort → Expr × Sort → Result (Expr × Expr × Sort) CompileFault → Type 0
@@ -151,11 +163,11 @@ joined _ one other = one && other
 
 -- a number of the query, in units of its scale
 abbrev pub NumberAnswer : ℕ → ℕ → Result (Expr × Sort) CompileFault → Type 0
-NumberAnswer units scale result = MadeAnswer (Ok (s.Number scale units)) (λ event bound. Some (number (pos units) scale)) (λ r. Unit {0}) result
+NumberAnswer units scale result = MadeAnswer (Ok (s.Number scale units)) (λ event bound. Some (number (pos units) scale)) (λ r. Unit {0}) Anyway result
 
 -- a text of the query, by its number among the texts
-abbrev pub TextAnswer : List (List ℕ) → List ℕ → Result (Expr × Sort) CompileFault → Type 0
-TextAnswer texts t result = MadeAnswer (Ok s.Text) (λ event bound. Some (text (pos (symbol_of texts t)))) (λ r. r.texts ≡ length texts) result
+abbrev pub TextAnswer : Scope → List (List ℕ) → Span → List ℕ → Result (Expr × Sort) CompileFault → Type 0
+TextAnswer scope texts span t result = MadeAnswer (known_sort scope span (n.Literal t) s.Text) (λ event bound. Some (text (pos (symbol_of texts t)))) (λ r. r.texts ≡ length texts) Anyway result
 
 -- what may be read has the columns of this scope, and those of its names that are of earlier elements and aren't negated
 abbrev pub Reads : Scope → Readable → Type 0
@@ -200,12 +212,12 @@ BothAnswer left right (Err fault) = fault ≢ f.Memory → FirstFault left right
 
 -- minus an operand, or the operand's fault
 abbrev pub NegativeAnswer : Span → Result (Expr × Sort) CompileFault → Result (Expr × Sort) CompileFault → Type 0
-NegativeAnswer span (Ok inner) result = MadeAnswer (negative_sort span inner.1) (λ event bound. negative (comes_to inner event bound)) (λ r. HasSort r inner.0 inner.1) result
+NegativeAnswer span (Ok inner) result = MadeAnswer (negative_sort span inner.1) (λ event bound. negative (comes_to inner event bound)) (λ r. HasSort r inner.0 inner.1) (ReadsEarlier inner.0) result
 NegativeAnswer span (Err fault) result = result ≡ Err fault
 
 -- what the operator of this tree makes of both sides, or the first fault
 abbrev pub OperationAnswer : Tree → Result (Expr × Sort) CompileFault → Result (Expr × Sort) CompileFault → Result (Expr × Sort) CompileFault → Type 0
-OperationAnswer t (Ok one) (Ok other) result = MadeAnswer (operator_sort (out-Tree t).node (out-Tree t).span one.1 other.1) (λ event bound. combined (out-Tree t).node (comes_to one event bound) (comes_to other event bound)) (BothSorted one other) result
+OperationAnswer t (Ok one) (Ok other) result = MadeAnswer (operator_sort (out-Tree t).node (out-Tree t).span one.1 other.1) (λ event bound. combined (out-Tree t).node (comes_to one event bound) (comes_to other event bound)) (BothSorted one other) (BothEarlier one other) result
 OperationAnswer t left right (Ok p) = ⊥
 OperationAnswer t left right (Err fault) = fault ≢ f.Memory → FirstFault left right fault
 

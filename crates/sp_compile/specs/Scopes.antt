@@ -49,12 +49,15 @@ abbrev pub binding_from : ℕ → List PatternName → List ℕ
 binding_from at [] = []
 binding_from at (name ∷ names) = if name.negated then binding_from (suc at) names else at ∷ binding_from (suc at) names
 
--- What a predicate may name: columns, and names of the pattern with their elements. Those of the elements before `here`
--- are bound earlier; where there is no such element, none is.
+-- What an expression may name: columns, and names of the pattern with their elements. Those of the elements before `here`
+-- are bound earlier; where there is no such element, none is. Where no event is at hand, a bare name is no column, and
+-- texts are those that are known alone.
 pub record Scope : Type 0 where
   pub columns : List QueryColumn
   pub names : List PatternName
   pub here : Option ℕ
+  pub at_hand : Bool
+  pub known : List (List ℕ)
 
 -- the place of the first column of this name
 abbrev pub column_place : List QueryColumn → List ℕ → Option ℕ

@@ -1,5 +1,7 @@
 -- Of what sort an expression is, and which fault is found first.
-use Rattle.std.specs.Prelude.{ℕ, ◌+◌, ◌-◌, ◌*◌, ◌^◌, max, Bool, true, false, ◌&&◌, nat_le, nat_lt, List, Option, Some, None, Result, Ok, Err, slice_get, if◌then◌else◌}
+use Rattle.std.specs.Prelude.{ℕ, ◌+◌, ◌-◌, ◌*◌, ◌^◌, max, Bool, true, false, ◌&&◌, ◌||◌, nat_le, nat_lt, List, Option, Some, None, Result, Ok, Err, slice_get, if◌then◌else◌}
+use Rattle.std.specs.List.{list_any}
+use Rattle.std.specs.Str.{bytes_eq}
 use Rattle.sp_base.specs.Limits.{number_limit}
 use Rattle.sp_lex.specs.declared.token.Span.{Span}
 use Rattle.sp_lex.specs.declared.token.Word.{Word}
@@ -44,9 +46,11 @@ abbrev pub column_there : List QueryColumn → Option ℕ → Option QueryColumn
 column_there columns None = None
 column_there columns (Some place) = slice_get columns place
 
--- of a column of the event at hand
+-- of a column of the event at hand, where one is
 abbrev pub own_sort : Scope → Span → List ℕ → Verdict
-own_sort scope span text = sort_there span (column_there scope.columns (column_place scope.columns text))
+own_sort scope span text =
+    if scope.at_hand then sort_there span (column_there scope.columns (column_place scope.columns text))
+    else Err (f.Unknown span)
 
 -- whether the element of a name that is there is bound earlier
 abbrev pub is_earlier : Option ℕ → Option PatternName → Bool
@@ -82,6 +86,17 @@ constant_sort (n.Whole x) = Some (s.Number 0 x)
 constant_sort (n.Decimal units scale) = Some (s.Number scale units)
 constant_sort (n.Literal text) = Some s.Text
 constant_sort _ = None
+
+-- whether a text is among these; a number needs not be
+abbrev pub is_listed : List (List ℕ) → Node → Bool
+is_listed texts (n.Literal text) = list_any (bytes_eq text) texts
+is_listed texts _ = true
+
+-- of a number or a text of this sort: a text is any where an event is at hand, and one of those known where none is
+abbrev pub known_sort : Scope → Span → Node → Sort → Verdict
+known_sort scope span node sort =
+    if scope.at_hand || is_listed scope.known node then Ok sort
+    else Err (f.Unknown span)
 
 -- a number of this scale and this bound, if it is within limits
 abbrev pub limited : Span → ℕ → ℕ → Verdict

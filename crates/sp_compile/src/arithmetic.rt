@@ -4,8 +4,8 @@ ghost use Rattle.sp_plan.specs.Bounds.{bound, greatest, StaysWithin};
 ghost use Rattle.sp_query.specs.declared.tree.Node.TheVariants as n;
 ghost use Rattle.sp_compile.specs.Sorts.{is_arithmetic, operator_sort, negative_sort, product_sort, sum_sort};
 ghost use Rattle.sp_compile.specs.Meaning.{combined, negative};
-ghost use Rattle.sp_compile.specs.Answers.{HasSort};
-ghost use Rattle.sp_compile.specs.Parts.{within_limit, limit_of_sum, raises, IsScaled, IsSound, comes_to, BothSorted, MadeAnswer, RaisedAnswer, AlignedAnswer, NumbersAnswer};
+ghost use Rattle.sp_compile.specs.Answers.{HasSort, ReadsEarlier};
+ghost use Rattle.sp_compile.specs.Parts.{within_limit, limit_of_sum, raises, IsScaled, IsSound, comes_to, BothEarlier, BothSorted, MadeAnswer, RaisedAnswer, AlignedAnswer, NumbersAnswer};
 
 use crate::boxed::{boxed, boxed_pair};
 use crate::expression::both;
@@ -67,7 +67,7 @@ pub(crate) fn minus(
     requires { IsSound inner }
     ensures { MadeAnswer (negative_sort span inner.1)
         (λ event bound. negative (comes_to inner event bound))
-        (λ r. HasSort r inner.0 inner.1) result }
+        (λ r. HasSort r inner.0 inner.1) (ReadsEarlier inner.0) result }
 {
     let (expr, sort) = inner;
     match sort {
@@ -132,7 +132,7 @@ fn product(
     requires right { IsSound right }
     ensures { MadeAnswer (product_sort span left.1 right.1)
         (λ event bound. combined n.Mul (comes_to left event bound) (comes_to right event bound))
-        (BothSorted left right) result }
+        (BothSorted left right) (BothEarlier left right) result }
 {
     let sort = sort_of_product(span, left.1, right.1)?;
     let (one, other) = boxed_pair(alloc, left.0, right.0)?;
@@ -209,7 +209,7 @@ pub(crate) fn arithmetic(
     requires node { is_arithmetic node.now ≡ true }
     ensures { MadeAnswer (operator_sort node.now span left.1 right.1)
         (λ event bound. combined node.now (comes_to left event bound) (comes_to right event bound))
-        (BothSorted left right) result }
+        (BothSorted left right) (BothEarlier left right) result }
 {
     if let Node::Mul = node {
         return product(alloc, span, left, right);

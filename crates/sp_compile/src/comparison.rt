@@ -19,8 +19,8 @@ pub(crate) struct Spans {
     pub(crate) right: Span,
 }
 
-// One side of a comparison with more decimals.
-fn side(alloc: Global, span: Span, expr: Expr, most: u128, by: u8) -> Result<Expr, CompileFault>
+/// A number with more decimals, as one side of a comparison, or `TooWide` where it may be too great.
+pub fn side(alloc: Global, span: Span, expr: Expr, most: u128, by: u8) -> Result<Expr, CompileFault>
     requires by { by ≤ 36 }
     requires bounded { bound expr ≡ most }
     requires within { StaysWithin expr }

@@ -90,6 +90,8 @@ fn defined_pred(
         columns: query.columns.as_slice(),
         names,
         here: Some(named.element),
+        at_hand: true,
+        known: &[],
     };
     predicate(alloc, &scope, texts, tree)
 }

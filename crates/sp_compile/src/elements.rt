@@ -18,10 +18,10 @@ const MOST_NAMES: usize = 32;
 
 /// A name of the pattern, the number of its element from 0, and whether it is negated.
 #[derive(Drop)]
-pub(crate) struct PlacedName<'a> {
-    pub(crate) name: &'a Ident,
-    pub(crate) element: usize,
-    pub(crate) negated: bool,
+pub struct PlacedName<'a> {
+    pub name: &'a Ident,
+    pub element: usize,
+    pub negated: bool,
 }
 
 impl<'a> Model for PlacedName<'a> {

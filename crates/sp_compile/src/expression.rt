@@ -39,7 +39,7 @@ fn operand(scope: &Scope, texts: &[Text], tree: &Tree) -> Result<(Expr, Sort), C
     match &tree.node {
         Node::Whole(units) => number(*units, 0),
         Node::Decimal { units, scale } => number(*units, *scale),
-        Node::Literal(text) => literal(texts, text),
+        Node::Literal(text) => literal(scope, texts, tree.span, text),
         Node::Own(text) => own(scope, tree.span, text),
         Node::Earlier(name, text) => earlier(scope, tree.span, name, text),
         // No text has such a tree.
@@ -75,9 +75,9 @@ fn operation(
     arithmetic(alloc, &node.node, node.span, left, right)
 }
 
-// The expression of a tree with what it is, or its first fault. The left operands are gone through
-// in a loop, since there may be thousands of them, one below the other.
-pub(crate) fn expression(
+/// The expression of a tree with what it is, or its first fault. The left operands are gone through
+/// in a loop, since there may be thousands of them, one below the other.
+pub fn expression(
     alloc: Global,
     scope: &Scope,
     texts: &[Text],

@@ -1,12 +1,13 @@
 // Numbers, texts and columns of expressions, each with what it is.
-ghost use Rattle.std.specs.Prelude.{◌≡◌, ◌≤◌};
+ghost use Rattle.std.specs.Prelude.{◌≡◌, ◌≤◌, false};
 ghost use Rattle.sp_lex.specs.declared.token.Word.TheVariants as w;
 ghost use Rattle.sp_compile.specs.Answers.{AreNamed};
 ghost use Rattle.sp_compile.specs.Sorts as sorts;
-ghost use Rattle.sp_compile.specs.Parts.{MadeAnswer, NumberAnswer, TextAnswer, Reads, own_datum, earlier_datum};
+ghost use Rattle.sp_compile.specs.Parts.{Anyway, MadeAnswer, NumberAnswer, TextAnswer, Reads, own_datum, earlier_datum};
 
 use crate::lookup::{column_place, name_place, text_number};
 use crate::scope::Scope;
+use crate::texts::is_known;
 use crate::{CompileFault, Sort};
 use sp_base::limits::NUMBER_LIMIT;
 use sp_plan::{Expr, Text};
@@ -47,9 +48,17 @@ pub(crate) fn number(units: u64, scale: u8) -> Result<(Expr, Sort), CompileFault
 }
 
 // A text that stands in the query.
-pub(crate) fn literal(texts: &[Text], text: &Text) -> Result<(Expr, Sort), CompileFault>
-    ensures { TextAnswer texts.now text.now result }
+pub(crate) fn literal(
+    scope: &Scope,
+    texts: &[Text],
+    span: Span,
+    text: &Text,
+) -> Result<(Expr, Sort), CompileFault>
+    ensures { TextAnswer scope.now texts.now span text.now result }
 {
+    if !scope.at_hand && !is_known(scope.known, text) {
+        return Err(CompileFault::Unknown(span));
+    }
     let number = text_number(texts, text);
     match u32::try_from(number) {
         Ok(symbol) if number < texts.len() => Ok((Expr::Word(symbol), Sort::Text)),
@@ -58,12 +67,15 @@ pub(crate) fn literal(texts: &[Text], text: &Text) -> Result<(Expr, Sort), Compi
     }
 }
 
-// A column of the event at hand.
+// A column of the event at hand, where one is.
 pub(crate) fn own(scope: &Scope, span: Span, text: &Text) -> Result<(Expr, Sort), CompileFault>
     requires { AreNamed scope.now.columns scope.now.names }
     ensures { MadeAnswer (sorts.own_sort scope.now span text.now) (own_datum scope.now text.now)
-        (Reads scope.now) result }
+        (Reads scope.now) (scope.now.at_hand ≡ false) result }
 {
+    if !scope.at_hand {
+        return Err(CompileFault::Unknown(span));
+    }
     let columns = scope.columns;
     match column_place(columns, text) {
         Some(place) => Ok((Expr::Column(place as u16), column_sort(&columns[place]))),
@@ -80,7 +92,7 @@ pub(crate) fn earlier(
 ) -> Result<(Expr, Sort), CompileFault>
     requires { AreNamed scope.now.columns scope.now.names }
     ensures { MadeAnswer (sorts.earlier_sort scope.now span name.now text.now)
-        (earlier_datum scope.now name.now text.now) (Reads scope.now) result }
+        (earlier_datum scope.now name.now text.now) (Reads scope.now) Anyway result }
 {
     let Some(here) = scope.here else {
         return Err(CompileFault::LateReference(span));

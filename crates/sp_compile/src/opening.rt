@@ -47,6 +47,8 @@ fn opening_pred(
         columns: query.columns.as_slice(),
         names,
         here: None,
+        at_hand: true,
+        known: &[],
     };
     predicate(alloc, &scope, texts, tree)
 }

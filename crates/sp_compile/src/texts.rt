@@ -12,7 +12,7 @@ use sp_query::{Node, Query, QueryOpening, Tree};
 use std::alloc::{AllocError, Global};
 
 // Whether a text is among those so far.
-fn is_known(texts: &[Text], text: &Text) -> bool
+pub(crate) fn is_known(texts: &[Text], text: &Text) -> bool
     ensures { result ≡ list_any (bytes_eq text.now) texts.now }
 {
     texts.iter().any(|other| text.as_str() == other.as_str())

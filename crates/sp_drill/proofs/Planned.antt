@@ -130,7 +130,7 @@ module _ (by : Compare) (left right : Node) (x y z : Span) where
 
 -- what the predicate of the element of this number may name
 abbrev scope : ℕ → Scope
-scope here = record { columns = query.columns; names = pattern_names query; here = Some here }
+scope here = record { columns = query.columns; names = pattern_names query; here = Some here; at_hand = true; known = [] }
 
 -- the price of the event of A
 abbrev earlier : Node

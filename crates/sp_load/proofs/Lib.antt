@@ -1,2 +1,3 @@
 pub mod OneTextLaws
+mod OneSecondLaws
 mod Refusals

@@ -6,6 +6,7 @@ use Rattle.sp_query.specs.declared.query.Query.{Query as QueryTree}
 use Rattle.sp_compile.specs.Told.{IsPlanOf}
 use Rattle.sp_load.specs.Places.{Place, HasText, IsLonger}
 use Rattle.sp_load.specs.Queries.{IsPlanFor, IsFaulty}
+use Rattle.sp_load.specs.Seconds.{IsSecondFor, IsFaultySecond}
 
 -- The plans of a text stand for one query, its faults are one, and it has never both.
 pub record OneReading : Type 0 where
@@ -21,3 +22,11 @@ pub record OneText : Type 0 where
       → HasText (Some files) place one → HasText (Some files) place other → one ≡ other
   pub apart : (files : List (List ℕ × List ℕ)) (place : Place) (text : List ℕ)
       → HasText (Some files) place text → IsLonger (Some files) query_limit place → ⊥
+
+-- The plans of a second query's text stand for one query, its faults are one, and it has never both.
+pub record OneSecond : Type 0 where
+  pub plans : (text : List ℕ) (x y : Plan) → IsSecondFor text x → IsSecondFor text y
+      → (query : QueryTree) × IsPlanOf x query × IsPlanOf y query
+  pub faults : (text : List ℕ) (code at code' at' : ℕ) → IsFaultySecond text code at → IsFaultySecond text code' at'
+      → (code ≡ code') × (at ≡ at')
+  pub apart : (text : List ℕ) (q : Plan) (code at : ℕ) → IsSecondFor text q → IsFaultySecond text code at → ⊥

@@ -1,4 +1,5 @@
 pub mod Places
 pub mod Loads
 pub mod Queries
+pub mod Seconds
 pub mod Laws

@@ -1,5 +1,5 @@
 // Laws of what is loaded.
-ghost use Rattle.sp_load.specs.Laws.{OneReading, OneText};
+ghost use Rattle.sp_load.specs.Laws.{OneReading, OneSecond, OneText};
 
 /// Law: the plans of a text stand for one query, its faults have one code and one place, and no text has
 /// both a plan and a fault.
@@ -16,3 +16,14 @@ pub fn one_reading()
 pub fn one_text()
     ensures { OneText }
 {}
+
+/// Law: the plans of a second query's text stand for one query, its faults have one code and one place, and no text
+/// has both a plan and a fault.
+pub fn one_second()
+    ensures { OneSecond }
+{
+    // laws: what a text is, what refuses it, and what the checks of a query find is one thing each
+    sp_parse::law::one_query();
+    sp_parse::law::one_fault();
+    sp_compile::law::one_verdict();
+}

@@ -47,8 +47,8 @@ fn no_plan(fault: &CompileFault) -> Refusal
     }
 }
 
-// The query that the text is, or why it is none.
-fn query_of(alloc: Global, text: &str) -> Result<Query, Refusal>
+/// The query that the text is, or why it is none.
+pub(crate) fn query_of(alloc: Global, text: &str) -> Result<Query, Refusal>
     requires { length text.now ≤ query_limit }
     ensures query { IfOk result (IsQuery text.now) }
     ensures refused { IfErr result (RefusesText text.now) }
@@ -59,8 +59,8 @@ fn query_of(alloc: Global, text: &str) -> Result<Query, Refusal>
     }
 }
 
-// The plan of a query, or why there is none.
-fn plan_of(alloc: Global, query: &Query) -> Result<Plan, Refusal>
+/// The plan of a query, or why there is none.
+pub(crate) fn plan_of(alloc: Global, query: &Query) -> Result<Plan, Refusal>
     ensures plan { IfOk result (λ q. IsPlanOf q query.now) }
     ensures refused { IfErr result (RefusesQuery query.now) }
 {

@@ -12,8 +12,8 @@ use sp_query::{Ident, Kernel, Mark, QueryColumn, Token, Word};
 use sqlite_items::Items;
 use std::alloc::Global;
 
-// name
-pub(crate) fn ident<'a>(alloc: Global, tokens: &'a [Token]) -> Result<(Ident, &'a [Token]), Stop>
+/// name
+pub fn ident<'a>(alloc: Global, tokens: &'a [Token]) -> Result<(Ident, &'a [Token]), Stop>
     ensures { (room : ℕ)
         → Answers (λ _. g.Name) never room tokens.now (λ p. (p.0, p.1.now)) result }
 {

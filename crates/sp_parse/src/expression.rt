@@ -164,13 +164,9 @@ fn term<'a>(alloc: Global, tokens: &'a [Token], room: usize) -> Result<(Tree, &'
     Ok((tree, rest))
 }
 
-// term { ( "+" | "-" ) term }
+/// term { ( "+" | "-" ) term }
 #[cycle(factor)]
-pub(crate) fn sum<'a>(
-    alloc: Global,
-    tokens: &'a [Token],
-    room: usize,
-) -> Result<(Tree, &'a [Token]), Stop>
+pub fn sum<'a>(alloc: Global, tokens: &'a [Token], room: usize) -> Result<(Tree, &'a [Token]), Stop>
     ensures { Answers g.Sum after_sum room tokens.now (λ p. (p.0, p.1.now)) result }
 {
     let (mut tree, mut rest) = term(alloc, tokens, room)?;

@@ -3,18 +3,18 @@
 #![tactic(auto)]
 
 mod clauses;
-mod columns;
+pub mod columns;
 mod definitions;
-mod expression;
+pub mod expression;
 mod fault;
 pub mod law;
 mod list;
-mod parsing;
+pub mod parsing;
 mod pattern;
 mod predicate;
-mod query;
-mod stop;
-mod tokens;
+pub mod query;
+pub mod stop;
+pub mod tokens;
 mod trees;
 
 pub use fault::ParseFault;

@@ -13,8 +13,8 @@ use crate::stop::Stop;
 use sp_query::{LexFault, Query, Token, lex};
 use std::alloc::Global;
 
-// The fault of a text that has no tokens.
-fn without_tokens(fault: LexFault) -> ParseFault
+/// The fault of a text that has no tokens.
+pub fn without_tokens(fault: LexFault) -> ParseFault
     ensures memory { fault ≡ LexFault.Memory → result ≡ ParseFault.Memory }
     ensures other { fault ≢ LexFault.Memory → result ≡ ParseFault.Lex fault }
 {
@@ -24,8 +24,8 @@ fn without_tokens(fault: LexFault) -> ParseFault
     }
 }
 
-// Where the last so many tokens begin, or the text's length where there are none.
-fn place_of(text: &str, tokens: &[Token], left: usize) -> u32
+/// Where the last so many tokens begin, or the text's length where there are none.
+pub fn place_of(text: &str, tokens: &[Token], left: usize) -> u32
     requires text { length text.now < 2 ^ 32 }
     requires left { left ≤ length tokens.now }
     ensures { (front rest : List Token) → tokens.now ≡ front ++ rest → length rest ≡ left

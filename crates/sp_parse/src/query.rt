@@ -157,8 +157,8 @@ pub(crate) fn query<'a>(
     Ok((query, rest))
 }
 
-// What was read, where no token is behind it.
-fn ended<'a, T: Drop>(read: Result<(T, &'a [Token]), Stop>) -> Result<T, Stop>
+/// What was read, where no token is behind it.
+pub fn ended<'a, T: Drop>(read: Result<(T, &'a [Token]), Stop>) -> Result<T, Stop>
     ensures { Ends read.entry result }
 {
     let (item, rest) = read?;

@@ -19,8 +19,8 @@ pub(crate) fn begins(tokens: &[Token], mark: Mark) -> bool
     }
 }
 
-// The rest behind a mark.
-pub(crate) fn expect<'a>(tokens: &'a [Token], mark: Mark) -> Result<&'a [Token], Stop>
+/// The rest behind a mark.
+pub fn expect<'a>(tokens: &'a [Token], mark: Mark) -> Result<&'a [Token], Stop>
     ensures { Takes (g.kernel (g.mark mark)) tokens.now (λ rest. (tt, rest.now)) result }
 {
     match tokens.split_first() {
@@ -99,8 +99,8 @@ pub(crate) fn span_of(tokens: &[Token], rest: &[Token]) -> Span
     }
 }
 
-// The rest behind a mark, if it is first.
-pub(crate) fn behind<'a>(tokens: &'a [Token], mark: Mark) -> Option<&'a [Token]>
+/// The rest behind a mark, if it is first.
+pub fn behind<'a>(tokens: &'a [Token], mark: Mark) -> Option<&'a [Token]>
     ensures { MatchOption result (head_as (g.kernel (g.mark mark)) tokens.now ≡ None)
         (λ rest. (t : Token) × (tokens.now ≡ t ∷ rest.now) × (g.mark mark t.kernel ≡ Some tt)) }
 {

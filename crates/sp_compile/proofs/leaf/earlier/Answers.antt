@@ -10,7 +10,7 @@ use Rattle.sp_query.specs.declared.query.QueryColumn.{QueryColumn}
 use Rattle.sp_compile.specs.Answers.{bound_names}
 use Rattle.sp_compile.specs.Scopes.{Scope, column_place, name_place, binding_from, PatternName}
 use Rattle.sp_compile.specs.Sorts.{column_sort, earlier_sort}
-use Rattle.sp_compile.specs.Parts.{Made, Reads, earlier_datum}
+use Rattle.sp_compile.specs.Parts.{Anyway, Made, Reads, earlier_datum}
 use Rattle.sp_compile.proofs.EarlierNames.{among_first, binding_there}
 use Rattle.sp_compile.proofs.Sorted.{earlier_sorted, earlier_verdict, earlier_comes, earlier_sound}
 use Rattle.sp_compile.proofs.leaf.earlier.Goals as goal
@@ -39,10 +39,11 @@ returns c =
     ap (is_among (binding_from 0 scope.names)) (sym (zero-add number)) ∙ binding_there scope.names 0 number name name_inside (ap (λ (n : PatternName). n.negated) (sym name_is) ∙ bare) in
     let found : slice_get scope.names number ≡ Some name = slice_get-get_or scope.names number name name_inside ∙ ap (λ (n : PatternName). Some n) (sym name_is) in
     let few : column.kind ≡ w.Dec → column.digits ≤ 6 = subst (λ (l : QueryColumn). l.kind ≡ w.Dec → l.digits ≤ 6) (sym column_is) (c.requires.digits place column column_inside) in
-    let known : Made (earlier_sort scope c.args.span c.args.name.now c.args.text.now) (earlier_datum scope c.args.name.now c.args.text.now) (Reads scope) (Earlier number place, column_sort column) = record {
+    let known : Made (earlier_sort scope c.args.span c.args.name.now c.args.text.now) (earlier_datum scope c.args.name.now c.args.text.now) (Reads scope) Anyway (Earlier number place, column_sort column) = record {
       sort = earlier_verdict scope c.args.name.now c.args.text.now c.in-Some.here number place name column here_is named placed there c.args.span found bare element;
       sound = earlier_sound number place column few;
       comes = earlier_comes scope c.args.name.now c.args.text.now c.in-Some.here number place name column here_is named placed there;
       sorted = λ r reads. earlier_sorted scope r reads place column there number before binds;
+      reads = λ any. tt;
     } in
-    subst (λ sort. Made (earlier_sort scope c.args.span c.args.name.now c.args.text.now) (earlier_datum scope c.args.name.now c.args.text.now) (Reads scope) (Earlier number place, sort)) (sym c.column_sort.ensures) known
+    subst (λ sort. Made (earlier_sort scope c.args.span c.args.name.now c.args.text.now) (earlier_datum scope c.args.name.now c.args.text.now) (Reads scope) Anyway (Earlier number place, sort)) (sym c.column_sort.ensures) known

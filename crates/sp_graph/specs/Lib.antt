@@ -1,0 +1,5 @@
+pub mod Derived
+pub mod Returns
+pub mod Tables
+pub mod Answers
+pub mod Laws

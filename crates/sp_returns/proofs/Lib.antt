@@ -1,0 +1,12 @@
+pub mod Phrases
+pub mod Whole
+pub mod Places
+pub mod Alone
+pub mod Unique
+pub mod Readables
+pub mod Named
+pub mod Suiting
+pub mod Slots
+pub mod Returned
+pub mod Refusing
+pub mod OneReturns

@@ -1,0 +1,9 @@
+pub mod Grammar
+pub mod Follow
+pub mod Parses
+pub mod Scopes
+pub mod Checks
+pub mod Stands
+pub mod Answers
+pub mod Told
+pub mod Laws
