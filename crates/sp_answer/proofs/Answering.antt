@@ -2,7 +2,7 @@
 use Rattle.std.proofs.Common.{◌⊎◌, ◌≡◌, ◌≢◌, inl, inr, ℕ, Bool, false, List, refl, sym, subst}
 use Rattle.sp_io.specs.Outside.{ToldFiles, Gave, Grew, GrewWithin}
 use Rattle.sp_answer.specs.declared.status.Status.{Status}
-use Rattle.sp_answer.specs.declared.status.Status.TheVariants.{Done, DoneLate, Memory, Usage, Query, Input, Read, Write, Limited, Schedule}
+use Rattle.sp_answer.specs.declared.status.Status.TheVariants.{Done, DoneLate, Memory, Usage, Query, Second, Returns, Input, Read, Write, Limited, Schedule, ListingLine, ListingWindow}
 use Rattle.sp_answer.specs.Outcome.{Outcome, Ending, ending, ending_of, line_of}
 use Rattle.sp_answer.specs.Ran.{Outside, ReadsNoFurther, Ran, Made}
 use Rattle.sp_answer.specs.Promise.{Filed, FileTold, Answered, by_memory, by_file, by_refusal, by_run, by_itself, Served}
@@ -65,10 +65,14 @@ module _ (old new : Outside) (text : List ℕ) (told : Type 0) (cut : Type 0) wh
   begins (DoneLate rows) exact cut_off = grew_whole _ _ _ (exact (λ e. cc) (λ e. cc)).1
   begins Usage exact cut_off = grew_whole _ _ _ (exact (λ e. cc) (λ e. cc)).1
   begins (Query code place) exact cut_off = grew_whole _ _ _ (exact (λ e. cc) (λ e. cc)).1
+  begins (Second code place) exact cut_off = grew_whole _ _ _ (exact (λ e. cc) (λ e. cc)).1
+  begins (Returns code place) exact cut_off = grew_whole _ _ _ (exact (λ e. cc) (λ e. cc)).1
   begins (Input code row column) exact cut_off = grew_whole _ _ _ (exact (λ e. cc) (λ e. cc)).1
   begins Read exact cut_off = grew_whole _ _ _ (exact (λ e. cc) (λ e. cc)).1
   begins (Limited limit) exact cut_off = grew_whole _ _ _ (exact (λ e. cc) (λ e. cc)).1
   begins (Schedule at) exact cut_off = grew_whole _ _ _ (exact (λ e. cc) (λ e. cc)).1
+  begins (ListingLine line) exact cut_off = grew_whole _ _ _ (exact (λ e. cc) (λ e. cc)).1
+  begins (ListingWindow window) exact cut_off = grew_whole _ _ _ (exact (λ e. cc) (λ e. cc)).1
 
 -- want of memory may take the place of any other end of a run
 ran_short : (P : List ℕ → Bool → Outcome → Type 0) (old new : Outside) (end : Ending) → Ran P old new end → Ran P old new (ending Memory)

@@ -18,6 +18,11 @@ not_nil [] [] zs some none = some refl
 not_nil [] (y ∷ ys) zs some none = cc
 not_nil (x ∷ xs) ys zs some none = cc
 
+-- memory ran out, and the output did not fail
+err_not_failed : (result : Result Written AllocError) → IsErr result → result ≢ Ok Failed
+err_not_failed (Ok written) failed is = absurd (cc failed)
+err_not_failed (Err e) failed is = cc
+
 -- a piece of a text was written behind what had been written of it
 module _ (text front piece rest : List ℕ) (are : text ≡ front ++ (piece ++ rest)) (old mid new : SinkState) (grew : Grew old.held front mid.held) (quiet : mid.faults ≡ old.faults) where
   pub cut_within : WritesText piece mid new (Ok Failed) → WritesText text old new (Ok Failed)
@@ -34,6 +39,13 @@ module _ (text front piece rest : List ℕ) (are : text ≡ front ++ (piece ++ r
   pub begins_text : (result : Result Written AllocError) → IsErr result → WritesText text old mid result
   begins_text result failed =
       out_of_memory text old mid result failed (subst (λ (l : List ℕ). GrewWithin old.held l mid.held) (sym are) (within_all old.held mid.held front (piece ++ rest) grew)) quiet
+
+  -- memory ran out within a piece
+  pub piece_short : (own end : Result Written AllocError) → IsErr own → IsErr end → WritesText piece mid new own → WritesText text old new end
+  piece_short own end own_failed failed writes =
+      out_of_memory text old new end failed
+      (subst (λ (l : List ℕ). GrewWithin old.held l new.held) (sym are) (within_more old.held mid.held new.held front piece rest grew writes.within))
+      (writes.not_failed (err_not_failed own own_failed) ∙ quiet)
 
   pub piece_grew : WritesText piece mid new (Ok All) → Grew old.held (front ++ piece) new.held
   piece_grew writes = grew_more old.held mid.held new.held front piece grew (writes.all refl)

@@ -15,14 +15,23 @@ pub enum Status {
     Usage,
     /// The query's text has this fault, which stands there.
     Query { code: u8, place: u32 },
+    /// The second query of a graph has this fault, which stands there in its text.
+    Second { code: u8, place: u32 },
+    /// What the first query of a graph returns has this fault, which stands there in its text.
+    Returns { code: u8, place: u32 },
     /// A faulty row: the fault's code, the row and the cell's place.
     Input { code: u8, row: u32, column: u32 },
     Read,
     Write,
-    /// The input has more rows or more events than this, or the query or the schedule more bytes.
-    Limited { limit: u32 },
+    /// The input has more rows or more events than this, or the query, what it returns, the schedule or the listing more
+    /// bytes; or what is returned has a number past this in magnitude, or is so many events already.
+    Limited { limit: u64 },
     /// This line of a schedule, from 1, is the first that is neither blank nor a step.
     Schedule { line: u32 },
+    /// This line of a listing, from 1, is the first that is neither that of a window nor that of a match behind one.
+    ListingLine { line: u32 },
+    /// At this window, from 1, a listing first differs from that of the run.
+    ListingWindow { window: u32 },
 }
 
 impl Status {
@@ -34,7 +43,9 @@ impl Status {
             Status::Done | Status::DoneLate { rows: _ } => 0,
             Status::Memory => 1,
             Status::Usage => 2,
-            Status::Query { code: _, place: _ } => 3,
+            Status::Query { code: _, place: _ }
+            | Status::Second { code: _, place: _ }
+            | Status::Returns { code: _, place: _ } => 3,
             Status::Input {
                 code: _,
                 row: _,
@@ -44,6 +55,7 @@ impl Status {
             Status::Write => 6,
             Status::Limited { limit: _ } => 7,
             Status::Schedule { line: _ } => 8,
+            Status::ListingLine { line: _ } | Status::ListingWindow { window: _ } => 9,
         }
     }
 
@@ -57,6 +69,8 @@ impl Status {
             Status::Memory => String::from_str(alloc, "memory\n"),
             Status::Usage => String::from_str(alloc, "usage\n"),
             Status::Query { code, place } => format!(in alloc; "query code {code} at {place}\n"),
+            Status::Second { code, place } => format!(in alloc; "second code {code} at {place}\n"),
+            Status::Returns { code, place } => format!(in alloc; "return code {code} at {place}\n"),
             Status::Input { code, row, column } => {
                 format!(in alloc; "input code {code} row {row} column {column}\n")
             }
@@ -64,6 +78,8 @@ impl Status {
             Status::Write => String::from_str(alloc, "write fault\n"),
             Status::Limited { limit } => format!(in alloc; "limit {limit}\n"),
             Status::Schedule { line } => format!(in alloc; "schedule line {line}\n"),
+            Status::ListingLine { line } => format!(in alloc; "listing line {line}\n"),
+            Status::ListingWindow { window } => format!(in alloc; "listing window {window}\n"),
         }
     }
 }

@@ -12,7 +12,8 @@ use Rattle.clap.specs.declared.builder.command.Command.{Command}
 use Rattle.clap.specs.declared.error.Error.{Error}
 use Rattle.clap.specs.declared.error.kind.ErrorKind.TheVariants.{OutOfMemory}
 use Rattle.clap.specs.declared.parser.matches.ArgMatches.{ArgMatches}
-use Rattle.sp_cli.specs.Options.{found, unless_refused, no_options, with_query, with_speed, with_lateness, option, run_options, plain_options, trace_options, drill_options}
+use Rattle.sp_cli.specs.Numbers.{trees_number}
+use Rattle.sp_cli.specs.Options.{found, unless_refused, no_options, with_query, with_speed, with_lateness, with_number, with_proof, option, run_options, plain_options, trace_options, drill_options, check_options, graph_options}
 
 -- the options of each command are simple and free
 pub run_free : is_simple_and_free run_options ≡ true
@@ -31,14 +32,24 @@ pub drill_free : is_simple_and_free drill_options ≡ true
 unfolding drill_options
 drill_free = refl
 
+pub check_free : is_simple_and_free check_options ≡ true
+unfolding check_options
+check_free = refl
+
+pub graph_free : is_simple_and_free graph_options ≡ true
+unfolding graph_options
+graph_free = refl
+
 -- what is made from no options
 pub plain_from : (app with : App) → app ≡ no_options → with ≡ with_query app → with_lateness with ≡ plain_options
 unfolding plain_options
 plain_from app with e same = ap with_lateness (same ∙ ap with_query e)
 
-pub run_from : (app with more : App) → app ≡ no_options → with ≡ with_query app → more ≡ with_speed with → with_lateness more ≡ run_options
+pub run_from : (app with more late trees : App) → app ≡ no_options → with ≡ with_query app → more ≡ with_speed with → late ≡ with_lateness more
+    → trees ≡ with_number late trees_number → with_proof trees ≡ run_options
 unfolding run_options
-run_from app with more e same last = ap with_lateness (last ∙ ap with_speed (same ∙ ap with_query e))
+run_from app with more late trees e same last further most =
+    ap with_proof (most ∙ ap (λ (x : App). with_number x trees_number) (further ∙ ap with_lateness (last ∙ ap with_speed (same ∙ ap with_query e))))
 
 pub drill_from : (app : App) → app ≡ no_options → with_speed app ≡ drill_options
 unfolding drill_options
@@ -48,6 +59,16 @@ pub trace_from : (app with more : App) → app ≡ no_options → with ≡ with_
     → with_rule more (option (codes "live")) ≡ trace_options
 unfolding trace_options
 trace_from app with more e same last = ap (λ (x : App). with_rule x (option (codes "live"))) (last ∙ ap (λ (x : App). with_rule x (option (codes "schedule"))) (same ∙ ap with_query e))
+
+pub check_from : (app with : App) → app ≡ no_options → with ≡ with_query app → with_rule with (option (codes "list")) ≡ check_options
+unfolding check_options
+check_from app with e same = ap (λ (x : App). with_rule x (option (codes "list"))) (same ∙ ap with_query e)
+
+pub graph_from : (app with second returns : App) → app ≡ no_options → with ≡ with_query app → second ≡ with_rule with (option (codes "then"))
+    → returns ≡ with_rule second (option (codes "return")) → with_speed returns ≡ graph_options
+unfolding graph_options
+graph_from app with second returns e same next last =
+    ap with_speed (last ∙ ap (λ (x : App). with_rule x (option (codes "return"))) (next ∙ ap (λ (x : App). with_rule x (option (codes "then"))) (same ∙ ap with_query e)))
 
 -- a command that is made has the same options under another name
 pub made_as : {E : Type 0} (r : Result Command E) (app other : App) → app ≡ other → IfOk r (λ c. app_of c ≡ app) → IfOk r (λ c. app_of c ≡ other)

@@ -3,6 +3,7 @@ pub mod Speeds
 pub mod Found
 pub mod Walked
 pub mod Named
+pub mod Flagged
 pub mod PairsFound
 pub mod Within
 pub mod Worked

@@ -1,5 +1,5 @@
 -- Options by their names: a command's rules, made of the letters and the names of its options.
-use Rattle.std.proofs.Common.{◌≡◌, ◌∙◌, ℕ, Bool, true, false, not, ◌&&◌, ◌||◌, ◌==◌, List, [], ◌∷◌, Option, Some, None, if◌then◌else◌, cond, map, refl, sym, ap, ap₂, subst}
+use Rattle.std.proofs.Common.{◌≡◌, ◌∙◌, ℕ, Bool, true, false, not, ◌&&◌, ◌||◌, ◌==◌, List, [], ◌∷◌, ◌++◌, Option, Some, None, if◌then◌else◌, cond, map, refl, sym, ap, ap₂, subst}
 use Rattle.std.specs.Prelude.{codes}
 use Rattle.std.specs.List.{list_any, list_all, before_first, after_first}
 use Rattle.std.specs.Str.{bytes_eq}
@@ -75,30 +75,32 @@ module _ (s : Shape) (letter : Option ℕ) (id : Text) (ours : arg_by_id s.rules
 
 -- ---- the rule of a name
 
--- The rule that is found by the name is an option's of this name.
+-- The rule that is found by the name is an option's of this name; behind the rules of options others may stand.
 record Finds (rules : List Rule) (id : Text) : Type 0 where
   pub letter : Option ℕ
   pub ours : arg_by_id rules id ≡ Some (rule letter id)
   pub by_name : arg_by_long rules id ≡ Some (rule letter id)
 
-finds : (named : Named) (id : Text) → list_any (λ (one : Option ℕ × Text). bytes_eq one.1 id) named ≡ true → Finds (rules_of named) id
-finds [] id there = absurd (cc)
-finds (one ∷ named) id there = go (bytes_eq one.1 id) refl (finds named id)
+finds : (named : Named) (behind : List Rule) (id : Text) → list_any (λ (one : Option ℕ × Text). bytes_eq one.1 id) named ≡ true
+    → Finds (rules_of named ++ behind) id
+finds [] behind id there = absurd (cc)
+finds (one ∷ named) behind id there = go (bytes_eq one.1 id) refl (finds named behind id)
   where
-    go : (b : Bool) → bytes_eq one.1 id ≡ b → (list_any (λ (other : Option ℕ × Text). bytes_eq other.1 id) named ≡ true → Finds (rules_of named) id) → Finds (rules_of (one ∷ named)) id
+    go : (b : Bool) → bytes_eq one.1 id ≡ b → (list_any (λ (other : Option ℕ × Text). bytes_eq other.1 id) named ≡ true → Finds (rules_of named ++ behind) id)
+        → Finds (rules_of (one ∷ named) ++ behind) id
     go true e others =
         let same = ap (λ (name : Text). Some (rule one.0 name)) ((bytes_eq-Decides one.1 id).0 e) in
         record {
           letter = one.0;
-          ours = ap (λ b. cond b (Some (rule one.0 one.1)) (arg_by_id (rules_of named) id)) e ∙ same;
-          by_name = ap (λ b. cond (b || false) (Some (rule one.0 one.1)) (arg_by_long (rules_of named) id)) e ∙ same;
+          ours = ap (λ b. cond b (Some (rule one.0 one.1)) (arg_by_id (rules_of named ++ behind) id)) e ∙ same;
+          by_name = ap (λ b. cond (b || false) (Some (rule one.0 one.1)) (arg_by_long (rules_of named ++ behind) id)) e ∙ same;
         }
     go false e others =
         let later = others (ap (λ b. b || list_any (λ (other : Option ℕ × Text). bytes_eq other.1 id) named) (sym e) ∙ there) in
         record {
           letter = later.letter;
-          ours = ap (λ b. cond b (Some (rule one.0 one.1)) (arg_by_id (rules_of named) id)) e ∙ later.ours;
-          by_name = ap (λ b. cond (b || false) (Some (rule one.0 one.1)) (arg_by_long (rules_of named) id)) e ∙ later.by_name;
+          ours = ap (λ b. cond b (Some (rule one.0 one.1)) (arg_by_id (rules_of named ++ behind) id)) e ∙ later.ours;
+          by_name = ap (λ b. cond (b || false) (Some (rule one.0 one.1)) (arg_by_long (rules_of named ++ behind) id)) e ∙ later.by_name;
         }
 
 pick : (b : Bool) (text : Text) (other : Option Text) → b ≡ false → (if b then other else None) ≡ None
@@ -122,23 +124,25 @@ plain_more [] plain = absurd (cc)
 plain_more (x ∷ xs) plain = differ (45 ∷ 45 ∷ x ∷ xs) (45 ∷ 45 ∷ []) (λ e. cc)
 
 -- the name of one of a command's options, behind two hyphens, is the word of that option
-pub named_option : (s : Shape) (named : Named) (id : Text) → s.rules ≡ rules_of named → is_named named id ≡ true → IsOption s (45 ∷ 45 ∷ id) id
-named_option s named id are there =
+pub named_option : (s : Shape) (named : Named) (behind : List Rule) (id : Text) → s.rules ≡ rules_of named ++ behind → is_named named id ≡ true
+    → IsOption s (45 ∷ 45 ∷ id) id
+named_option s named behind id are there =
     let known = list_any (λ (one : Option ℕ × Text). bytes_eq one.1 id) named in
     let plain = second known (is_plain id) there in
-    let at = subst (λ (rules : List Rule). Finds rules id) (sym are) (finds named id (first known (is_plain id) there)) in
+    let at = subst (λ (rules : List Rule). Finds rules id) (sym are) (finds named behind id (first known (is_plain id) there)) in
     long_option s at.letter id at.ours at.by_name (plain_long id plain) (plain_more id plain)
 
 -- so is that of each option that says how a run works
-pub speed_option : (s : Shape) (named : Named) → s.rules ≡ rules_of named → list_all (λ (one : NumberOption). is_named named one.name) speed_numbers ≡ true
-    → is_named named (codes "predictor") ≡ true → (word id : Text) → IsSpeedName word id → IsOption s word id
-speed_option s named are all there w id (number one at) =
-    named_option s named one.name are (All-contains (λ (it : NumberOption). is_named named it.name ≡ true) speed_numbers one
+pub speed_option : (s : Shape) (named : Named) (behind : List Rule) → s.rules ≡ rules_of named ++ behind
+    → list_all (λ (one : NumberOption). is_named named one.name) speed_numbers ≡ true → is_named named (codes "predictor") ≡ true
+    → (word id : Text) → IsSpeedName word id → IsOption s word id
+speed_option s named behind are all there w id (number one at) =
+    named_option s named behind one.name are (All-contains (λ (it : NumberOption). is_named named it.name ≡ true) speed_numbers one
     (AllPass-from_list_all (λ (it : NumberOption). is_named named it.name) speed_numbers all) at)
-speed_option s named are all there w id predictor = named_option s named (codes "predictor") are there
+speed_option s named behind are all there w id predictor = named_option s named behind (codes "predictor") are there
 
 -- and that of each option that says which events come too late, and what becomes of them
-pub late_option : (s : Shape) (named : Named) → s.rules ≡ rules_of named → is_named named slack_number.name ≡ true → is_named named (codes "late") ≡ true
-    → (word id : Text) → IsLateName word id → IsOption s word id
-late_option s named are has_slack has_late w id slack = named_option s named slack_number.name are has_slack
-late_option s named are has_slack has_late w id late = named_option s named (codes "late") are has_late
+pub late_option : (s : Shape) (named : Named) (behind : List Rule) → s.rules ≡ rules_of named ++ behind → is_named named slack_number.name ≡ true
+    → is_named named (codes "late") ≡ true → (word id : Text) → IsLateName word id → IsOption s word id
+late_option s named behind are has_slack has_late w id slack = named_option s named behind slack_number.name are has_slack
+late_option s named behind are has_slack has_late w id late = named_option s named behind (codes "late") are has_late

@@ -7,9 +7,9 @@ use Rattle.std.specs.Str.Parse.{digits_value}
 use Rattle.clap.specs.Walk.{Row, Text, first_of}
 use Rattle.sp_base.specs.Limits.{event_limit}
 use Rattle.sp_slack.specs.declared.late.LateRule.{LateRule}
-use Rattle.sp_cli.specs.Numbers.{NumberOption, number, number_said, put_number, numbers_said, live_number, speed_numbers, slack_number, is_numeral, is_between}
-use Rattle.sp_cli.specs.Options.{found, run_options, plain_options, trace_options, drill_options}
-use Rattle.sp_cli.specs.Commands.{Command, QuerySource, Speed, run, plain, trace, drill, numbers_of, speed_of, predictor_by, live_in, source_in, speed_in, slack_in, late_in, run_of, plain_of, trace_of, drill_of, run_in, plain_in, trace_in, drill_at, run_at, plain_at, trace_at}
+use Rattle.sp_cli.specs.Numbers.{NumberOption, number, number_said, put_number, numbers_said, live_number, speed_numbers, slack_number, trees_number, is_numeral, is_between}
+use Rattle.sp_cli.specs.Options.{found, run_options, plain_options, trace_options, drill_options, check_options, graph_options}
+use Rattle.sp_cli.specs.Commands.{Command, QuerySource, Speed, run, plain, trace, drill, check, graph, numbers_of, speed_of, predictor_by, live_in, source_in, speed_in, slack_in, late_in, trees_in, proof_in, keep_predictors, run_of, plain_of, trace_of, drill_of, check_of, graph_of, run_in, plain_in, trace_in, check_in, graph_in, drill_at, run_at, plain_at, trace_at, check_at, graph_at}
 use Rattle.sp_cli.specs.Limits.{IsBetween, IsNumberOf, AreNumbersOf, IsSpeedWithin, IsSlackWithin, IsWithin, NumbersAreWithin}
 use Rattle.sp_cli.proofs.Numbers.{first, second, le_from}
 
@@ -86,13 +86,22 @@ slack_within rows =
     let said = first_of slack_number.name rows in
     slack_of_within (number_said slack_number said) (said_within slack_number refl said)
 
-run_within : (query : Option QuerySource) (speed : Option Speed) (slack : Option ℤ) (late : Option LateRule) → Has IsSpeedWithin speed → Has IsSlackWithin slack
-    → Has IsWithin (run_of query speed slack late)
-run_within None speed slack late hs h = has_none IsWithin
-run_within (Some query) None slack late hs h = has_none IsWithin
-run_within (Some query) (Some speed) None late hs h = has_none IsWithin
-run_within (Some query) (Some speed) (Some slack) None hs h = has_none IsWithin
-run_within (Some query) (Some speed) (Some slack) (Some late) hs h = has_some IsWithin (run query speed slack late) (hs speed refl, h slack refl)
+trees_within : (rows : List Row) → Has (IsNumberOf trees_number) (trees_in rows)
+trees_within rows = said_within trees_number refl (first_of trees_number.name rows)
+
+where_kept : (b : Bool) (command : Command) → IsWithin command → Has IsWithin (if b then Some command else None)
+where_kept true command within = has_some IsWithin command within
+where_kept false command within = has_none IsWithin
+
+run_within : (query : Option QuerySource) (speed : Option Speed) (slack : Option ℤ) (late : Option LateRule) (trees : Option ℕ) (proof : Bool)
+    → Has IsSpeedWithin speed → Has IsSlackWithin slack → Has (IsNumberOf trees_number) trees → Has IsWithin (run_of query speed slack late trees proof)
+run_within None speed slack late trees proof hs h ht = has_none IsWithin
+run_within (Some query) None slack late trees proof hs h ht = has_none IsWithin
+run_within (Some query) (Some speed) None late trees proof hs h ht = has_none IsWithin
+run_within (Some query) (Some speed) (Some slack) None trees proof hs h ht = has_none IsWithin
+run_within (Some query) (Some speed) (Some slack) (Some late) None proof hs h ht = has_none IsWithin
+run_within (Some query) (Some speed) (Some slack) (Some late) (Some trees) proof hs h ht =
+    where_kept (keep_predictors trees speed) (run query speed slack late trees proof) (hs speed refl, h slack refl, ht trees refl)
 
 plain_within : (query : Option QuerySource) (slack : Option ℤ) (late : Option LateRule) → Has IsSlackWithin slack → Has IsWithin (plain_of query slack late)
 plain_within None slack late h = has_none IsWithin
@@ -113,6 +122,19 @@ drill_within (Some events) None speed he hs h = has_none IsWithin
 drill_within (Some events) (Some seed) None he hs h = has_none IsWithin
 drill_within (Some events) (Some seed) (Some speed) he hs h = has_some IsWithin (drill events seed speed) (he events refl, hs seed refl, h speed refl)
 
+check_within : (query : Option QuerySource) (list : Option Text) → Has IsWithin (check_of query list)
+check_within None list = has_none IsWithin
+check_within (Some query) None = has_none IsWithin
+check_within (Some query) (Some list) = has_some IsWithin (check query list) tt
+
+graph_within : (query : Option QuerySource) (second returns : Option Text) (speed : Option Speed) → Has IsSpeedWithin speed
+    → Has IsWithin (graph_of query second returns speed)
+graph_within None second returns speed h = has_none IsWithin
+graph_within (Some query) None returns speed h = has_none IsWithin
+graph_within (Some query) (Some second) None speed h = has_none IsWithin
+graph_within (Some query) (Some second) (Some returns) None h = has_none IsWithin
+graph_within (Some query) (Some second) (Some returns) (Some speed) h = has_some IsWithin (graph query second returns speed) (h speed refl)
+
 behind : {X : Type 0} (P : X → Type 0) (read : List Row → Option X) → ((rows : List Row) → Has P (read rows)) → (o : Option (List Row)) → Has P (option_and_then read o)
 behind P read h None = has_none P
 behind P read h (Some rows) = h rows
@@ -130,13 +152,15 @@ either false one other h k = k
 pub numbers_are_within : NumbersAreWithin
 numbers_are_within [] = has_none IsWithin
 numbers_are_within (name ∷ words) =
-    let runs = behind IsWithin run_in (λ rows. run_within (source_in rows) (speed_in rows) (slack_in rows) (late_in rows) (speed_within rows) (slack_within rows)) (found run_options words) in
+    let runs = behind IsWithin run_in (λ rows. run_within (source_in rows) (speed_in rows) (slack_in rows) (late_in rows) (trees_in rows) (proof_in rows) (speed_within rows) (slack_within rows) (trees_within rows)) (found run_options words) in
     let plains = behind IsWithin plain_in (λ rows. plain_within (source_in rows) (slack_in rows) (late_in rows) (slack_within rows)) (found plain_options words) in
     let traces = behind IsWithin trace_in (λ rows. trace_within (source_in rows) (first_of (codes "schedule") rows) (live_in rows) (live_within rows)) (found trace_options words) in
-    let is_drill = bytes_eq name (codes "drill") in
-    let is_trace = bytes_eq name (codes "trace") in
-    let drills = either is_drill (drill_at words) None (drill_at_within words) (has_none IsWithin) in
-    let later = either is_trace (trace_at words) (if is_drill then drill_at words else None) traces drills in
-    let others = either (bytes_eq name (codes "plain")) (plain_at words) (if is_trace then trace_at words else (if is_drill then drill_at words else None)) plains later in
-    either (bytes_eq name (codes "run")) (run_at words)
-    (if bytes_eq name (codes "plain") then plain_at words else (if is_trace then trace_at words else (if is_drill then drill_at words else None))) runs others
+    let checks = behind IsWithin check_in (λ rows. check_within (source_in rows) (first_of (codes "list") rows)) (found check_options words) in
+    let graphs = behind IsWithin graph_in (λ rows. graph_within (source_in rows) (first_of (codes "then") rows) (first_of (codes "return") rows) (speed_in rows) (speed_within rows)) (found graph_options words) in
+    named (codes "run") run_at runs (named (codes "plain") plain_at plains (named (codes "trace") trace_at traces
+    (named (codes "drill") drill_at (drill_at_within words) (named (codes "check") check_at checks
+    (named (codes "graph") graph_at graphs (has_none IsWithin))))))
+  where
+    named : (wanted : Text) (at : List Text → Option Command) {other : Option Command} → Has IsWithin (at words) → Has IsWithin other
+        → Has IsWithin (if bytes_eq name wanted then at words else other)
+    named wanted at {other} one rest = either (bytes_eq name wanted) (at words) other one rest

@@ -1,11 +1,11 @@
 -- The definition of words tried on rows, by computation.
-use Rattle.std.proofs.Common.{◌≡◌, ◌==◌, ℕ, pos, List, [], ◌∷◌, Option, Some, None, if◌then◌else◌, map, refl}
+use Rattle.std.proofs.Common.{◌≡◌, ◌==◌, ℕ, pos, true, false, List, [], ◌∷◌, Option, Some, None, if◌then◌else◌, map, refl}
 use Rattle.std.specs.Prelude.{codes}
 use Rattle.clap.proofs.OnLiterals.{clap_on_literals}
 use Rattle.sp_slack.specs.declared.late.LateRule.{LateRule}
 use Rattle.sp_slack.specs.declared.late.LateRule.TheVariants.{Refuse, Drop}
-use Rattle.sp_cli.specs.Options.{found, run_options, plain_options, trace_options, drill_options}
-use Rattle.sp_cli.specs.Commands.{Command, QuerySource, Speed, run, plain, trace, drill, text, file, command_of}
+use Rattle.sp_cli.specs.Options.{found, run_options, plain_options, trace_options, drill_options, check_options, graph_options}
+use Rattle.sp_cli.specs.Commands.{Command, QuerySource, Speed, run, plain, trace, drill, check, graph, text, file, command_of}
 
 -- the words of a line, with one blank between any two
 abbrev onto : ℕ → List (List ℕ) → List (List ℕ)
@@ -41,10 +41,16 @@ abbrev plain_q : Option Command
 plain_q = of_order q
 
 abbrev run_q : Speed → Option Command
-run_q how = Some (run q how (pos 0) Refuse)
+run_q how = Some (run q how (pos 0) Refuse 1 false)
 
 abbrev run_behind : ℕ → LateRule → Option Command
-run_behind slack late = Some (run q usual (pos slack) late)
+run_behind slack late = Some (run q usual (pos slack) late 1 false)
+
+abbrev run_apart : ℕ → Option Command
+run_apart trees = Some (run q usual (pos 0) Refuse trees false)
+
+abbrev run_listed : QuerySource → Option Command
+run_listed source = Some (run source usual (pos 0) Refuse 1 true)
 
 abbrev plain_behind : ℕ → LateRule → Option Command
 plain_behind slack late = Some (plain q (pos slack) late)
@@ -157,9 +163,39 @@ late_is_one_of_two_words :
 unfolding clap_on_literals found run_options
 late_is_one_of_two_words = refl
 
+trees_within_limits :
+    map of (codes "run -q Q --trees 1" ∷ codes "run -q Q --trees 16" ∷ codes "run -q Q --trees 0" ∷ codes "run -q Q --trees 17" ∷ codes "run -q Q --trees +2" ∷ codes "run -q Q --trees=0000000002" ∷ codes "run -q Q --trees 2 --trees 2" ∷ [])
+    ≡ run_q usual ∷ run_apart 16 ∷ None ∷ None ∷ None ∷ run_apart 2 ∷ None ∷ []
+unfolding clap_on_literals found run_options
+trees_within_limits = refl
+
+a_flag_first_between_and_last :
+    map of (codes "run --proof -q Q" ∷ codes "run -f F --proof --live 64" ∷ codes "run -q Q --proof" ∷ codes "run -qQ --proof" ∷ codes "run -q Q" ∷ [])
+    ≡ run_listed q ∷ run_listed (file (codes "F")) ∷ run_listed q ∷ run_listed q ∷ run_q usual ∷ []
+unfolding clap_on_literals found run_options
+a_flag_first_between_and_last = refl
+
+a_flag_has_no_value_and_stands_once :
+    map of (codes "run -q Q --proof --proof" ∷ codes "run --proof -q Q --live 1 --proof" ∷ codes "run -q Q --proof=true" ∷ codes "run -q Q --proof=false" ∷ codes "run -q Q --proof=" ∷ codes "run -q Q --proof true" ∷ [])
+    ≡ None ∷ None ∷ None ∷ None ∷ None ∷ None ∷ []
+unfolding clap_on_literals found run_options
+a_flag_has_no_value_and_stands_once = refl
+
+a_flag_is_no_value_of_an_option :
+    map of (codes "run -q --proof" ∷ codes "run -q Q --predictor --proof" ∷ codes "run --proof" ∷ codes "run -q Q -proof" ∷ codes "run -q Q --proo" ∷ codes "run -q Q -- --proof" ∷ codes "run -q --proof Q" ∷ codes "run -q=--proof" ∷ [])
+    ≡ None ∷ None ∷ None ∷ None ∷ None ∷ None ∷ None ∷ Some (run (text (codes "--proof")) usual (pos 0) Refuse 1 false) ∷ []
+unfolding clap_on_literals found run_options
+a_flag_is_no_value_of_an_option = refl
+
+no_predictor_rotates_among_trees :
+    map of (codes "run -q Q --trees 2 --rotate 0" ∷ codes "run -q Q --trees 2 --rotate 3" ∷ codes "run -q Q --rotate 3 --trees 1" ∷ [])
+    ≡ run_apart 2 ∷ None ∷ run_q (rotating 3) ∷ []
+unfolding clap_on_literals found run_options
+no_predictor_rotates_among_trees = refl
+
 the_same_of_plain :
-    map of (codes "plain --late drop -q Q --slack=2" ∷ codes "plain -q Q --slack 1000000000000000" ∷ codes "plain -q Q --slack 1000000000000001" ∷ codes "plain -q Q --late keep" ∷ codes "plain -q Q --slack 1 --slack 1" ∷ [])
-    ≡ plain_behind 2 Drop ∷ plain_behind 1000000000000000 Refuse ∷ None ∷ None ∷ None ∷ []
+    map of (codes "plain --late drop -q Q --slack=2" ∷ codes "plain -q Q --slack 1000000000000000" ∷ codes "plain -q Q --slack 1000000000000001" ∷ codes "plain -q Q --late keep" ∷ codes "plain -q Q --slack 1 --slack 1" ∷ codes "plain -q Q --trees 1" ∷ codes "plain -q Q --proof" ∷ [])
+    ≡ plain_behind 2 Drop ∷ plain_behind 1000000000000000 Refuse ∷ None ∷ None ∷ None ∷ None ∷ None ∷ []
 unfolding clap_on_literals found plain_options
 the_same_of_plain = refl
 
@@ -182,8 +218,8 @@ unfolding clap_on_literals found run_options
 an_option_twice = refl
 
 the_options_of_a_trace :
-    map of (codes "trace -q Q --schedule S" ∷ codes "trace --live=4096 --schedule=S -f F" ∷ codes "trace -q Q" ∷ codes "trace -q Q --schedule S --live 4097" ∷ codes "trace -q Q --schedule S --batch 1" ∷ codes "trace -q Q --schedule S --rotate 1" ∷ codes "trace -q Q --schedule S --slack 1" ∷ codes "trace -q Q --schedule S --late drop" ∷ [])
-    ≡ Some (trace q (codes "S") 64) ∷ Some (trace (file (codes "F")) (codes "S") 4096) ∷ None ∷ None ∷ None ∷ None ∷ None ∷ None ∷ []
+    map of (codes "trace -q Q --schedule S" ∷ codes "trace --live=4096 --schedule=S -f F" ∷ codes "trace -q Q" ∷ codes "trace -q Q --schedule S --live 4097" ∷ codes "trace -q Q --schedule S --batch 1" ∷ codes "trace -q Q --schedule S --rotate 1" ∷ codes "trace -q Q --schedule S --slack 1" ∷ codes "trace -q Q --schedule S --late drop" ∷ codes "trace -q Q --schedule S --trees 1" ∷ codes "trace -q Q --schedule S --proof" ∷ [])
+    ≡ Some (trace q (codes "S") 64) ∷ Some (trace (file (codes "F")) (codes "S") 4096) ∷ None ∷ None ∷ None ∷ None ∷ None ∷ None ∷ None ∷ None ∷ []
 unfolding clap_on_literals found trace_options
 the_options_of_a_trace = refl
 
@@ -194,7 +230,52 @@ unfolding clap_on_literals found drill_options
 the_words_of_a_drill = refl
 
 both_numbers_of_a_drill :
-    map of (codes "drill" ∷ codes "drill 8" ∷ codes "drill +8 7" ∷ codes "drill 8 +7" ∷ codes "drill 8 7 -q Q" ∷ codes "drill --live 1 8 7" ∷ codes "drill 8 7 9" ∷ codes "drill 8 7 --slack 1" ∷ codes "drill 8 7 --late drop" ∷ [])
-    ≡ None ∷ None ∷ None ∷ None ∷ None ∷ None ∷ None ∷ None ∷ None ∷ []
+    map of (codes "drill" ∷ codes "drill 8" ∷ codes "drill +8 7" ∷ codes "drill 8 +7" ∷ codes "drill 8 7 -q Q" ∷ codes "drill --live 1 8 7" ∷ codes "drill 8 7 9" ∷ codes "drill 8 7 --slack 1" ∷ codes "drill 8 7 --late drop" ∷ codes "drill 8 7 --trees 1" ∷ codes "drill 8 7 --proof" ∷ [])
+    ≡ None ∷ None ∷ None ∷ None ∷ None ∷ None ∷ None ∷ None ∷ None ∷ None ∷ None ∷ []
 unfolding clap_on_literals found drill_options
 both_numbers_of_a_drill = refl
+
+the_options_of_a_check :
+    map of (codes "check -q Q --list L" ∷ codes "check --list L -f F" ∷ codes "check --list=L -qQ" ∷ [])
+    ≡ Some (check q (codes "L")) ∷ Some (check (file (codes "F")) (codes "L")) ∷ Some (check q (codes "L")) ∷ []
+unfolding clap_on_literals found check_options
+the_options_of_a_check = refl
+
+a_check_needs_a_query_and_a_list :
+    map of (codes "check -q Q" ∷ codes "check --list L" ∷ codes "check" ∷ codes "check -q Q -f F --list L" ∷ codes "check -q Q --list" ∷ codes "check -q Q L" ∷ codes "check -q Q --list L --list L" ∷ codes "check -q Q --list -L" ∷ [])
+    ≡ None ∷ None ∷ None ∷ None ∷ None ∷ None ∷ None ∷ None ∷ []
+unfolding clap_on_literals found check_options
+a_check_needs_a_query_and_a_list = refl
+
+nothing_else_in_a_check :
+    map of (codes "check -q Q --list L --proof" ∷ codes "check -q Q --list L --slack 1" ∷ codes "check -q Q --list L --late drop" ∷ codes "check -q Q --list L --trees 1" ∷ codes "check -q Q --list L --live 1" ∷ codes "plain -q Q --list L" ∷ [])
+    ≡ None ∷ None ∷ None ∷ None ∷ None ∷ None ∷ []
+unfolding clap_on_literals found check_options plain_options
+nothing_else_in_a_check = refl
+
+abbrev graph_q : Speed → Option Command
+graph_q how = Some (graph q (codes "S") (codes "R") how)
+
+the_options_of_a_graph :
+    map of (codes "graph -q Q --then S --return R" ∷ codes "graph --return=R --live 3 --then=S -qQ" ∷ codes "graph --rotate 5 -f F --return R --then S" ∷ codes "graph -q Q --return S --then R" ∷ [])
+    ≡ graph_q usual ∷ graph_q (speed 2 3 64 (codes "markov")) ∷ Some (graph (file (codes "F")) (codes "S") (codes "R") (rotating 5)) ∷ Some (graph q (codes "R") (codes "S") usual) ∷ []
+unfolding clap_on_literals found graph_options
+the_options_of_a_graph = refl
+
+a_graph_needs_three_texts :
+    map of (codes "graph --then S --return R" ∷ codes "graph -q Q --return R" ∷ codes "graph -q Q --then S" ∷ codes "graph" ∷ codes "graph -q Q --then S --return" ∷ codes "graph -q Q S --return R" ∷ codes "graph -q Q -f F --then S --return R" ∷ codes "graph -q Q --then S --then S --return R" ∷ [])
+    ≡ None ∷ None ∷ None ∷ None ∷ None ∷ None ∷ None ∷ None ∷ []
+unfolding clap_on_literals found graph_options
+a_graph_needs_three_texts = refl
+
+the_texts_of_a_graph :
+    map of (codes "graph -q Q --then -S --return R" ∷ codes "graph -q Q --then S --return -R" ∷ codes "graph -q Q --then=-S --return R" ∷ codes "graph -q Q --then= --return R" ∷ [])
+    ≡ None ∷ None ∷ Some (graph q (codes "-S") (codes "R") usual) ∷ Some (graph q [] (codes "R") usual) ∷ []
+unfolding clap_on_literals found graph_options
+the_texts_of_a_graph = refl
+
+nothing_else_in_a_graph :
+    map of (codes "graph -q Q --then S --return R --slack 1" ∷ codes "graph -q Q --then S --return R --late drop" ∷ codes "graph -q Q --then S --return R --trees 1" ∷ codes "graph -q Q --then S --return R --proof" ∷ codes "graph -q Q --then S --return R --instances 17" ∷ codes "run -q Q --then S" ∷ codes "run -q Q --return R" ∷ [])
+    ≡ None ∷ None ∷ None ∷ None ∷ None ∷ None ∷ None ∷ []
+unfolding clap_on_literals found graph_options run_options
+nothing_else_in_a_graph = refl

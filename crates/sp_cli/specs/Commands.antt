@@ -1,5 +1,5 @@
 -- Which command words are.
-use Rattle.std.specs.Prelude.{ℕ, ℤ, pos, List, [], ◌∷◌, Option, Some, None, if◌then◌else◌, option_and_then, option_map, string_bytes, unwrap_or, codes}
+use Rattle.std.specs.Prelude.{ℕ, ℤ, pos, Bool, false, List, [], ◌∷◌, Option, Some, None, ◌||◌, ◌==◌, nat_le, if◌then◌else◌, option_and_then, option_map, string_bytes, unwrap_or, codes}
 use Rattle.std.specs.Str.{bytes_eq}
 use Rattle.clap.specs.Walk.{Row, Text, first_of, rows_of}
 use Rattle.clap.specs.Matches.{found_of}
@@ -7,8 +7,8 @@ use Rattle.clap.specs.declared.parser.matches.ArgMatches.{ArgMatches}
 use Rattle.sp_base.specs.Limits.{event_limit}
 use Rattle.sp_slack.specs.declared.late.LateRule.{LateRule}
 use Rattle.sp_slack.specs.declared.late.LateRule.TheVariants.{Refuse, Drop}
-use Rattle.sp_cli.specs.Numbers.{NumberOption, number, number_said, numbers_said, live_number, speed_numbers, slack_number}
-use Rattle.sp_cli.specs.Options.{found, run_options, plain_options, trace_options, drill_options}
+use Rattle.sp_cli.specs.Numbers.{NumberOption, number, number_said, numbers_said, live_number, speed_numbers, slack_number, trees_number}
+use Rattle.sp_cli.specs.Options.{found, run_options, plain_options, trace_options, drill_options, check_options, graph_options}
 use Rattle.sp_cli.specs.declared.command.Command.{Command as FoundCommand}
 use Rattle.sp_cli.specs.declared.command.Command.TheVariants as c
 use Rattle.sp_cli.specs.declared.command.QuerySource.{QuerySource as FoundSource}
@@ -40,13 +40,16 @@ speed_of (instances ∷ live ∷ batch ∷ rotate ∷ []) predictor =
     Some (record { instances = instances; live = live; batch = batch; predictor = predictor; rotate = rotate })
 speed_of _ predictor = None
 
--- A run of a query, the same window by window, a run of the machine over a schedule's file, or a run over generated rows. The first two say how
--- far behind the greatest time before it an event may come, and what becomes of one that comes later.
+-- A run of a query, the same window by window, a run of the machine over a schedule's file, a run over generated rows, the check of a listing's file,
+-- or a run of a second query over what the matches of the first return. The first two say how far behind the greatest time before it an event may
+-- come, and what becomes of one that comes later; the first also how many trees it has, and whether it lists the proofs of its windows.
 pub data Command : Type 0 where
-  run : (query : QuerySource) → (speed : Speed) → (slack : ℤ) → (late : LateRule) → Command
+  run : (query : QuerySource) → (speed : Speed) → (slack : ℤ) → (late : LateRule) → (trees : ℕ) → (proof : Bool) → Command
   plain : (query : QuerySource) → (slack : ℤ) → (late : LateRule) → Command
   trace : (query : QuerySource) → (schedule : Text) → (live : ℕ) → Command
   drill : (events : ℕ) → (seed : ℕ) → (speed : Speed) → Command
+  check : (query : QuerySource) → (list : Text) → Command
+  graph : (query : QuerySource) → (second : Text) → (returns : Text) → (speed : Speed) → Command
 
 -- one of the two says where the query stands, and the other is left out
 abbrev pub one_source : Option Text → Option Text → Option QuerySource
@@ -60,8 +63,13 @@ abbrev pub late_named : Option Text → Option LateRule
 late_named None = Some Refuse
 late_named (Some word) = if bytes_eq word (codes "refuse") then Some Refuse else (if bytes_eq word (codes "drop") then Some Drop else None)
 
--- what options say of where the query stands, of how many versions may be live, of how a run works, and of events that come too late, by the text
--- that stands for each name
+-- a flag says `true` where it stands, and no other text
+abbrev pub is_on : Option Text → Bool
+is_on None = false
+is_on (Some word) = bytes_eq word (codes "true")
+
+-- what options say of where the query stands, of how many versions may be live, of how a run works, of events that come too late, of how many
+-- trees a run has, and of whether it lists the proofs of its windows, by the text that stands for each name
 abbrev pub source_by : (Text → Option Text) → Option QuerySource
 source_by text_of = one_source (text_of (codes "query")) (text_of (codes "file"))
 
@@ -80,6 +88,12 @@ slack_by text_of = option_map pos (number_said slack_number (text_of slack_numbe
 abbrev pub late_by : (Text → Option Text) → Option LateRule
 late_by text_of = late_named (text_of (codes "late"))
 
+abbrev pub trees_by : (Text → Option Text) → Option ℕ
+trees_by text_of = number_said trees_number (text_of trees_number.name)
+
+abbrev pub proof_by : (Text → Option Text) → Bool
+proof_by text_of = is_on (text_of (codes "proof"))
+
 -- the same of options that were found
 abbrev pub source_in : List Row → Option QuerySource
 source_in rows = source_by (λ name. first_of name rows)
@@ -96,9 +110,20 @@ slack_in rows = slack_by (λ name. first_of name rows)
 abbrev pub late_in : List Row → Option LateRule
 late_in rows = late_by (λ name. first_of name rows)
 
-abbrev pub run_of : Option QuerySource → Option Speed → Option ℤ → Option LateRule → Option Command
-run_of (Some query) (Some speed) (Some slack) (Some late) = Some (run query speed slack late)
-run_of _ _ _ _ = None
+abbrev pub trees_in : List Row → Option ℕ
+trees_in rows = trees_by (λ name. first_of name rows)
+
+abbrev pub proof_in : List Row → Bool
+proof_in rows = proof_by (λ name. first_of name rows)
+
+-- where there are several trees, each keeps its predictor
+abbrev pub keep_predictors : ℕ → Speed → Bool
+keep_predictors trees speed = nat_le trees 1 || speed.rotate == 0
+
+abbrev pub run_of : Option QuerySource → Option Speed → Option ℤ → Option LateRule → Option ℕ → Bool → Option Command
+run_of (Some query) (Some speed) (Some slack) (Some late) (Some trees) proof =
+    if keep_predictors trees speed then Some (run query speed slack late trees proof) else None
+run_of _ _ _ _ _ proof = None
 
 abbrev pub plain_of : Option QuerySource → Option ℤ → Option LateRule → Option Command
 plain_of (Some query) (Some slack) (Some late) = Some (plain query slack late)
@@ -112,15 +137,29 @@ abbrev pub drill_of : Option ℕ → Option ℕ → Option Speed → Option Comm
 drill_of (Some events) (Some seed) (Some speed) = Some (drill events seed speed)
 drill_of _ _ _ = None
 
+abbrev pub check_of : Option QuerySource → Option Text → Option Command
+check_of (Some query) (Some list) = Some (check query list)
+check_of _ _ = None
+
+abbrev pub graph_of : Option QuerySource → Option Text → Option Text → Option Speed → Option Command
+graph_of (Some query) (Some second) (Some returns) (Some speed) = Some (graph query second returns speed)
+graph_of _ _ _ _ = None
+
 -- the command of each name, by what is found behind it
 abbrev pub run_in : List Row → Option Command
-run_in rows = run_of (source_in rows) (speed_in rows) (slack_in rows) (late_in rows)
+run_in rows = run_of (source_in rows) (speed_in rows) (slack_in rows) (late_in rows) (trees_in rows) (proof_in rows)
 
 abbrev pub plain_in : List Row → Option Command
 plain_in rows = plain_of (source_in rows) (slack_in rows) (late_in rows)
 
 abbrev pub trace_in : List Row → Option Command
 trace_in rows = trace_of (source_in rows) (first_of (codes "schedule") rows) (live_in rows)
+
+abbrev pub check_in : List Row → Option Command
+check_in rows = check_of (source_in rows) (first_of (codes "list") rows)
+
+abbrev pub graph_in : List Row → Option Command
+graph_in rows = graph_of (source_in rows) (first_of (codes "then") rows) (first_of (codes "return") rows) (speed_in rows)
 
 -- the command of each name, by the words behind it
 abbrev pub run_at : List Text → Option Command
@@ -131,6 +170,12 @@ plain_at words = option_and_then plain_in (found plain_options words)
 
 abbrev pub trace_at : List Text → Option Command
 trace_at words = option_and_then trace_in (found trace_options words)
+
+abbrev pub check_at : List Text → Option Command
+check_at words = option_and_then check_in (found check_options words)
+
+abbrev pub graph_at : List Text → Option Command
+graph_at words = option_and_then graph_in (found graph_options words)
 
 -- the two words behind `drill` are its events and its seed
 abbrev pub drill_at : List Text → Option Command
@@ -143,7 +188,9 @@ command_at name words =
     if bytes_eq name (codes "run") then run_at words
     else (if bytes_eq name (codes "plain") then plain_at words
     else (if bytes_eq name (codes "trace") then trace_at words
-    else (if bytes_eq name (codes "drill") then drill_at words else None)))
+    else (if bytes_eq name (codes "drill") then drill_at words
+    else (if bytes_eq name (codes "check") then check_at words
+    else (if bytes_eq name (codes "graph") then graph_at words else None)))))
 
 -- The command that the words are, or none: the first word is its name.
 abbrev pub command_of : List Text → Option Command
@@ -172,7 +219,9 @@ abbrev pub number_seen : FoundNumber → NumberOption
 number_seen one = record { name = one.name.now; digits = 10; least = one.least; greatest = one.greatest; left_out = one.left_out }
 
 abbrev pub seen : FoundCommand → Command
-seen (c.Run query speed slack late) = run (source_seen query) (speed_seen speed) slack late
+seen (c.Run query speed slack late trees proof) = run (source_seen query) (speed_seen speed) slack late trees proof
 seen (c.Plain query slack late) = plain (source_seen query) slack late
 seen (c.Trace query schedule live) = trace (source_seen query) (string_bytes schedule) live
 seen (c.Drill events seed speed) = drill events seed (speed_seen speed)
+seen (c.Check query list) = check (source_seen query) (string_bytes list)
+seen (c.Graph query second returns speed) = graph (source_seen query) (string_bytes second) (string_bytes returns) (speed_seen speed)

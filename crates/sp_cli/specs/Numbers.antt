@@ -42,6 +42,10 @@ speed_numbers =
 abbrev pub slack_number : NumberOption
 slack_number = record { name = codes "slack"; digits = 16; least = 0; greatest = number_limit; left_out = 0 }
 
+-- how many trees a run has
+abbrev pub trees_number : NumberOption
+trees_number = record { name = codes "trees"; digits = 10; least = 1; greatest = 16; left_out = 1 }
+
 -- the number that the text of such an option says
 abbrev pub number_said : NumberOption → Option (List ℕ) → Option ℕ
 number_said one None = Some one.left_out

@@ -4,8 +4,8 @@ use Rattle.clap.specs.Walk.{Row, Rule, Text}
 use Rattle.clap.specs.Simple.{App, matches_of, new_app, new_rule, on_top, with_rule}
 use Rattle.clap.specs.Faults.{fault_of}
 use Rattle.clap.specs.Kinds.{Kinds}
-use Rattle.clap.specs.declared.builder.action.ArgAction.TheVariants.{Set}
-use Rattle.sp_cli.specs.Numbers.{NumberOption, speed_numbers, slack_number}
+use Rattle.clap.specs.declared.builder.action.ArgAction.TheVariants.{Set, SetTrue}
+use Rattle.sp_cli.specs.Numbers.{NumberOption, speed_numbers, slack_number, trees_number}
 
 -- an option of one text, by its long name
 abbrev pub option : Text → Rule
@@ -14,6 +14,10 @@ option name = record (new_rule name) { long = Some name; action = Some Set }
 -- the same with a short name
 abbrev pub option_or_letter : ℕ → Text → Rule
 option_or_letter letter name = record (option name) { short = Some letter }
+
+-- a flag, by its long name: a word alone
+abbrev pub flag : Text → Rule
+flag name = record (new_rule name) { long = Some name; action = Some SetTrue }
 
 -- No options: every word counts, and none asks for help.
 abbrev pub no_options : App
@@ -34,8 +38,12 @@ with_speed app = with_rule (fold with_number app speed_numbers) (option (codes "
 abbrev pub with_lateness : App → App
 with_lateness app = with_rule (with_number app slack_number) (option (codes "late"))
 
+-- whether a run lists the proofs of its windows
+abbrev pub with_proof : App → App
+with_proof app = with_rule app (flag (codes "proof"))
+
 unfoldable pub run_options : App
-run_options = with_lateness (with_speed (with_query no_options))
+run_options = with_proof (with_number (with_lateness (with_speed (with_query no_options))) trees_number)
 
 unfoldable pub plain_options : App
 plain_options = with_lateness (with_query no_options)
@@ -45,6 +53,12 @@ trace_options = with_rule (with_rule (with_query no_options) (option (codes "sch
 
 unfoldable pub drill_options : App
 drill_options = with_speed no_options
+
+unfoldable pub check_options : App
+check_options = with_rule (with_query no_options) (option (codes "list"))
+
+unfoldable pub graph_options : App
+graph_options = with_speed (with_rule (with_rule (with_query no_options) (option (codes "then"))) (option (codes "return")))
 
 abbrev pub unless_refused : Kinds → List Row → Option (List Row)
 unless_refused [] rows = Some rows

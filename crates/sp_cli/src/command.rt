@@ -31,12 +31,16 @@ pub struct Speed {
 #[derive(Debug, Drop, PartialEq)]
 pub enum Command {
     /// A query over the input, by the speculative engine. An event may come behind the greatest time before it, by
-    /// the slack, 0 to 1,000,000,000,000,000; the rule says what becomes of one that comes later.
+    /// the slack, 0 to 1,000,000,000,000,000; the rule says what becomes of one that comes later. Parts of the
+    /// input that share no event are driven in so many trees, 1 to 16; with more than one, no predictor takes
+    /// another's place. Where proofs are asked for, the listing of its windows is written in place of its lines.
     Run {
         query: QuerySource,
         speed: Speed,
         slack: i64,
         late: LateRule,
+        trees: u32,
+        proof: bool,
     },
     /// The same window by window.
     Plain {
@@ -54,6 +58,19 @@ pub enum Command {
     Drill {
         events: u32,
         seed: u32,
+        speed: Speed,
+    },
+    /// A listing, in the file of this name, held against the query over the input.
+    Check {
+        query: QuerySource,
+        list: String,
+    },
+    /// A run of the second query, in the text `then`, over what the matches of the first return: an event each, as
+    /// the text `returns` says.
+    Graph {
+        query: QuerySource,
+        then: String,
+        returns: String,
         speed: Speed,
     },
 }

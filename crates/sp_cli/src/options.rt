@@ -2,11 +2,11 @@
 ghost use Rattle.std.specs.Prelude.{◌≡◌, Some, None, true, false, fold, map, IfOk, IfErr, string_bytes};
 ghost use Rattle.clap.specs.Words.{app_of, rule_of, with_rule, is_simple_and_free};
 ghost use Rattle.sp_cli.specs.Commands.{number_seen, rows_in};
-ghost use Rattle.sp_cli.specs.Options.{option, no_options, with_query, with_number, with_speed, with_lateness, found};
+ghost use Rattle.sp_cli.specs.Options.{option, flag, no_options, with_query, with_number, with_speed, with_lateness, found};
 ghost use Rattle.sp_cli.specs.Options as specs;
 
 use crate::command::UsageFault;
-use crate::values::{NumberOption, speed_numbers};
+use crate::values::{NumberOption, TREES, speed_numbers};
 use clap::error::ErrorKind;
 use clap::{Arg, ArgAction, ArgMatches};
 use std::alloc::{AllocError, Global};
@@ -50,6 +50,19 @@ fn with_text<'a>(
         (λ more. app_of more ≡ with_rule (app_of command.entry) (option name.entry.now)) }
 {
     with_option(command, one_text(alloc, name))
+}
+
+// With one more flag of this long name.
+fn with_flag<'a>(
+    alloc: Global,
+    command: clap::Command<'a>,
+    name: &'a str,
+) -> Result<clap::Command<'a>, AllocError>
+    ensures { IfOk result
+        (λ more. app_of more ≡ with_rule (app_of command.entry) (flag name.entry.now)) }
+{
+    let flag = Arg::new(alloc, name).long(name).action(ArgAction::SetTrue);
+    with_option(command, flag)
 }
 
 // With the two options that say where the query stands.
@@ -106,7 +119,9 @@ pub(crate) fn run_options<'a>(alloc: Global) -> Result<clap::Command<'a>, AllocE
     ensures simple { IfOk result (λ command. is_simple_and_free (app_of command) ≡ true) }
 {
     let command = with_query(alloc, bare(alloc))?;
-    with_lateness(alloc, with_speed(alloc, command)?)
+    let command = with_lateness(alloc, with_speed(alloc, command)?)?;
+    let command = with_text(alloc, command, TREES.name)?;
+    with_flag(alloc, command, "proof")
 }
 
 /// The options of `plain`.
@@ -133,6 +148,26 @@ pub(crate) fn drill_options<'a>(alloc: Global) -> Result<clap::Command<'a>, Allo
     ensures simple { IfOk result (λ command. is_simple_and_free (app_of command) ≡ true) }
 {
     with_speed(alloc, bare(alloc))
+}
+
+/// The options of `check`.
+pub(crate) fn check_options<'a>(alloc: Global) -> Result<clap::Command<'a>, AllocError>
+    ensures options { IfOk result (λ command. app_of command ≡ specs.check_options) }
+    ensures simple { IfOk result (λ command. is_simple_and_free (app_of command) ≡ true) }
+{
+    let command = with_query(alloc, bare(alloc))?;
+    with_text(alloc, command, "list")
+}
+
+/// The options of `graph`.
+pub(crate) fn graph_options<'a>(alloc: Global) -> Result<clap::Command<'a>, AllocError>
+    ensures options { IfOk result (λ command. app_of command ≡ specs.graph_options) }
+    ensures simple { IfOk result (λ command. is_simple_and_free (app_of command) ≡ true) }
+{
+    let command = with_query(alloc, bare(alloc))?;
+    let command = with_text(alloc, command, "then")?;
+    let command = with_text(alloc, command, "return")?;
+    with_speed(alloc, command)
 }
 
 /// What is found at the words, or `Usage` where they are refused.

@@ -1,10 +1,15 @@
 // The command that words are.
 ghost use Rattle.std.specs.Prelude.{◌≡◌, Some, None, map, IfOk, IfErr, string_bytes};
-ghost use Rattle.sp_cli.specs.Commands.{command_of, run_at, plain_at, trace_at, drill_at, seen};
+ghost use Rattle.sp_cli.specs.Commands.{command_of, run_at, plain_at, trace_at, drill_at, check_at, graph_at, seen};
 
 use crate::command::{Command, UsageFault};
-use crate::options::{drill_options, find_options, plain_options, run_options, trace_options};
-use crate::values::{late_in, live_in, number_of, slack_in, source_in, speed_in, value_of};
+use crate::options::{
+    check_options, drill_options, find_options, graph_options, plain_options, run_options,
+    trace_options,
+};
+use crate::values::{
+    late_in, live_in, number_of, proof_in, slack_in, source_in, speed_in, text_in, trees_in,
+};
 use sp_base::limits::EVENT_LIMIT;
 use std::alloc::Global;
 
@@ -19,11 +24,19 @@ fn read_run(alloc: Global, words: &[String]) -> Result<Command, UsageFault>
     let speed = speed_in(alloc, &matches)?;
     let slack = slack_in(&matches)?;
     let late = late_in(&matches)?;
+    let trees = trees_in(&matches)?;
+    let proof = proof_in(&matches);
+    // each of several trees keeps its predictor
+    if trees > 1 && speed.rotate > 0 {
+        return Err(UsageFault::Usage);
+    }
     Ok(Command::Run {
         query,
         speed,
         slack,
         late,
+        trees,
+        proof,
     })
 }
 
@@ -50,11 +63,8 @@ fn read_trace(alloc: Global, words: &[String]) -> Result<Command, UsageFault>
 {
     let matches = find_options(trace_options(alloc)?, words)?;
     let query = source_in(alloc, &matches)?;
+    let schedule = text_in(alloc, &matches, "schedule")?;
     let live = live_in(&matches)?;
-    let Some(name) = value_of(&matches, "schedule") else {
-        return Err(UsageFault::Usage);
-    };
-    let schedule = String::from_str(alloc, name)?;
     Ok(Command::Trace {
         query,
         schedule,
@@ -83,6 +93,39 @@ fn read_drill(alloc: Global, words: &[String]) -> Result<Command, UsageFault>
     })
 }
 
+// What stands behind `check`.
+fn read_check(alloc: Global, words: &[String]) -> Result<Command, UsageFault>
+    ensures command { IfOk result
+        (λ read. check_at (map string_bytes words.now) ≡ Some (seen read)) }
+    ensures usage { IfErr result
+        (λ e. e ≡ UsageFault.Usage → check_at (map string_bytes words.now) ≡ None) }
+{
+    let matches = find_options(check_options(alloc)?, words)?;
+    let query = source_in(alloc, &matches)?;
+    let list = text_in(alloc, &matches, "list")?;
+    Ok(Command::Check { query, list })
+}
+
+// What stands behind `graph`.
+fn read_graph(alloc: Global, words: &[String]) -> Result<Command, UsageFault>
+    ensures command { IfOk result
+        (λ read. graph_at (map string_bytes words.now) ≡ Some (seen read)) }
+    ensures usage { IfErr result
+        (λ e. e ≡ UsageFault.Usage → graph_at (map string_bytes words.now) ≡ None) }
+{
+    let matches = find_options(graph_options(alloc)?, words)?;
+    let query = source_in(alloc, &matches)?;
+    let then = text_in(alloc, &matches, "then")?;
+    let returns = text_in(alloc, &matches, "return")?;
+    let speed = speed_in(alloc, &matches)?;
+    Ok(Command::Graph {
+        query,
+        then,
+        returns,
+        speed,
+    })
+}
+
 /// The command that the words are: the first is its name. `Usage` comes only where they are none; want of
 /// memory may come at any words that are read.
 pub fn read_words(alloc: Global, words: &[String]) -> Result<Command, UsageFault>
@@ -98,6 +141,8 @@ pub fn read_words(alloc: Global, words: &[String]) -> Result<Command, UsageFault
         "plain" => read_plain(alloc, rest),
         "trace" => read_trace(alloc, rest),
         "drill" => read_drill(alloc, rest),
+        "check" => read_check(alloc, rest),
+        "graph" => read_graph(alloc, rest),
         _ => Err(UsageFault::Usage),
     }
 }

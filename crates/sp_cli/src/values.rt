@@ -1,5 +1,5 @@
 // What the values of options say.
-ghost use Rattle.std.specs.Prelude.{◌≡◌, ◌≤◌, Some, None, IfOk, IfErr, OnOk, OnErr, length, map, option_map};
+ghost use Rattle.std.specs.Prelude.{◌≡◌, ◌≤◌, Some, None, IfOk, IfErr, OnOk, OnErr, length, map, option_map, string_bytes};
 ghost use Rattle.clap.specs.Words.{first_of};
 ghost use Rattle.sp_cli.specs.Numbers.{number, number_said, numbers_said};
 ghost use Rattle.sp_cli.specs.Numbers as listed;
@@ -25,6 +25,10 @@ pub(crate) struct NumberOption {
 // How many versions may be live.
 #[rattlefmt::skip]
 const LIVE: NumberOption = NumberOption { name: "live", least: 1, greatest: LIVE_LIMIT, left_out: 64 };
+
+/// How many trees a run has.
+#[rattlefmt::skip]
+pub(crate) const TREES: NumberOption = NumberOption { name: "trees", least: 1, greatest: 16, left_out: 1 };
 
 // The numbers that say how a run works, in the order of `numbers_of` in `specs/Commands.antt`.
 #[rattlefmt::skip]
@@ -78,6 +82,23 @@ pub(crate) fn value_of<'a>(matches: &ArgMatches<'a>, name: &str) -> Option<&'a s
     ensures { option_map (λ text. text.now) result ≡ first_of name.now (rows_in matches.now) }
 {
     matches.get_str(name)
+}
+
+/// A copy of the value of the option of this name, which has to be there.
+pub(crate) fn text_in(
+    alloc: Global,
+    matches: &ArgMatches<'_>,
+    name: &str,
+) -> Result<String, UsageFault>
+    ensures ok { IfOk result
+        (λ text. first_of name.now (rows_in matches.now) ≡ Some (string_bytes text)) }
+    ensures usage { IfErr result
+        (λ e. e ≡ UsageFault.Usage → first_of name.now (rows_in matches.now) ≡ None) }
+{
+    let Some(text) = value_of(matches, name) else {
+        return Err(UsageFault::Usage);
+    };
+    Ok(String::from_str(alloc, text)?)
 }
 
 // The number that the option says.
@@ -139,6 +160,22 @@ pub(crate) fn late_in(matches: &ArgMatches<'_>) -> Result<LateRule, UsageFault>
         Some("drop") => Ok(LateRule::Drop),
         Some(_) => Err(UsageFault::Usage),
     }
+}
+
+/// How many trees a run has.
+pub(crate) fn trees_in(matches: &ArgMatches<'_>) -> Result<u32, UsageFault>
+    ensures ok { IfOk result (λ n. specs.trees_in (rows_in matches.now) ≡ Some n) }
+    ensures usage { IfErr result (λ _. specs.trees_in (rows_in matches.now) ≡ None) }
+{
+    number_at(matches, TREES)
+}
+
+/// Whether a run lists the proofs of its windows. `clap` gives a flag the value `true` where it stands among the
+/// words, and `false` where it doesn't.
+pub(crate) fn proof_in(matches: &ArgMatches<'_>) -> bool
+    ensures { result ≡ specs.proof_in (rows_in matches.now) }
+{
+    value_of(matches, "proof") == Some("true")
 }
 
 // Writes what each of the options says to its place among the numbers.

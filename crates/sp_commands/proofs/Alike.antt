@@ -213,7 +213,7 @@ module _ (q p : Plan) (alike : Alike q p) where
     consumed = before.consumed ++ flat_map (λ (run : Run). used_same run i) runs;
   }
 
-  seq_same : (events : List Event) (n : ℕ) → seq q events n ≡ seq p events n
+  pub seq_same : (events : List Event) (n : ℕ) → seq q events n ≡ seq p events n
   seq_same events zero = refl
   seq_same events (suc n) =
       after_same (suc n) (seq q events n) _

@@ -1,5 +1,5 @@
 -- Plans that stand for one query are alike, and so have one outcome.
-use Rattle.std.proofs.Common.{◌≡◌, ℕ, zero, suc, Bool, List, [], ◌∷◌, ◌++◌, length, Option, Some, None, refl, sym, ◌∙◌, ap, subst}
+use Rattle.std.proofs.Common.{◌≡◌, ℕ, zero, suc, Bool, true, false, List, [], ◌∷◌, ◌++◌, length, Option, Some, None, refl, sym, ◌∙◌, ap, subst}
 use Rattle.std.specs.Prelude.{slice_get}
 use Rattle.std.specs.List.{fold}
 use Rattle.sp_plan.specs.declared.event.Event.{Event}
@@ -13,6 +13,8 @@ use Rattle.sp_ports.specs.declared.stop.Stop.{Stop}
 use Rattle.sp_plan.specs.Sequential.{Progress, whole}
 use Rattle.sp_plan.specs.Texts.{with_text}
 use Rattle.sp_plan.specs.Values.{BoundEvents, holds}
+use Rattle.sp_listing.specs.Listing.{listing_text}
+use Rattle.sp_cert.specs.Proofs.{proofs}
 use Rattle.sp_query.specs.declared.query.Ident.{Ident}
 use Rattle.sp_query.specs.declared.query.Query.{Query}
 use Rattle.sp_query.specs.declared.query.QueryOpening.{QueryOpening}
@@ -22,16 +24,16 @@ use Rattle.sp_compile.specs.Checks.{scope_of}
 use Rattle.sp_compile.specs.Meaning.{Truth}
 use Rattle.sp_compile.specs.Scopes.{Scope, PatternName, pattern_names}
 use Rattle.sp_compile.specs.Stands.{Literals, none, some, literal_of, all_trees, StandsForDefinition, StandForNames, StandsForOpening, Stands, definition_of}
-use Rattle.sp_compile.specs.Told.{IsPlanOf}
-use Rattle.sp_commands.specs.Alike.{Alike, HoldAlike, NamesAlike, OpeningsAlike}
+use Rattle.sp_commands.specs.Alike.{Alike, HoldAlike, NamesAlike, OpeningsAlike, PlansMatchAlike, PlansRunAlike}
 use Rattle.sp_answer.specs.Outcome.{outcome}
 use Rattle.sp_commands.specs.Ends.{Came, CameFrom, came, came_within, late_status, status_of, reading_outcome}
-use Rattle.sp_commands.specs.Run.{run_outcome, windows_text}
+use Rattle.sp_commands.specs.Run.{text_by, told_outcome}
 use Rattle.sp_ports.specs.Stopping.{is_end}
 use Rattle.sp_slack.specs.HeldBack.{slacked}
 use Rattle.sp_intake.specs.Loose.{Lateness, Loose}
 use Rattle.sp_intake.specs.Reading.{Reading, stop_of}
 use Rattle.sp_commands.proofs.Alike.{read_same, loose_same, whole_same, lines_same}
+use Rattle.sp_commands.proofs.AlikeListings.{proofs_same, listing_text_same}
 
 -- trees have one list of texts
 one_literals : (trees : List Tree) (a b : List (List ℕ)) → Literals trees a → Literals trees b → a ≡ b
@@ -116,11 +118,17 @@ module _ (x y : Plan) (alike : Alike x y) where
       let c : Came = record { events = slacked l.slack r.reading.events (is_end stop); stop = stop; status = late_status l.rule r.late stop } in c)
       (loose_same x y alike l bytes ended)
 
-  text_same : (events : List Event) (stop : Stop) → windows_text x events stop ≡ windows_text y events stop
-  text_same events stop = lines_same x y alike (whole x events (is_end stop)).matches ∙ ap (λ (w : Progress). text y w.matches) (whole_same x y alike events (is_end stop))
+  pub text_same : (proof : Bool) (events : List Event) (stop : Stop) → text_by proof x events stop ≡ text_by proof y events stop
+  text_same false events stop = lines_same x y alike (whole x events (is_end stop)).matches ∙ ap (λ (w : Progress). text y w.matches) (whole_same x y alike events (is_end stop))
+  text_same true events stop = listing_text_same x y alike (proofs x events (is_end stop)) ∙ ap (listing_text y) (proofs_same x y alike events (is_end stop))
 
-  alike_run : (l : Lateness) (bytes : List ℕ) (ended : Bool) → run_outcome x l bytes ended ≡ run_outcome y l bytes ended
-  alike_run l = outcome_by (came_within x l) (came_within y l) (windows_text x) (windows_text y) (within_same l) text_same
+  alike_run : (proof : Bool) (l : Lateness) (bytes : List ℕ) (ended : Bool) → told_outcome (text_by proof) x l bytes ended ≡ told_outcome (text_by proof) y l bytes ended
+  alike_run proof l = outcome_by (came_within x l) (came_within y l) (text_by proof x) (text_by proof y) (within_same l) (text_same proof)
 
-pub plans_run_alike : OneTruth → (query : Query) (x y : Plan) → IsPlanOf x query → IsPlanOf y query → (l : Lateness) (bytes : List ℕ) (ended : Bool) → run_outcome x l bytes ended ≡ run_outcome y l bytes ended
+pub plans_run_alike : OneTruth → PlansRunAlike
 plans_run_alike truth query x y first second = alike_run x y (stand_alike truth query x y first.stands second.stands)
+
+pub plans_match_alike : OneTruth → PlansMatchAlike
+plans_match_alike truth query x y first second =
+    let alike = stand_alike truth query x y first.stands second.stands in
+    (alike.schema, whole_same x y alike)

@@ -17,7 +17,7 @@ use Rattle.sp_intake.specs.Reading.{stop_of}
 use Rattle.sp_intake.proofs.LooseGood.{kept_timely}
 use Rattle.sp_answer.specs.Outcome.{outcome}
 use Rattle.sp_commands.specs.Ends.{Came, came, came_within, status_of}
-use Rattle.sp_commands.specs.Run.{windows_text, PunctualRuns}
+use Rattle.sp_commands.specs.Run.{text_by, PunctualRuns}
 
 -- an event behind all up to a time, where it is not before that time
 put_behind : (s : Option ℤ) (xs : List Event) (e : Event) → All (λ x. is_up_to s x ≡ true) xs → is_before s e ≡ false → put xs e ≡ xs ++ e ∷ []
@@ -76,4 +76,4 @@ came_in_time law q compiled bytes ended =
     λ i. record { events = given i; stop = is.stop i; status = status_of (is.stop i) }
 
 pub punctual_runs : LooseIsReading → PunctualRuns
-punctual_runs law q bytes ended compiled = ap (λ (c : Came). outcome c.status (windows_text q c.events c.stop)) (came_in_time law q compiled bytes ended)
+punctual_runs law proof q bytes ended compiled = ap (λ (c : Came). outcome c.status (text_by proof q c.events c.stop)) (came_in_time law q compiled bytes ended)

@@ -1,5 +1,5 @@
 -- A trace as what is promised of it: its lines step by step, and its texts.
-use Rattle.std.proofs.Common.{◌⊎◌, ◌≡◌, ◌≢◌, inl, inr, ℕ, ◌+◌, ◌<◌, Bool, true, false, List, [], ◌∷◌, ◌++◌, length, get_or, take, drop, Ok, Err, refl, sym, ◌∙◌, ap, subst, append_assoc, append-nil, take-append-drop}
+use Rattle.std.proofs.Common.{◌≡◌, inl, inr, ℕ, ◌+◌, ◌<◌, Bool, true, false, List, [], ◌∷◌, ◌++◌, length, get_or, take, drop, Ok, refl, sym, ◌∙◌, ap, subst, append_assoc, append-nil, take-append-drop}
 use Rattle.std.specs.Prelude.{Result, IsErr, if◌then◌else◌}
 use Rattle.std.specs.declared.alloc.AllocError.{AllocError}
 use Rattle.std.specs.List.{All, fold}
@@ -8,7 +8,7 @@ use Rattle.std.proofs.lemmas.List.{take_more, drop_more}
 use Rattle.std.proofs.lemmas.List.Elements.{All-nil, All-cons}
 use Rattle.std.proofs.lemmas.List.Sums.{fold-append}
 use Rattle.sp_base.specs.Limits.{schedule_limit}
-use Rattle.sp_io.specs.Outside.{ToldFiles, SinkState, HoldsLonger, Grew, GrewWithin}
+use Rattle.sp_io.specs.Outside.{ToldFiles, SinkState, Grew}
 use Rattle.sp_plan.specs.declared.event.Event.{Event}
 use Rattle.sp_plan.specs.declared.plan.Plan.{Plan}
 use Rattle.sp_ports.specs.Stopping.{is_end}
@@ -16,25 +16,20 @@ use Rattle.sp_ports.specs.declared.stop.Stop.{Stop}
 use Rattle.sp_sched.specs.Schedules.{CanStand, AreSteps, none, blank, step}
 use Rattle.sp_sched.specs.declared.step.TraceStep.{TraceStep}
 use Rattle.sp_trace.specs.Traced.{Tracing, after, lines_for, lines_from, joined, traced}
-use Rattle.sp_load.specs.Places.{Place, file, HasText, IsLonger, long_word, long_file}
+use Rattle.sp_load.specs.Places.{Place}
 use Rattle.sp_load.specs.Queries.{RefusesText}
-use Rattle.sp_load.specs.Loads.{RefusesLoad}
 use Rattle.sp_load.specs.declared.refusal.Refusal.{Refusal}
 use Rattle.sp_load.specs.declared.refusal.Refusal.TheVariants as r
-use Rattle.sp_answer.specs.Outcome.{Outcome, Ending, ending, nothing_for}
-use Rattle.sp_answer.specs.Ran.{Outside}
-use Rattle.sp_answer.specs.Promise.{Filed, Answered, by_memory as memory_answered, by_refusal as refusal_answered, by_run as run_answered, SameCounts, Served}
+use Rattle.sp_answer.specs.Outcome.{Outcome, nothing_for}
 use Rattle.sp_answer.specs.Written.{WritesText}
 use Rattle.sp_answer.specs.declared.written.Written.{Written}
 use Rattle.sp_answer.specs.declared.written.Written.TheVariants.{All as Whole, Failed}
 use Rattle.sp_answer.specs.declared.status.Status.{Status}
-use Rattle.sp_answer.proofs.Answering.{answered_weaker}
-use Rattle.sp_io.proofs.Grew.{within_more}
-use Rattle.sp_answer.proofs.Writing.{out_of_memory, cut_within, piece_grew, piece_quiet}
-use Rattle.sp_commands.specs.Commands.{files_at}
+use Rattle.sp_answer.proofs.Writing.{cut_within, piece_grew, piece_quiet, piece_short}
 use Rattle.sp_commands.specs.Ends.{status_of_refusal}
-use Rattle.sp_commands.specs.Trace.{TraceOutcome, long_query, long_schedule, of_texts, TextsOutcome, faulty, trace_text, HasSchedule, RefusesTexts, RefusesTrace, OneRose, AnswersTexts, by_memory, by_refusal, by_run}
-use Rattle.sp_commands.proofs.Running.{by_read, quiet_served, fault_served}
+use Rattle.sp_commands.specs.Trace.{TraceOutcome, long_query, long_schedule, of_texts, TextsOutcome, faulty, trace_text, RefusesTrace}
+use Rattle.sp_commands.proofs.TwoTexts.{FilesOutcome}
+use Rattle.sp_commands.proofs.TwoTexts as files
 
 -- ---- lines
 
@@ -73,11 +68,6 @@ module _ (g : Tracing) (xs : List TraceStep) (i : ℕ) (x : TraceStep) (inside :
   pub after_more : fold after g (take (i + 1) xs) ≡ after here x
   after_more = ap (fold after g) (take_more xs i x inside ∙ ap (λ (y : TraceStep). take i xs ++ y ∷ []) (sym is)) ∙ fold-append after g (take i xs) (x ∷ [])
 
--- memory ran out, and the output did not fail
-err_not_failed : (result : Result Written AllocError) → IsErr result → result ≢ Ok Failed
-err_not_failed (Ok written) failed is = absurd (cc failed)
-err_not_failed (Err e) failed is = cc
-
 -- one step was printed behind what had been printed
 module _ (g : Tracing) (xs : List TraceStep) (i : ℕ) (x : TraceStep) (inside : i < length xs) (is : x ≡ get_or xs i x) (old mid new : SinkState)
     (grew : Grew old.held (text_from g (take i xs)) mid.held) (quiet : mid.faults ≡ old.faults) where
@@ -94,10 +84,7 @@ module _ (g : Tracing) (xs : List TraceStep) (i : ℕ) (x : TraceStep) (inside :
   one_cut writes = cut_within _ (text_from g (take i xs)) own _ (text_rest g xs i x inside is) old mid new grew quiet writes
 
   pub one_short : (own_end end : Result Written AllocError) → IsErr own_end → IsErr end → WritesText own mid new own_end → WritesText (text_from g xs) old new end
-  one_short own_end end own_failed failed writes =
-      out_of_memory _ old new end failed
-      (subst (λ (l : List ℕ). GrewWithin old.held l new.held) (sym (text_rest g xs i x inside is)) (within_more old.held mid.held new.held (text_from g (take i xs)) own _ grew writes.within))
-      (writes.not_failed (err_not_failed own_end own_failed) ∙ quiet)
+  one_short = piece_short _ (text_from g (take i xs)) own _ (text_rest g xs i x inside is) old mid new grew quiet
 
 -- the steps of a schedule can stand in one
 pub steps_stand : (lines : List (List ℕ)) (steps : List TraceStep) → AreSteps lines steps → All CanStand steps
@@ -110,63 +97,18 @@ steps_stand _ _ (step x rest steps can are) = stand x steps can (steps_stand res
 
 -- ---- texts
 
-module _ (place : Place) (name : List ℕ) (bound : ℕ) (before after_ : Filed) (old : Outside) (same_files : after_.held ≡ before.held) where
-  abbrev names : List (List ℕ)
-  names = files_at place ++ name ∷ []
+-- the outcome of a trace is one of two texts
+pub trace_of_files : (place : Place) (name : List ℕ) (bound : ℕ) (held : ToldFiles) (b : List ℕ) (e : Bool) (o : Outcome)
+    → FilesOutcome schedule_limit (λ query schedule. TextsOutcome query schedule bound) place name held b e o → TraceOutcome place name bound held b e o
+trace_of_files place name bound held b e _ (files.long_query long) = long_query long
+trace_of_files place name bound held b e _ (files.long_file text has longer) = long_schedule text has longer
+trace_of_files place name bound held b e _ (files.of_texts text content o has holds is) = of_texts text content o has holds is
 
-  abbrev Of : ToldFiles → List ℕ → Bool → Outcome → Type 0
-  Of = TraceOutcome place name bound
-
-  module _ (text content : List ℕ) (has : HasText before.held place text) (holds : HasSchedule before.held name content) where
-    weaker : (b : List ℕ) (e : Bool) (o : Outcome) → TextsOutcome text content bound b e o → Of before.held b e o
-    weaker b e o is = of_texts text content o has holds is
-
-    pub texts_served : (new : Outside) (end : Ending) → SameCounts before after_ → AnswersTexts (TextsOutcome text content bound) old new end → Served names Of before after_ old new end
-    texts_served new end same answers = quiet_served names Of before after_ old same_files new end same (by answers)
-      where
-        by : AnswersTexts (TextsOutcome text content bound) old new end → Answered names (Of before.held) before after_ old new end
-        by (by_memory memory quiet) = memory_answered memory quiet
-        by (by_refusal refused) = answered_weaker names before after_ old new (TextsOutcome text content bound) (Of before.held) end weaker (refusal_answered refused)
-        by (by_run ran) = answered_weaker names before after_ old new (TextsOutcome text content bound) (Of before.held) end weaker (run_answered ran)
-
-  quiet_answered : (refusal : Refusal) → refusal ≢ r.Read → RefusesTexts before.held place name refusal → Answered names (Of before.held) before after_ old old (ending (status_of_refusal refusal))
-  quiet_answered r.Memory other refuses = memory_answered refl refl
-  quiet_answered r.Read other refuses = absurd (other refl)
-  quiet_answered (r.Limited limit) other (inl query) = refusal_answered (record {
-    is = λ b e. subst (λ (n : ℕ). Of before.held b e (nothing_for (status_of_refusal (r.Limited n)))) (sym query.0) (long_query query.1);
-    line = refl;
-    same = refl;
-  })
-  quiet_answered (r.Limited limit) other (inr schedule) = refusal_answered (record {
-    is = λ b e. subst (λ (n : ℕ). Of before.held b e (nothing_for (status_of_refusal (r.Limited n)))) (sym schedule.0) (long_schedule schedule.1.0 schedule.1.1 schedule.2);
-    line = refl;
-    same = refl;
-  })
-  quiet_answered (r.Query code at) other refuses = absurd refuses
-
-  -- the query or the schedule is refused before anything is read or written
-  pub loads_refused : (refusal : Refusal) (s : Status) → s ≡ status_of_refusal refusal → RefusesTexts before.held place name refusal
-      → (refusal ≡ r.Read → OneRose names before.faults after_.faults) → (refusal ≢ r.Read → SameCounts before after_) → Served names Of before after_ old old (ending s)
-  loads_refused refusal s is refuses rose same = by (by_read refusal)
-    where
-      by : (refusal ≡ r.Read) ⊎ (refusal ≢ r.Read) → Served names Of before after_ old old (ending s)
-      by (inl read) = fault_served names Of before after_ old same_files s (is ∙ ap status_of_refusal read) (rose read)
-      by (inr other) =
-          quiet_served names Of before after_ old same_files old (ending s) (same other)
-          (subst (λ (t : Status). Answered names (Of before.held) before after_ old old (ending t)) (sym is) (quiet_answered refusal other refuses))
-
--- ---- loads
-
--- a schedule that is too long refuses the texts, where the query is not
-pub schedule_refuses : (held : ToldFiles) (place : Place) (name text : List ℕ) → HasText held place text → (refusal : Refusal) → RefusesLoad held schedule_limit (file name) refusal → RefusesTexts held place name refusal
-schedule_refuses held place name text has r.Memory refuses = tt
-schedule_refuses held place name text has r.Read refuses = tt
-schedule_refuses held place name text has (r.Limited limit) refuses = inr (refuses.0, (text, has), longer (file name) refuses.1 refl)
-  where
-    longer : (at : Place) → IsLonger held schedule_limit at → at ≡ file name → HoldsLonger held name schedule_limit
-    longer _ (long_word words more) is = absurd (cc is)
-    longer _ (long_file own more) is = let same : own ≡ name = cc is in subst (λ (n : List ℕ). HoldsLonger held n schedule_limit) same more
-schedule_refuses held place name text has (r.Query code at) refuses = absurd refuses
+pub files_of_trace : (place : Place) (name : List ℕ) (bound : ℕ) (held : ToldFiles) (b : List ℕ) (e : Bool) (o : Outcome)
+    → TraceOutcome place name bound held b e o → FilesOutcome schedule_limit (λ query schedule. TextsOutcome query schedule bound) place name held b e o
+files_of_trace place name bound held b e _ (long_query long) = files.long_query long
+files_of_trace place name bound held b e _ (long_schedule text has longer) = files.long_file text has longer
+files_of_trace place name bound held b e _ (of_texts text content o has holds is) = files.of_texts text content o has holds is
 
 -- a fault of the query's text refuses the texts
 pub query_faulty : (text content : List ℕ) (refusal : Refusal) (s : Status) → s ≡ status_of_refusal refusal → RefusesText text refusal → RefusesTrace text content s

@@ -6,11 +6,12 @@ use Rattle.sp_plan.specs.declared.plan.Name.{Name}
 use Rattle.sp_plan.specs.declared.plan.Pred.{Pred}
 use Rattle.sp_plan.specs.declared.plan.Opening.{Opening}
 use Rattle.sp_plan.specs.declared.plan.Opening.TheVariants.{When}
+use Rattle.sp_plan.specs.Sequential.{whole}
 use Rattle.sp_plan.specs.Values.{BoundEvents, holds}
 use Rattle.sp_query.specs.declared.query.Query.{Query}
 use Rattle.sp_compile.specs.Told.{IsPlanOf}
 use Rattle.sp_intake.specs.Loose.{Lateness}
-use Rattle.sp_commands.specs.Run.{run_outcome}
+use Rattle.sp_commands.specs.Run.{text_by, told_outcome}
 
 -- the predicates hold alike
 abbrev pub HoldAlike : Pred → Pred → Type 0
@@ -37,6 +38,12 @@ pub record Alike (x y : Plan) : Type 0 where
   pub length_is : x.length ≡ y.length
   pub opening : OpeningsAlike x.opening y.opening
 
--- Plans that stand for one query have one outcome over all bytes, by however much events may be late.
+-- Plans that stand for one query have one outcome over all bytes, by however much events may be late, whether lines are told or proofs.
 abbrev pub PlansRunAlike : Type 0
-PlansRunAlike = (query : Query) (x y : Plan) → IsPlanOf x query → IsPlanOf y query → (l : Lateness) (bytes : List ℕ) (ended : Bool) → run_outcome x l bytes ended ≡ run_outcome y l bytes ended
+PlansRunAlike = (query : Query) (x y : Plan) → IsPlanOf x query → IsPlanOf y query → (proof : Bool) (l : Lateness) (bytes : List ℕ) (ended : Bool)
+    → told_outcome (text_by proof) x l bytes ended ≡ told_outcome (text_by proof) y l bytes ended
+
+-- Plans that stand for one query have the same schema, and find the same matches in all events.
+abbrev pub PlansMatchAlike : Type 0
+PlansMatchAlike = (query : Query) (x y : Plan) → IsPlanOf x query → IsPlanOf y query
+    → (x.schema ≡ y.schema) × ((events : List Event) (ended : Bool) → whole x events ended ≡ whole y events ended)

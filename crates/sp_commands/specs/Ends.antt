@@ -1,5 +1,6 @@
 -- The status of each cause that ends a command.
-use Rattle.std.specs.Prelude.{ℕ, Bool, List}
+use Rattle.std.specs.Prelude.{ℕ, Bool, List, Result, Ok, Err}
+use Rattle.std.specs.declared.alloc.AllocError.{AllocError}
 use Rattle.sp_plan.specs.declared.event.Event.{Event}
 use Rattle.sp_plan.specs.declared.plan.Plan.{Plan}
 use Rattle.sp_slack.specs.HeldBack.{slacked}
@@ -16,7 +17,9 @@ use Rattle.sp_load.specs.declared.refusal.Refusal.{Refusal}
 use Rattle.sp_load.specs.declared.refusal.Refusal.TheVariants as r
 use Rattle.sp_answer.specs.Outcome.{Outcome, outcome}
 use Rattle.sp_answer.specs.declared.status.Status.{Status}
-use Rattle.sp_answer.specs.declared.status.Status.TheVariants.{Done, DoneLate, Memory, Query, Input, Read, Limited}
+use Rattle.sp_answer.specs.declared.status.Status.TheVariants.{Done, DoneLate, Memory, Query, Second, Input, Read, Write, Limited}
+use Rattle.sp_answer.specs.declared.written.Written.{Written}
+use Rattle.sp_answer.specs.declared.written.Written.TheVariants as w
 
 abbrev pub status_of_failure : Failure → Status
 status_of_failure (Row code row column) = Input code row column
@@ -34,6 +37,17 @@ status_of_refusal r.Memory = Memory
 status_of_refusal r.Read = Read
 status_of_refusal (r.Limited limit) = Limited limit
 status_of_refusal (r.Query code at) = Query code at
+
+-- why there is no plan of a second query
+abbrev pub status_of_second : Refusal → Status
+status_of_second (r.Query code at) = Second code at
+status_of_second refusal = status_of_refusal refusal
+
+-- the status of a command whose reading has this one, and whose lines were written so
+abbrev pub written_status : Status → Result Written AllocError → Status
+written_status status (Ok w.All) = status
+written_status status (Ok w.Failed) = Write
+written_status status (Err e) = Memory
 
 -- What a command makes of the bytes of its input: the events that its engine is given, why the reading stops, and the status where all lines are
 -- written.

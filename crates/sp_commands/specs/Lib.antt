@@ -3,7 +3,10 @@ pub mod Commands
 pub mod Ends
 pub mod Given
 pub mod Run
+pub mod Texts
+pub mod Check
 pub mod Trace
+pub mod Graph
 pub mod Outcome
 pub mod Alike
 pub mod OneOutcome

@@ -6,18 +6,22 @@ use Rattle.sp_answer.specs.Ran.{Outside}
 use Rattle.sp_answer.specs.Promise.{Filed, Served, Promise as PromiseOf}
 use Rattle.sp_answer.specs.declared.status.Status.{Status}
 use Rattle.sp_answer.specs.declared.status.Status.TheVariants.{Usage}
-use Rattle.sp_cli.specs.Commands.{Command, run, plain, trace, drill}
+use Rattle.sp_cli.specs.Commands.{Command, run, plain, trace, drill, check, graph}
 use Rattle.sp_commands.specs.Commands.{place_of, lateness, IsCall, IsNoCall, GivesFiles}
 use Rattle.sp_commands.specs.Drill.{DrillOutcome}
-use Rattle.sp_commands.specs.Run.{RunOutcome}
+use Rattle.sp_commands.specs.Run.{ToldOutcome, RunOutcome, text_by}
+use Rattle.sp_commands.specs.Check.{CheckOutcome}
+use Rattle.sp_commands.specs.Graph.{GraphOutcome}
 use Rattle.sp_commands.specs.Trace.{TraceOutcome}
 
 -- the outcome of a command over what the files hold and the bytes taken from the input
 abbrev pub CommandOutcome : Command → ToldFiles → List ℕ → Bool → Outcome → Type 0
-CommandOutcome (run query speed slack late) = RunOutcome (place_of query) (lateness slack late)
+CommandOutcome (run query speed slack late trees proof) = ToldOutcome (text_by proof) (place_of query) (lateness slack late)
 CommandOutcome (plain query slack late) = RunOutcome (place_of query) (lateness slack late)
 CommandOutcome (trace query schedule live) = TraceOutcome (place_of query) schedule live
 CommandOutcome (drill events seed speed) = λ held bytes ended. DrillOutcome events seed
+CommandOutcome (check query list) = CheckOutcome (place_of query) list
+CommandOutcome (graph query second returns speed) = GraphOutcome (place_of query) second returns
 
 -- the outcome of the words, where predictors of these names are given
 abbrev pub IsOutcome : List (List ℕ) → List (List ℕ) → ToldFiles → List ℕ → Bool → Outcome → Type 0

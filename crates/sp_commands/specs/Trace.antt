@@ -1,8 +1,7 @@
 -- What a trace comes to: the machine over the input, as a schedule steps it.
 use Rattle.std.specs.Prelude.{◌≡◌, ◌⊎◌, ◌≤◌, ℕ, Bool, List, [], length, if◌then◌else◌}
-use Rattle.std.specs.List.{Contains}
 use Rattle.sp_base.specs.Limits.{query_limit, schedule_limit}
-use Rattle.sp_io.specs.Outside.{ToldFiles, HoldsFile, HoldsLonger, Rose}
+use Rattle.sp_io.specs.Outside.{ToldFiles, HoldsFile, HoldsLonger}
 use Rattle.sp_plan.specs.declared.event.Event.{Event}
 use Rattle.sp_plan.specs.declared.plan.Plan.{Plan}
 use Rattle.sp_sched.specs.Schedules.{IsSchedule, IsBadLine}
@@ -12,11 +11,7 @@ use Rattle.sp_ports.specs.Stopping.{is_end}
 use Rattle.sp_ports.specs.declared.stop.Stop.{Stop}
 use Rattle.sp_load.specs.Places.{Place, HasText, IsLonger}
 use Rattle.sp_load.specs.Queries.{IsPlanFor, IsFaulty}
-use Rattle.sp_load.specs.declared.refusal.Refusal.{Refusal}
-use Rattle.sp_load.specs.declared.refusal.Refusal.TheVariants as r
-use Rattle.sp_answer.specs.Outcome.{Outcome, Ending, ending, nothing_for}
-use Rattle.sp_answer.specs.Ran.{Outside, Ran}
-use Rattle.sp_answer.specs.Promise.{Refused}
+use Rattle.sp_answer.specs.Outcome.{Outcome, nothing_for}
 use Rattle.sp_answer.specs.declared.status.Status.{Status}
 use Rattle.sp_answer.specs.declared.status.Status.TheVariants.{Memory, Query, Limited, Schedule}
 use Rattle.sp_commands.specs.Ends.{came, reading_outcome}
@@ -55,27 +50,8 @@ pub data TraceOutcome (place : Place) (name : List ℕ) (bound : ℕ) (held : To
 
 -- ---- its parts
 
--- the query or the schedule is refused by its length alone
-abbrev pub RefusesTexts : ToldFiles → Place → List ℕ → Refusal → Type 0
-RefusesTexts held place name r.Memory = Unit {0}
-RefusesTexts held place name r.Read = Unit {0}
-RefusesTexts held place name (r.Limited limit) =
-    ((limit ≡ query_limit) × IsLonger held query_limit place)
-    ⊎ ((limit ≡ schedule_limit) × ((text : List ℕ) × HasText held place text) × HoldsLonger held name schedule_limit)
-RefusesTexts held place name (r.Query code at) = ⊥
-
--- the count of one of these files rose
-abbrev pub OneRose : List (List ℕ) → (List ℕ → ℕ) → (List ℕ → ℕ) → Type 0
-OneRose names before after = (name : List ℕ) × Contains names name × Rose (before name) (after name)
-
 -- the texts are refused, whatever the bound and the input are, or memory ran out
 abbrev pub RefusesTrace : List ℕ → List ℕ → Status → Type 0
 RefusesTrace query schedule status =
     (status ≡ Memory)
     ⊎ ((bound : ℕ) (bytes : List ℕ) (ended : Bool) → TextsOutcome query schedule bound bytes ended (nothing_for status))
-
--- What was answered to texts: want of memory or a refusal, with nothing read and nothing written, or a run.
-pub data AnswersTexts (is_outcome : List ℕ → Bool → Outcome → Type 0) (old new : Outside) (end : Ending) : Type 0 where
-  by_memory : end ≡ ending Memory → new ≡ old → AnswersTexts is_outcome old new end
-  by_refusal : Refused is_outcome old new end → AnswersTexts is_outcome old new end
-  by_run : Ran is_outcome old new end → AnswersTexts is_outcome old new end

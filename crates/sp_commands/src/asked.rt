@@ -1,4 +1,4 @@
-// What the words ask of a trace, how late events may come, and where the query of a command stands.
+// What the words ask of a trace, of a check and of a graph, how late events may come, and where the query of a command stands.
 ghost use Rattle.std.specs.Prelude.{◌≡◌, true};
 ghost use Rattle.sp_cli.specs.Commands.{source_seen};
 ghost use Rattle.sp_intake.specs.LooseLaws.{punctual};
@@ -18,6 +18,26 @@ pub struct Trace<'a> {
     pub schedule: &'a str,
     /// The most versions that may be live at a time.
     pub live: u32,
+}
+
+/// A listing, held against the query over the input.
+#[derive(Clone, Copy, Drop)]
+pub struct Check<'a> {
+    /// Where the query stands.
+    pub place: Place<'a>,
+    /// The name of the listing's file.
+    pub listing: &'a str,
+}
+
+/// A run of a second query over what the matches of a first one return.
+#[derive(Clone, Copy, Drop)]
+pub struct Graph<'a> {
+    /// Where the first query stands.
+    pub place: Place<'a>,
+    /// The text of the second query.
+    pub second: &'a str,
+    /// The text of what matches of the first return.
+    pub returns: &'a str,
 }
 
 /// How far behind the greatest time before it an event may come, 0 to 10^15, and what becomes of one that is later.

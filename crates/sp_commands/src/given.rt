@@ -19,10 +19,10 @@ use std::sync::Arc;
 
 /// The events for the engine, why there are no more, and the status where all lines are written.
 #[derive(Drop)]
-pub(crate) struct Given {
-    pub(crate) events: Vec<Event>,
-    pub(crate) stop: Stop,
-    pub(crate) status: Status,
+pub struct Given {
+    pub events: Vec<Event>,
+    pub stop: Stop,
+    pub status: Status,
 }
 
 /// What the input gives where times may not go back.
@@ -71,8 +71,9 @@ fn by_time<S: Source>(
     })
 }
 
-/// What the input gives. Where no event may be late nothing is sorted.
-pub(crate) fn read_events<S: Source>(
+/// What the input gives, read to where reading stops. The slack is at most the greatest time. Where no event may be
+/// late nothing is sorted.
+pub fn read_events<S: Source>(
     alloc: Global,
     plan: &Arc<Plan>,
     late: Lateness,

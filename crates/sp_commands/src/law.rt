@@ -1,12 +1,21 @@
 // Laws of what the program promises.
-ghost use Rattle.sp_commands.specs.Alike.{PlansRunAlike};
+ghost use Rattle.sp_commands.specs.Alike.{PlansMatchAlike, PlansRunAlike};
 ghost use Rattle.sp_commands.specs.OneOutcome.{OneOutcome};
 ghost use Rattle.sp_commands.specs.Run.{PunctualRuns};
-ghost use Rattle.sp_commands.specs.Completes.{Completes, DrillCompletes};
+ghost use Rattle.sp_commands.specs.Completes.{CheckCompletes, Completes, DrillCompletes};
 
-/// Law: plans that stand for one query have one outcome over all bytes, status and text.
+/// Law: plans that stand for one query have one outcome over all bytes, status and text, whether lines are told or the
+/// proofs of windows.
 pub fn plans_run_alike()
     ensures { PlansRunAlike }
+{
+    // a law: a predicate of a query is true or not
+    sp_compile::law::one_truth();
+}
+
+/// Law: plans that stand for one query have the same schema, and find the same matches in all events.
+pub fn plans_match_alike()
+    ensures { PlansMatchAlike }
 {
     // a law: a predicate of a query is true or not
     sp_compile::law::one_truth();
@@ -26,23 +35,31 @@ pub fn one_outcome()
     ensures { OneOutcome }
 {
     // laws: what stands at a place, what its text comes to, what its predicates mean, and what a
-    // schedule is is one thing each
+    // schedule, a listing, a second query and what matches return are is one thing each
     sp_load::law::one_text();
     sp_load::law::one_reading();
+    sp_load::law::one_second();
     sp_compile::law::one_truth();
     sp_sched::law::one_schedule();
+    sp_listing::law::one_listing();
+    sp_returns::law::one_return();
+    sp_returns::law::returns_are_alike();
 }
 
 /// Law: words that give a command, a text or file within its limit, a query that compiles, a schedule
-/// without a bad line where one is named, input whose reading stops at its end, and no count of faults
+/// without a bad line where one is named, a second query and returns without a fault where the command is a graph,
+/// input whose reading stops at its end, no limit of derived events that is passed, and no count of faults
 /// that rose give status 0 and the whole text, or status 1 for want of memory.
 pub fn completes()
     ensures { Completes }
 {
-    // laws: what texts of queries and schedules come to is one thing, and a row stays a row whatever
-    // comes behind
+    // laws: what texts of queries, of schedules and of what matches return come to is one thing, and a row stays a row
+    // whatever comes behind
     sp_load::law::one_reading();
+    sp_load::law::one_second();
     sp_sched::law::one_schedule();
+    sp_returns::law::one_return();
+    sp_returns::law::returns_are_alike();
     sp_compile::law::one_truth();
     sp_cut::law::rows_stay();
 }
@@ -52,3 +69,17 @@ pub fn completes()
 pub fn drills_complete()
     ensures { DrillCompletes }
 {}
+
+/// Law: words that give a check, a text or file within its limit, a query that compiles, a listing within its limit that
+/// is the one of the run, input whose reading stops at its end, and no count of faults that rose give status 0 and the
+/// line that says yes, or status 1 for want of memory.
+pub fn checks_complete()
+    ensures { CheckCompletes }
+{
+    // laws: what texts of queries and listings come to is one thing, and a row stays a row whatever
+    // comes behind
+    sp_load::law::one_reading();
+    sp_listing::law::one_listing();
+    sp_compile::law::one_truth();
+    sp_cut::law::rows_stay();
+}

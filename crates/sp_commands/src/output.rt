@@ -12,7 +12,7 @@ use std::alloc::Global;
 
 /// Writes the line of each match by one call. Whatever it answers, what was written begins their text. The
 /// room of a line is used again for the next one.
-pub(crate) fn write_lines<K: Sink>(
+pub fn write_lines<K: Sink>(
     alloc: Global,
     plan: &Plan,
     matches: &[Match],
@@ -32,8 +32,8 @@ pub(crate) fn write_lines<K: Sink>(
     Ok(Written::All)
 }
 
-// Writes a line by one call, and an empty one by none.
-fn write_one<K: Sink>(line: &str, out: &mut K) -> Written
+/// Writes a line by one call, and an empty one by none.
+pub(crate) fn write_one<K: Sink>(line: &str, out: &mut K) -> Written
     ensures { WritesText line.now (K.state out.old) (K.state out.new) (Ok result) }
 {
     if line.is_empty() {

@@ -1,5 +1,5 @@
 // The command `trace`: the machine over the input, as a schedule steps it.
-ghost use Rattle.std.specs.Prelude.{◌≡◌, ◌≢◌, ◌≤◌, ℕ, List, [], ◌∷◌, ◌++◌, false, length, IfOk, IfErr, OnOk, Err};
+ghost use Rattle.std.specs.Prelude.{◌≡◌, ◌≤◌, [], ◌∷◌, ◌++◌, false, length, IfOk, IfErr, OnOk};
 ghost use Rattle.std.specs.Arc.{arc_value};
 ghost use Rattle.std.specs.List.{All};
 ghost use Rattle.sp_base.specs.Limits.{query_limit, schedule_limit, live_limit};
@@ -7,45 +7,31 @@ ghost use Rattle.sp_plan.specs.Compiled.{IsCompiled};
 ghost use Rattle.sp_plan.specs.Events.{AllFit, NeverGoesBack};
 ghost use Rattle.sp_sched.specs.Schedules.{CanStand, IsSchedule};
 ghost use Rattle.sp_trace.specs.Traced.{after, joined, lines_for, lines_from, traced};
-ghost use Rattle.sp_load.specs.Places.{place_of, text_of, HasText};
+ghost use Rattle.sp_load.specs.Places.{place_of, text_of};
 ghost use Rattle.sp_load.specs.Queries.{IsPlanFor};
 ghost use Rattle.sp_answer.specs.Outcome.{ending};
 ghost use Rattle.sp_answer.specs.Promise.{filed, Served};
 ghost use Rattle.sp_answer.specs.Ran.{outside, Ran};
 ghost use Rattle.sp_answer.specs.Written.{WritesText};
 ghost use Rattle.sp_commands.specs.Commands.{files_at};
-ghost use Rattle.sp_commands.specs.Trace.{
-  AnswersTexts,
-  HasSchedule,
-  IsPlanTrace,
-  OneRose,
-  RefusesTexts,
-  RefusesTrace,
-  TextsOutcome,
-  TraceOutcome,
-};
+ghost use Rattle.sp_commands.specs.Texts.{AnswersTexts};
+ghost use Rattle.sp_commands.specs.Trace.{IsPlanTrace, RefusesTrace, TextsOutcome, TraceOutcome};
 
 use crate::asked::Trace;
-use crate::ends::status_of_refusal;
+use crate::ends::{status_of_refusal, written_status};
 use crate::given::in_time;
 use crate::output::write_texts;
+use crate::texts::{Texts, load_texts};
 use crate::windowed::shared;
 use sp_answer::{Status, Written};
 use sp_base::limits::SCHEDULE_LIMIT;
 use sp_io::{Files, Sink, Source};
-use sp_load::{Place, QueryText, Refusal, load_file, plan_of_text, text_at};
+use sp_load::plan_of_text;
 use sp_plan::{Event, Memory, Plan};
 use sp_sched::{SchedFault, TraceStep, read_schedule};
 use sp_trace::Tracer;
 use std::alloc::Global;
 use std::sync::Arc;
-
-// The text of the query, and all bytes of the schedule's file.
-#[derive(Drop)]
-struct Texts<'a> {
-    query: QueryText<'a>,
-    schedule: Vec<u8>,
-}
 
 // The plan of the query, and the steps of the schedule.
 #[derive(Drop)]
@@ -54,51 +40,21 @@ struct Task {
     steps: Vec<TraceStep>,
 }
 
-// The texts of a trace, or why there are none.
-fn load_texts<'a, F: Files>(
-    alloc: Global,
-    place: Place<'a>,
-    schedule: &str,
-    files: &mut F,
-) -> Result<Texts<'a>, Refusal>
-    ensures query { IfOk result
-        (λ texts. HasText (F.held files.old) (place_of place.entry) (text_of texts.query)) }
-    ensures short { IfOk result (λ texts. length (text_of texts.query) ≤ query_limit) }
-    ensures schedule { IfOk result
-        (λ texts. HasSchedule (F.held files.old) schedule.now texts.schedule.items) }
-    ensures refused { IfErr result
-        (RefusesTexts (F.held files.old) (place_of place.entry) schedule.now) }
-    ensures held { F.held files.new ≡ F.held files.old }
-    ensures fault { let names = files_at (place_of place.entry) ++ schedule.now ∷ [] in
-        result ≡ Err Refusal.Read → OneRose names (F.faults files.old) (F.faults files.new) }
-    ensures no_fault { result ≢ Err Refusal.Read → (name : List ℕ)
-        → F.faults files.new name ≡ F.faults files.old name }
-{
-    let query = match text_at(alloc, place, files) {
-        Ok(query) => query,
-        Err(refusal) => return Err(refusal),
-    };
-    match load_file(alloc, schedule, SCHEDULE_LIMIT, files) {
-        Ok(schedule) => Ok(Texts { query, schedule }),
-        Err(refusal) => Err(refusal),
-    }
-}
-
 // What the texts ask for, or the status that refuses them: a fault of the query counts before a bad line
 // of the schedule.
 fn task_of(alloc: Global, texts: &Texts) -> Result<Task, Status>
     requires short { length (text_of texts.now.query) ≤ query_limit }
-    requires few { length texts.now.schedule.items ≤ schedule_limit }
+    requires few { length texts.now.content.items ≤ schedule_limit }
     ensures plan { IfOk result (λ task. IsPlanFor (text_of texts.now.query) task.plan) }
-    ensures steps { IfOk result (λ task. IsSchedule texts.now.schedule.items task.steps.items) }
+    ensures steps { IfOk result (λ task. IsSchedule texts.now.content.items task.steps.items) }
     ensures refused { IfErr result
-        (RefusesTrace (text_of texts.now.query) texts.now.schedule.items) }
+        (RefusesTrace (text_of texts.now.query) texts.now.content.items) }
 {
     let plan = match plan_of_text(alloc, &texts.query) {
         Ok(plan) => plan,
         Err(refusal) => return Err(status_of_refusal(refusal)),
     };
-    match read_schedule(alloc, &texts.schedule) {
+    match read_schedule(alloc, &texts.content) {
         Ok(steps) => Ok(Task { plan, steps }),
         Err(SchedFault::BadStep { line }) => Err(Status::Schedule { line }),
         Err(SchedFault::Memory) => Err(Status::Memory),
@@ -192,11 +148,8 @@ fn trace_task<S: Source, K: Sink>(
     if !given.stop.is_end() {
         return given.status;
     }
-    match print_trace(alloc, plan, live, given.events, &steps, out) {
-        Ok(Written::All) => given.status,
-        Ok(Written::Failed) => Status::Write,
-        Err(_) => Status::Memory,
-    }
+    let written = print_trace(alloc, plan, live, given.events, &steps, out);
+    written_status(given.status, written)
 }
 
 // Traces what the texts ask for.
@@ -208,11 +161,11 @@ fn trace_texts<S: Source, K: Sink>(
     out: &mut K,
 ) -> Status
     requires short { length (text_of texts.now.query) ≤ query_limit }
-    requires few { length texts.now.schedule.items ≤ schedule_limit }
+    requires few { length texts.now.content.items ≤ schedule_limit }
     requires some { 1 ≤ live }
     requires most { live ≤ live_limit }
     requires not_ended { (S.state input.old).ended ≡ false }
-    ensures { AnswersTexts (TextsOutcome (text_of texts.now.query) texts.now.schedule.items live)
+    ensures { AnswersTexts (TextsOutcome (text_of texts.now.query) texts.now.content.items live)
         (outside (S.state input.old) (K.state out.old))
         (outside (S.state input.new) (K.state out.new))
         (ending result) }
@@ -248,7 +201,7 @@ pub fn trace<S: Source, F: Files, K: Sink>(
         schedule,
         live,
     } = asked;
-    match load_texts(alloc, place, schedule, files) {
+    match load_texts(alloc, place, schedule, SCHEDULE_LIMIT, files) {
         Ok(texts) => trace_texts(alloc, &texts, live, input, out),
         Err(refusal) => status_of_refusal(refusal),
     }

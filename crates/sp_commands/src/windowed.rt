@@ -13,7 +13,7 @@ ghost use Rattle.sp_commands.specs.Commands.{files_at, lateness};
 ghost use Rattle.sp_commands.specs.Run.{windows_text, IsPlanRun, RunOutcome};
 
 use crate::asked::Lateness;
-use crate::ends::status_of_refusal;
+use crate::ends::{status_of_refusal, written_status};
 use crate::given::{Given, read_events};
 use crate::output::write_lines;
 use sp_answer::{Status, Written};
@@ -69,11 +69,8 @@ fn run_plan<S: Source, K: Sink>(
     let Ok(given) = read_events(alloc, &plan, late, input) else {
         return Status::Memory;
     };
-    match write_windows(alloc, &plan, &given, out) {
-        Ok(Written::All) => given.status,
-        Ok(Written::Failed) => Status::Write,
-        Err(_) => Status::Memory,
-    }
+    let written = write_windows(alloc, &plan, &given, out);
+    written_status(given.status, written)
 }
 
 /// Runs the query that stands there over the input, window by window. The slack is at most the greatest time.

@@ -34,41 +34,24 @@ fn words(rt: HostRuntime) -> Result<Vec<String>, AllocError> {
     Ok(words)
 }
 
-// The program's predictors, each in a place of its own.
-#[derive(Drop)]
-struct Predictors {
-    even: Box<Even>,
-    steady: Box<Steady>,
-    markov: Box<Markov>,
-}
+// How many predictors there are: one for each tree that a run may have.
+const PREDICTORS: usize = 16;
 
-impl Predictors {
-    fn new(rt: HostRuntime) -> Result<Predictors, AllocError> {
-        Ok(Predictors {
-            even: Box::new(rt.alloc(), Even::new())?,
-            steady: Box::new(rt.alloc(), Steady::new(STEADY))?,
-            markov: Box::new(rt.alloc(), Markov::new(rt.alloc())?)?,
-        })
-    }
-}
-
-// The status of the command line's words, by the predictors that they may choose. Nothing stands round the
-// jobs of the instances, and what a run ended with is dropped.
+// The status of the command line's words, by the predictors that they may choose: one that takes all for likely
+// alike, one that holds a share for likely, and all others learn. Nothing stands round the jobs of the instances,
+// and what a run ended with is dropped.
 fn call_spectre<R: Threads + Wait + Sync>(
     threads: &R,
     rt: HostRuntime,
     err: &mut StdSink,
 ) -> Result<u8, AllocError> {
     let words = words(rt)?;
-    let mut predictors: Vec<Box<dyn Predictor>> = Vec::with_capacity(rt.alloc(), 3)?;
-    let Predictors {
-        even,
-        steady,
-        markov,
-    } = Predictors::new(rt)?;
-    predictors.push_reserved(even);
-    predictors.push_reserved(steady);
-    predictors.push_reserved(markov);
+    let mut predictors: Vec<Box<dyn Predictor>> = Vec::with_capacity(rt.alloc(), PREDICTORS)?;
+    predictors.push(Box::new(rt.alloc(), Even::new())?)?;
+    predictors.push(Box::new(rt.alloc(), Steady::new(STEADY))?)?;
+    for _ in 2..PREDICTORS {
+        predictors.push(Box::new(rt.alloc(), Markov::new(rt.alloc())?)?)?;
+    }
     let mut input = StdSource::new(rt);
     let mut files = StdFiles::new(rt);
     let mut out = StdSink::new(rt, false);

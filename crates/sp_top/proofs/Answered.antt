@@ -1,24 +1,44 @@
 -- What was answered to a command, as an answer to its words.
-use Rattle.std.proofs.Common.{◌⊎◌, ◌≡◌, inl, inr, ℕ, List, [], Option, Some, None, refl, sym, subst, ◌∙◌, arith}
+use Rattle.std.proofs.Common.{◌⊎◌, ◌≡◌, ◌≤◌, inl, inr, ℕ, Bool, true, false, List, [], length, nat_le, Option, Some, None, refl, sym, subst, ◌∙◌, arith, ℤ, to_z, of_z, w64}
+use Rattle.std.proofs.lemmas.Int.{ints, to_z-of_z}
 use Rattle.sp_answer.specs.Outcome.{ending}
 use Rattle.sp_answer.specs.Ran.{Outside, Made}
 use Rattle.sp_answer.specs.Promise.{Filed, Served, by_memory, by_refusal, by_itself}
 use Rattle.sp_answer.specs.declared.status.Status.{Status}
 use Rattle.sp_answer.specs.declared.status.Status.TheVariants.{Memory, Usage}
 use Rattle.sp_answer.proofs.Answering.{served_weaker}
-use Rattle.sp_cli.specs.Commands.{Command, Speed, run, plain, trace, drill, command_of}
+use Rattle.sp_cli.specs.Limits.{IsSlackWithin}
+use Rattle.sp_cli.specs.Commands.{Command, Speed, run, plain, trace, drill, check, graph, command_of}
 use Rattle.sp_commands.specs.Commands.{IsCommand, HasPredictor, IsCall, IsNoCall, files_of, GivesFiles}
 use Rattle.sp_commands.specs.Drill.{DrillOutcome}
 use Rattle.sp_commands.specs.Outcome.{Answers, CommandOutcome, IsOutcome}
+use Rattle.sp_top.specs.Predictors.{AsksNoPredictor}
 use Rattle.sp_top.proofs.Chosen.{is_there}
 use Rattle.sp_commands.proofs.OneCommand.{one_command}
+
+-- a slack that a command may have is what it was where it is read back
+pub itself_within : (slack : ℤ) → IsSlackWithin slack → to_z w64 (of_z w64 slack) ≡ slack
+itself_within slack within = to_z-of_z w64 slack (omega (arith, ints, within.0, within.1))
 
 pub answers : (predictors words : List (List ℕ)) (command : Command) → IsCall predictors words command → (before after : Filed) (old new : Outside) (s : Status)
     → Served (files_of command) (CommandOutcome command) before after old new (ending s) → Answers predictors words before after old new s
 answers predictors words command is before after old new s served =
     (files_of command, inr (command, is, refl), served_weaker (files_of command) before after old new (CommandOutcome command) (IsOutcome predictors words) (ending s) (λ b e o given. inr (command, is, given)) served)
 
--- a command whose predictor is not there is no call
+-- a command that asks no predictor is a call whatever predictors there are
+has_none : (predictors : List (List ℕ)) (command : Command) → AsksNoPredictor command → HasPredictor predictors command
+has_none predictors (run query speed slack late trees proof) alone = absurd alone
+has_none predictors (plain query slack late) alone = tt
+has_none predictors (trace query schedule live) alone = tt
+has_none predictors (drill events seed speed) alone = absurd alone
+has_none predictors (check query list) alone = tt
+has_none predictors (graph query second returns speed) alone = absurd alone
+
+pub answers_alone : (predictors words : List (List ℕ)) (command : Command) → AsksNoPredictor command → IsCommand words command → (before after : Filed) (old new : Outside) (s : Status)
+    → Served (files_of command) (CommandOutcome command) before after old new (ending s) → Answers predictors words before after old new s
+answers_alone predictors words command alone is = answers predictors words command (is, has_none predictors command alone)
+
+-- a command whose predictors are not there is no call
 pub no_call : (predictors words : List (List ℕ)) (command : Command) → IsCommand words command → (HasPredictor predictors command → ⊥) → IsNoCall predictors words
 no_call predictors words command is none other call = none (subst (HasPredictor predictors) (one_command words other command call.0 is) call.1)
 
@@ -51,12 +71,27 @@ drilled predictors words events seed speed is before old new s made = answers pr
 
 -- ---- want of memory
 
--- the predictor of a command is there or not
+-- two things are so, or they are not both
+both : {A B : Type 0} → A ⊎ (A → ⊥) → B ⊎ (B → ⊥) → (A × B) ⊎ (A × B → ⊥)
+both (inl a) (inl b) = inl (a, b)
+both (inl a) (inr none) = inr (λ ab. none ab.1)
+both (inr none) b = inr (λ ab. none ab.0)
+
+at_most : (n most : ℕ) → (n ≤ most) ⊎ (n ≤ most → ⊥)
+at_most n most = by (nat_le n most) refl
+  where
+    by : (b : Bool) → nat_le n most ≡ b → (n ≤ most) ⊎ (n ≤ most → ⊥)
+    by true e = inl (search arith)
+    by false e = inr (λ low. grind (arith, e, low))
+
+-- the predictors of a command are there or not
 has_predictor : (predictors : List (List ℕ)) (command : Command) → HasPredictor predictors command ⊎ (HasPredictor predictors command → ⊥)
-has_predictor predictors (run query speed slack late) = is_there speed.predictor predictors
+has_predictor predictors (run query speed slack late trees proof) = both (is_there speed.predictor predictors) (at_most trees (length predictors))
 has_predictor predictors (plain query slack late) = inl tt
 has_predictor predictors (trace query schedule live) = inl tt
 has_predictor predictors (drill events seed speed) = is_there speed.predictor predictors
+has_predictor predictors (check query list) = inl tt
+has_predictor predictors (graph query second returns speed) = is_there speed.predictor predictors
 
 -- whatever the words are, they give names of files
 gives_names : (predictors words : List (List ℕ)) (command : Option Command) → command_of words ≡ command → (names : List (List ℕ)) × GivesFiles predictors words names

@@ -1,10 +1,11 @@
 -- The first predictor of a name, and whether there is one.
-use Rattle.std.proofs.Common.{◌⊎◌, ◌≡◌, inl, inr, ℕ, zero, suc, Bool, true, false, List, [], ◌∷◌, map, if◌then◌else◌, Option, Some, None, refl, sym, subst, arith}
-use Rattle.std.specs.Prelude.{IfSome, IfNone}
+use Rattle.std.proofs.Common.{◌⊎◌, ◌≡◌, ◌≤◌, inl, inr, ℕ, zero, suc, Bool, true, false, List, [], ◌∷◌, map, length, take, nat_le, if◌then◌else◌, Option, Some, None, refl, sym, subst, arith}
+use Rattle.std.specs.Prelude.{IfSome, IfNone, option_map}
 use Rattle.std.specs.List.{Contains}
 use Rattle.std.specs.Str.{bytes_eq}
+use Rattle.std.proofs.lemmas.List.{length-map}
 use Rattle.std.proofs.lemmas.Slice.Eq.{bytes_eq-Decides}
-use Rattle.sp_top.specs.Predictors.{first_of}
+use Rattle.sp_top.specs.Predictors.{first_of, for_trees, others_of}
 
 module _ {X : Type 0} (f : X → List ℕ) (name : List ℕ) where
   abbrev is_named : X → Bool
@@ -50,6 +51,26 @@ module _ {X : Type 0} (f : X → List ℕ) (name : List ℕ) where
   pub not_chosen : (xs : List X) → None ≡ first_of is_named xs → Contains (map f xs) name → ⊥
   not_chosen xs is = subst (λ (r : Option X). IfNone r (Contains (map f xs) name → ⊥)) (sym is) (none_named xs)
 
+  -- where there is one for each tree, the name is one of those of the list, and so many are there
+  pub enough : (trees : ℕ) (xs ys : List X) → Some ys ≡ for_trees trees is_named xs → Contains (map f xs) name × (trees ≤ length (map f xs))
+  enough trees xs ys are = by (nat_le trees (length xs)) refl (first_of is_named xs) refl are
+    where
+      by : (b : Bool) → nat_le trees (length xs) ≡ b → (o : Option X) → first_of is_named xs ≡ o
+          → Some ys ≡ (if b then option_map (λ x. take trees (x ∷ others_of is_named xs)) o else None) → Contains (map f xs) name × (trees ≤ length (map f xs))
+      by true e (Some x) found are = let same = length-map xs f in ((chosen xs x (sym found)).1, search arith)
+      by true e None found are = absurd (cc are)
+      by false e o found are = absurd (cc are)
+
+  -- and where there is not, it is not, or so many are not there
+  pub not_enough : (trees : ℕ) (xs : List X) → None ≡ for_trees trees is_named xs → Contains (map f xs) name × (trees ≤ length (map f xs)) → ⊥
+  not_enough trees xs are there = by (nat_le trees (length xs)) refl (first_of is_named xs) refl are
+    where
+      by : (b : Bool) → nat_le trees (length xs) ≡ b → (o : Option X) → first_of is_named xs ≡ o
+          → None ≡ (if b then option_map (λ x. take trees (x ∷ others_of is_named xs)) o else None) → ⊥
+      by true e (Some x) found are = cc are
+      by true e None found are = not_chosen xs (sym found) there.0
+      by false e o found are = let same = length-map xs f in grind (arith, e, there.1, same)
+
 -- a name is one of a list or not
 pub is_there : (name : List ℕ) (xs : List (List ℕ)) → Contains xs name ⊎ (Contains xs name → ⊥)
 is_there name [] = inr (λ at. omega (arith, at.1))
@@ -59,3 +80,7 @@ is_there name (x ∷ xs) = by (bytes_eq x name) refl (is_there name xs)
     by true is rest = inl (0, omega arith, (bytes_eq-Decides x name).0 is)
     by false is (inl there) = inl (behind (λ y. y) name x xs there)
     by false is (inr none) = inr (λ at. none (ahead (λ y. y) name x xs (λ same. let yes = (bytes_eq-Decides x name).1 same in cc) at))
+
+-- a list that has a name has at least one
+pub at_least : (trees : ℕ) (xs : List (List ℕ)) (name : List ℕ) → Contains xs name → trees ≤ 1 → trees ≤ length xs
+at_least trees xs name at few = omega (arith, at.1, few)

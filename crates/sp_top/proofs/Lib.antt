@@ -4,5 +4,10 @@ mod Apart
 mod Drilling
 mod Coming
 mod Driven
+mod Feeding
+mod ByParts
+mod OwnPlans
 mod Reporting
+mod GoneOver
+mod Listed
 mod Prompt

@@ -1,5 +1,5 @@
 -- A run is prompt: from what an input had given and an outlet had taken to the bytes that were read and written.
-use Rattle.std.proofs.Common.{◌≡◌, ℕ, ℤ, Bool, false, List, ◌++◌, refl, sym, ◌∙◌, ap, subst}
+use Rattle.std.proofs.Common.{◌≡◌, ◌<◌, ℕ, ℤ, Bool, false, List, ◌++◌, refl, sym, ◌∙◌, ap, subst, arith}
 use Rattle.std.proofs.lemmas.Option.{same_Some}
 use Rattle.sp_io.specs.Outside.{Gave, Grew, SourceState, SinkState, ToldFiles}
 use Rattle.sp_io.proofs.Grew.{grew_more}
@@ -14,7 +14,7 @@ use Rattle.sp_ports.specs.Stopping.{is_end}
 use Rattle.sp_intake.specs.Standing.{Standing}
 use Rattle.sp_answer.specs.Outcome.{Outcome}
 use Rattle.sp_answer.specs.Ran.{Outside, outside}
-use Rattle.sp_cli.specs.Commands.{Command, QuerySource, Speed, plain, run, trace, drill}
+use Rattle.sp_cli.specs.Commands.{Command, QuerySource, Speed, run}
 use Rattle.sp_load.specs.Places.{Place}
 use Rattle.sp_load.specs.Queries.{IsPlanAt}
 use Rattle.sp_commands.specs.Commands.{IsCommand, place_of, lateness}
@@ -24,6 +24,7 @@ use Rattle.sp_top.specs.Coming.{CameBefore, AsksInTime}
 use Rattle.sp_commands.specs.Run.{IsPlanRun, RunOutcome, run_outcome}
 use Rattle.sp_commands.specs.Run as served
 use Rattle.sp_split.specs.Prompt.{TookBefore}
+use Rattle.sp_top.specs.Predictors.{AsksNoPredictor}
 use Rattle.sp_top.specs.Prompt.{AskedInTime, IsPrompt, RunsPromptly}
 use Rattle.sp_top.specs.Prompt as p
 use Rattle.sp_top.proofs.Driven.{outlet}
@@ -69,21 +70,38 @@ prompt_at place l held q old new is (p.in_time asked) = p.in_time (record {
 
 -- what a run asks for
 abbrev asked_in : QuerySource × Lateness → Command → QuerySource × Lateness
-asked_in default (run query speed slack late) = (query, lateness slack late)
-asked_in default (plain query slack late) = default
-asked_in default (trace query schedule live) = default
-asked_in default (drill events seed speed) = default
+asked_in default (run query speed slack late trees proof) = (query, lateness slack late)
+asked_in default _ = default
 
--- the words of a run are no other's
-pub run_promptly : (words : List (List ℕ)) (held : ToldFiles) (old new : Outside) (query : QuerySource) (speed : Speed) (slack : ℤ) (late : LateRule) → IsCommand words (run query speed slack late)
-    → IsPrompt (RunOutcome (place_of query) (lateness slack late) held) old new → RunsPromptly words held old new
-run_promptly words held old new query speed slack late is prompt other fast more rule own =
-    let same : run query speed slack late ≡ run other fast more rule = same_Some (run query speed slack late) (run other fast more rule) (sym is ∙ own) in
-    subst (λ (asked : QuerySource × Lateness). IsPrompt (RunOutcome (place_of asked.0) asked.1 held) old new) (ap (asked_in (query, lateness slack late)) same) prompt
+-- whether it lists proofs
+abbrev proof_in : Command → Bool
+proof_in (run _ _ _ _ _ proof) = proof
+proof_in _ = false
+
+-- the words of a run by one tree are no other's, and it is prompt where it tells lines
+pub run_promptly : (words : List (List ℕ)) (held : ToldFiles) (old new : Outside) (query : QuerySource) (speed : Speed) (slack : ℤ) (late : LateRule) (proof : Bool)
+    → IsCommand words (run query speed slack late 1 proof) → (proof ≡ false → IsPrompt (RunOutcome (place_of query) (lateness slack late) held) old new) → RunsPromptly words held old new
+run_promptly words held old new query speed slack late proof is prompt other fast more rule own =
+    let same : run query speed slack late 1 proof ≡ run other fast more rule 1 false = same_Some (run query speed slack late 1 proof) (run other fast more rule 1 false) (sym is ∙ own) in
+    subst (λ (asked : QuerySource × Lateness). IsPrompt (RunOutcome (place_of asked.0) asked.1 held) old new) (ap (asked_in (query, lateness slack late)) same) (prompt (ap proof_in same))
 
 pub unread_promptly : (words : List (List ℕ)) (held : ToldFiles) (old new : Outside) → new.input ≡ old.input → RunsPromptly words held old new
 unread_promptly words held old new same query speed slack late own = p.unread same
 
--- words that are another command are no run
-pub no_run : (words : List (List ℕ)) (held : ToldFiles) (old new : Outside) (command : Command) → IsCommand words command → ((query : QuerySource) (speed : Speed) (slack : ℤ) (late : LateRule) → command ≡ run query speed slack late → ⊥) → RunsPromptly words held old new
-no_run words held old new command is other query speed slack late own = absurd (other query speed slack late (same_Some command (run query speed slack late) (sym is ∙ own)))
+-- words that are another command are no run by one tree
+pub no_run : (words : List (List ℕ)) (held : ToldFiles) (old new : Outside) (command : Command) → IsCommand words command → ((query : QuerySource) (speed : Speed) (slack : ℤ) (late : LateRule) → command ≡ run query speed slack late 1 false → ⊥) → RunsPromptly words held old new
+no_run words held old new command is other query speed slack late own = absurd (other query speed slack late (same_Some command (run query speed slack late 1 false) (sym is ∙ own)))
+
+-- nor are those of a run by several trees
+pub several_run : (words : List (List ℕ)) (held : ToldFiles) (old new : Outside) (query : QuerySource) (speed : Speed) (slack : ℤ) (late : LateRule) (trees : ℕ) (proof : Bool) → 1 < trees
+    → IsCommand words (run query speed slack late trees proof) → RunsPromptly words held old new
+several_run words held old new query speed slack late trees proof more is =
+    no_run words held old new (run query speed slack late trees proof) is (λ other fast wide rule same. let one : trees ≡ 1 = ap trees_in same in omega (arith, more, one))
+  where
+    trees_in : Command → ℕ
+    trees_in (run _ _ _ _ n _) = n
+    trees_in _ = 0
+
+-- nor are those of a command that asks no predictor
+pub alone_runs_not : (words : List (List ℕ)) (held : ToldFiles) (old new : Outside) (command : Command) → AsksNoPredictor command → IsCommand words command → RunsPromptly words held old new
+alone_runs_not words held old new command alone is = no_run words held old new command is (λ query speed slack late same. subst AsksNoPredictor same alone)

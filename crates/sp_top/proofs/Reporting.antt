@@ -1,5 +1,5 @@
 -- What a run that was done ended with, as what is reported of it.
-use Rattle.std.proofs.Common.{◌≡◌, ◌≢◌, inl, ◌⊎◌, ⊎_elim, ℕ, zero, suc, Bool, true, List, [], ◌∷◌, length, map, filter, Option, Some, None, refl, ap, sym, subst, ◌∙◌, arith}
+use Rattle.std.proofs.Common.{◌≡◌, ◌≢◌, ◌<◌, inl, ◌⊎◌, ⊎_elim, ℕ, zero, suc, Bool, true, List, [], ◌∷◌, length, map, filter, Option, Some, None, refl, ap, sym, subst, ◌∙◌, arith}
 use Rattle.std.specs.Prelude.{ℤ, pos, ◌+ℤ◌, ◌*ℤ◌, unsigned_abs, find, IfSome, if◌then◌else◌}
 use Rattle.std.specs.List.{filter_map, cons_option, last_or, range_with_len}
 use Rattle.std.specs.Option.{option_map}
@@ -33,14 +33,16 @@ use Rattle.sp_split.specs.declared.ended.Why.{Why}
 use Rattle.sp_split.specs.declared.ended.Why.TheVariants as why
 use Rattle.sp_split.specs.Driving.{Drove, CameAbout, most_asked}
 use Rattle.sp_spread.specs.Limiting.{AsksAtMost}
-use Rattle.sp_cli.specs.Commands.{Speed, QuerySource, run, drill}
-use Rattle.sp_commands.specs.Commands.{place_of, lateness, IsCall}
+use Rattle.sp_cli.specs.Commands.{Command, Speed, QuerySource, run, plain, trace, drill, check, graph}
+use Rattle.sp_commands.specs.Commands.{place_of, lateness, IsCall, IsCommand, IsReported}
 use Rattle.sp_commands.specs.Ends.{came_within, late_status, status_of_refusal}
 use Rattle.sp_top.specs.Coming.{late_in, ComesFrom}
+use Rattle.sp_top.specs.Predictors.{AsksNoPredictor}
 use Rattle.sp_top.specs.RunEnds.{status_of_end}
 use Rattle.sp_top.specs.Report.{Reports, of_run, of_drill, Reported, ReportsPlan, ReportsPlace, ReportsDrill, WhereDone, Reporting}
 use Rattle.sp_top.proofs.Driven.{whole_end, if_some}
 use Rattle.sp_commands.proofs.Came.{within_told}
+use Rattle.sp_commands.proofs.OneCommand.{one_command}
 
 -- ---- once the input has ended each window is closed
 
@@ -157,14 +159,42 @@ refused_undone (r.Query code at) is = omega (arith, is)
 
 -- ---- a call
 
+-- a command that asks no predictor is not reported
+unreported : (command : Command) → AsksNoPredictor command → IsReported command → ⊥
+unreported (run query speed slack late trees proof) alone reported = alone
+unreported (plain query slack late) alone reported = reported
+unreported (trace query schedule live) alone reported = reported
+unreported (drill events seed speed) alone reported = alone
+unreported (check query list) alone reported = reported
+unreported (graph query second returns speed) alone reported = reported
+
 module _ {V : Type 0} {T : V → Type 0} (predictors words : List (List ℕ)) (held : ToldFiles) (old new : Told) where
-  -- words that are a run
-  pub reports_run : (query : QuerySource) (speed : Speed) (slack : ℤ) (late : LateRule) → IsCall predictors words (run query speed slack late) → (place : Place) → place ≡ place_of query → (l : Lateness) → l ≡ lateness slack late → (status : Status) (ended : Option (Ended V T))
+  -- words that are a run by one tree
+  pub reports_run : (query : QuerySource) (speed : Speed) (slack : ℤ) (late : LateRule) (proof : Bool) → IsCall predictors words (run query speed slack late 1 proof) → (place : Place) → place ≡ place_of query → (l : Lateness) → l ≡ lateness slack late → (status : Status) (ended : Option (Ended V T))
       → WhereDone (ReportsPlace held place l speed old new) status ended → Reporting predictors words held old new status ended
-  reports_run query speed slack late call place at l is status None report = λ _ _ _. report
-  reports_run query speed slack late call place at l is status (Some e) report = λ done.
+  reports_run query speed slack late proof call place at l is status None report = λ _ _ _. report
+  reports_run query speed slack late proof call place at l is status (Some e) report = λ done.
       let own = report done in
-      of_run query speed slack late own.1 call (subst (λ (p : Place). IsPlanAt held p e.core.plan) at own.0) own.2 (subst (λ (m : Lateness). Reports speed (came_within e.core.plan m own.1 true).events e) is own.3)
+      of_run query speed slack late proof own.1 call (subst (λ (p : Place). IsPlanAt held p e.core.plan) at own.0) own.2 (subst (λ (m : Lateness). Reports speed (came_within e.core.plan m own.1 true).events e) is own.3)
+
+  -- words that are a run by several trees, of which nothing is reported
+  pub reports_none : (query : QuerySource) (speed : Speed) (slack : ℤ) (late : LateRule) (trees : ℕ) (proof : Bool) → 1 < trees → IsCommand words (run query speed slack late trees proof) → (status : Status)
+      (ended : Option (Ended V T)) → ended ≡ None → Reporting predictors words held old new status ended
+  reports_none query speed slack late trees proof more is status (Some e) none = absurd (cc none)
+  reports_none query speed slack late trees proof more is status None none = λ command reported call.
+      let one : trees ≡ 1 = subst IsReported (one_command words command (run query speed slack late trees proof) call.0 is) reported in
+      absurd (omega (arith, more, one))
+
+  -- words that are a command of which nothing is reported
+  pub reports_nothing : (command : Command) → (IsReported command → ⊥) → IsCommand words command → (status : Status) (ended : Option (Ended V T)) → ended ≡ None
+      → Reporting predictors words held old new status ended
+  reports_nothing command never is status (Some e) none = absurd (cc none)
+  reports_nothing command never is status None none = λ other reported call. absurd (never (subst IsReported (one_command words other command call.0 is) reported))
+
+  -- as one which asks no predictor
+  pub reports_no : (command : Command) → AsksNoPredictor command → IsCommand words command → (status : Status) (ended : Option (Ended V T)) → ended ≡ None
+      → Reporting predictors words held old new status ended
+  reports_no command alone = reports_nothing command (unreported command alone)
 
   -- words that are a drill
   pub reports_drill : (events seed : ℕ) (speed : Speed) → IsCall predictors words (drill events seed speed) → (status : Status) (ended : Option (Ended V T))

@@ -26,7 +26,8 @@ pub data IsPrompt (is_outcome : List ℕ → Bool → Outcome → Type 0) (old n
   unread : new.input ≡ old.input → IsPrompt is_outcome old new
   in_time : AskedInTime is_outcome old new → IsPrompt is_outcome old new
 
--- where the words are a run, it is prompt
+-- where the words are a run by one tree that tells lines, it is prompt
 abbrev pub RunsPromptly : List (List ℕ) → ToldFiles → Outside → Outside → Type 0
 RunsPromptly words held old new =
-    (query : QuerySource) (speed : Speed) (slack : ℤ) (late : LateRule) → IsCommand words (run query speed slack late) → IsPrompt (RunOutcome (place_of query) (lateness slack late) held) old new
+    (query : QuerySource) (speed : Speed) (slack : ℤ) (late : LateRule) → IsCommand words (run query speed slack late 1 false)
+    → IsPrompt (RunOutcome (place_of query) (lateness slack late) held) old new

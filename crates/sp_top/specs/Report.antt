@@ -1,5 +1,5 @@
 -- What is reported of a call: the core of a run that was done, as it ended, with the histories of core and hub.
-use Rattle.std.specs.Prelude.{◌≡◌, ◌≢◌, ℕ, ℤ, true, List, length, Option, Some, None}
+use Rattle.std.specs.Prelude.{◌≡◌, ◌≢◌, ℕ, ℤ, Bool, true, List, length, Option, Some, None}
 use Rattle.sp_io.specs.Outside.{Told, ToldFiles, Gave}
 use Rattle.sp_plan.specs.declared.event.Event.{Event}
 use Rattle.sp_plan.specs.declared.plan.Plan.{Plan}
@@ -40,16 +40,17 @@ module _ {V : Type 0} {T : V → Type 0} where
     -- and no lease asks for more events than a run of this speed may
     pub asked : AsksAtMost (most_asked speed.instances speed.batch) e.core.journal
 
-  -- The words are a run or a drill, and it ended so: a run by a plan of the query that stands there, over the bytes that were taken; a drill
-  -- by a plan of its query, over the rows that it generated.
+  -- The words are a run by one tree, which tells lines or lists proofs, or a drill, and it ended so: a run by a plan of the query that stands there,
+  -- over the bytes that were taken; a drill by a plan of its query, over the rows that it generated.
   pub data ReportsCall (predictors words : List (List ℕ)) (held : ToldFiles) (old new : Told) (e : Ended V T) : Type 0 where
-    of_run : (query : QuerySource) (speed : Speed) (slack : ℤ) (late : LateRule) (taken : List ℕ) → IsCall predictors words (run query speed slack late)
+    of_run : (query : QuerySource) (speed : Speed) (slack : ℤ) (late : LateRule) (proof : Bool) (taken : List ℕ)
+        → IsCall predictors words (run query speed slack late 1 proof)
         → IsPlanAt held (place_of query) e.core.plan → Gave old taken new → Reports speed (came_within e.core.plan (lateness slack late) taken true).events e
         → ReportsCall predictors words held old new e
     of_drill : (events seed : ℕ) (speed : Speed) → IsCall predictors words (drill events seed speed) → IsPlanFor drill_query e.core.plan
         → Reports speed (came e.core.plan (generated events seed) true).events e → ReportsCall predictors words held old new e
 
-  -- what is reported of a call that answered this number: the end of a run or drill where it was done, and else nothing
+  -- what is reported of a call that answered this number: the end of a run by one tree or of a drill where it was done, and else nothing
   abbrev pub Reported : List (List ℕ) → List (List ℕ) → ToldFiles → Told → Told → ℕ → Option (Ended V T) → Type 0
   Reported predictors words held old new result (Some e) = (result ≡ 0) × ReportsCall predictors words held old new e
   Reported predictors words held old new result None = (command : Command) → IsReported command → IsCall predictors words command → result ≢ 0
@@ -74,7 +75,7 @@ module _ {V : Type 0} {T : V → Type 0} where
   WhereDone Is status (Some e) = number_of status ≡ 0 → Is e
   WhereDone Is status None = number_of status ≢ 0
 
-  -- the same of a call whose words are a run or a drill; for other words there is no end
+  -- the same of a call whose words are a run by one tree or a drill; for other words there is no end
   abbrev pub Reporting : List (List ℕ) → List (List ℕ) → ToldFiles → Told → Told → Status → Option (Ended V T) → Type 0
   Reporting predictors words held old new status (Some e) = number_of status ≡ 0 → ReportsCall predictors words held old new e
   Reporting predictors words held old new status None = (command : Command) → IsReported command → IsCall predictors words command → number_of status ≢ 0

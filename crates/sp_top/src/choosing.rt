@@ -1,7 +1,7 @@
 // The predictors of a run, out of those that are given.
-ghost use Rattle.std.specs.Prelude.{◌≡◌, ◌<◌, ◌==◌, if◌then◌else◌, [], Some, None, IfSome, IfNone, length, option_map, remove, slice_get, string_bytes};
+ghost use Rattle.std.specs.Prelude.{◌≡◌, ◌<◌, ◌≤◌, ◌==◌, if◌then◌else◌, [], Some, None, IfSome, IfNone, length, option_map, remove, slice_get, string_bytes, vec_len};
 ghost use Rattle.std.specs.Str.{bytes_eq};
-ghost use Rattle.sp_top.specs.Predictors.{first_of, others_of};
+ghost use Rattle.sp_top.specs.Predictors.{first_of, for_trees, others_of};
 
 use sp_chance::Predictor;
 use sp_cli::Speed;
@@ -62,4 +62,29 @@ pub(crate) fn crew_of(predictors: Vec<Box<dyn Predictor>>, speed: &Speed) -> Opt
     let every = speed.rotate;
     let rest = followers(others, every);
     Some(Crew { first, rest, every })
+}
+
+/// One predictor for each of so many trees: the first of the name that the speed chooses, if there is one, and behind
+/// it the first of the others, in their order. None where there are too few.
+pub(crate) fn predictors_of(
+    predictors: Vec<Box<dyn Predictor>>,
+    speed: &Speed,
+    trees: u32,
+) -> Option<Vec<Box<dyn Predictor>>>
+    requires { 1 ≤ trees }
+    ensures chosen { option_map (λ chosen. chosen.items) result ≡ for_trees trees
+        (λ one. bytes_eq (named one) (string_bytes speed.now.predictor)) predictors.items }
+    ensures some { IfSome result (λ chosen. 0 < vec_len chosen) }
+{
+    let mut chosen = predictors;
+    let trees = trees as usize;
+    if chosen.len() < trees {
+        return None;
+    }
+    let place = place_of_name(&chosen, &speed.predictor)?;
+    let first = chosen.remove(place);
+    chosen.push_reserved(first);
+    chosen.rotate_right(1);
+    chosen.truncate(trees);
+    Some(chosen)
 }

@@ -5,11 +5,16 @@
 
 mod asked;
 mod choosing;
+mod copies;
 mod drill;
+mod graph;
 mod law;
 mod lines;
+mod listing;
+mod plans;
 mod run;
 mod top;
+mod trees;
 mod workshop;
 
 pub use top::spectre;

@@ -12,15 +12,17 @@ ghost use Rattle.sp_answer.specs.Ran.{outside, Ran};
 ghost use Rattle.sp_cli.specs.Commands.{speed_seen};
 ghost use Rattle.sp_load.specs.Places.{place_of};
 ghost use Rattle.sp_commands.specs.Commands.{files_at, lateness};
+ghost use Rattle.sp_top.specs.Asked.{IsManner};
 ghost use Rattle.sp_top.specs.Coming.{late_in, AsksInTime, ComesFrom};
 ghost use Rattle.sp_top.specs.RunEnds as ends;
 ghost use Rattle.sp_top.specs.Prompt.{AskedInTime, IsPrompt};
 ghost use Rattle.sp_top.specs.Report.{ReportsPlace, ReportsPlan, WhereDone};
-ghost use Rattle.sp_commands.specs.Run.{IsPlanRun, RunOutcome};
+ghost use Rattle.sp_commands.specs.Run.{text_by, IsPlanRun, IsPlanTold, RunOutcome, ToldOutcome};
 
 use crate::asked::{Manner, Run};
 use crate::law;
 use crate::lines::Lines;
+use crate::listing::list_plan;
 use crate::workshop::{CommandEnd, Workshop};
 use sp_answer::Status;
 use sp_commands::{Lateness, late_status, shared, status_of_refusal};
@@ -159,7 +161,7 @@ fn drive_core<S: Source, K: Sink, G: Gate, R: Threads + Wait + Sync>(
     }
 }
 
-/// Runs a plan over the input.
+/// Runs a plan over the input, and tells its lines.
 pub(crate) fn run_plan<S: Source, K: Sink, G: Gate, R: Threads + Wait + Sync>(
     shop: &Workshop<'_, G, R>,
     plan: Plan,
@@ -169,11 +171,7 @@ pub(crate) fn run_plan<S: Source, K: Sink, G: Gate, R: Threads + Wait + Sync>(
     out: &mut K,
 ) -> CommandEnd
     requires compiled { IsCompiled plan }
-    requires live { (1 ≤ manner.speed.now.live) × (manner.speed.now.live ≤ live_limit) }
-    requires batch { (1 ≤ manner.speed.now.batch) × (manner.speed.now.batch ≤ batch_limit) }
-    requires instances { manner.speed.now.instances ≤ 16 }
-    requires low { pos 0 ≤ℤ manner.late.slack }
-    requires high { manner.late.slack ≤ℤ pos number_limit }
+    requires manner { IsManner manner }
     requires not_ended { (S.state input.old).ended ≡ false }
     ensures ran { Ran (IsPlanRun plan (lateness manner.entry.late.slack manner.entry.late.rule))
         (outside (S.state input.old) (K.state out.old))
@@ -200,6 +198,39 @@ pub(crate) fn run_plan<S: Source, K: Sink, G: Gate, R: Threads + Wait + Sync>(
     answer
 }
 
+// Runs a plan over the input, and tells of it what is asked for.
+fn tell_plan<S: Source, K: Sink, G: Gate, R: Threads + Wait + Sync>(
+    shop: &Workshop<'_, G, R>,
+    plan: Plan,
+    asked: Run<'_>,
+    crew: Crew,
+    input: &mut S,
+    out: &mut K,
+) -> CommandEnd
+    requires compiled { IsCompiled plan }
+    requires manner { IsManner asked.manner }
+    requires not_ended { (S.state input.old).ended ≡ false }
+    ensures ran { Ran (IsPlanTold (text_by asked.entry.proof) plan
+        (lateness asked.entry.manner.late.slack asked.entry.manner.late.rule))
+        (outside (S.state input.old) (K.state out.old))
+        (outside (S.state input.new) (K.state out.new))
+        (ending result.status) }
+    ensures report { WhereDone (ReportsPlan plan
+        (lateness asked.entry.manner.late.slack asked.entry.manner.late.rule)
+        (speed_seen asked.entry.manner.speed.now)
+        (S.state input.old).left (S.state input.new).left) result.status result.ended }
+    ensures prompt { asked.entry.proof ≡ false → IsPrompt (IsPlanRun plan
+        (lateness asked.entry.manner.late.slack asked.entry.manner.late.rule))
+        (outside (S.state input.old) (K.state out.old))
+        (outside (S.state input.new) (K.state out.new)) }
+{
+    if asked.proof {
+        list_plan(shop, plan, asked.manner, crew, input, out)
+    } else {
+        run_plan(shop, plan, asked.manner, crew, input, out)
+    }
+}
+
 /// Runs the query that stands there over the input, by the speculative engine.
 pub(crate) fn run<S: Source, F: Files, K: Sink, G: Gate, R: Threads + Wait + Sync>(
     shop: &Workshop<'_, G, R>,
@@ -209,16 +240,10 @@ pub(crate) fn run<S: Source, F: Files, K: Sink, G: Gate, R: Threads + Wait + Syn
     files: &mut F,
     out: &mut K,
 ) -> CommandEnd
-    requires live { (1 ≤ asked.manner.speed.now.live)
-        × (asked.manner.speed.now.live ≤ live_limit) }
-    requires batch { (1 ≤ asked.manner.speed.now.batch)
-        × (asked.manner.speed.now.batch ≤ batch_limit) }
-    requires instances { asked.manner.speed.now.instances ≤ 16 }
-    requires low { pos 0 ≤ℤ asked.manner.late.slack }
-    requires high { asked.manner.late.slack ≤ℤ pos number_limit }
+    requires manner { IsManner asked.manner }
     requires not_ended { (S.state input.old).ended ≡ false }
     ensures served { Served (files_at (place_of asked.entry.place))
-        (RunOutcome (place_of asked.entry.place)
+        (ToldOutcome (text_by asked.entry.proof) (place_of asked.entry.place)
         (lateness asked.entry.manner.late.slack asked.entry.manner.late.rule))
         (filed (F.held files.old) (F.faults files.old))
         (filed (F.held files.new) (F.faults files.new))
@@ -229,13 +254,13 @@ pub(crate) fn run<S: Source, F: Files, K: Sink, G: Gate, R: Threads + Wait + Syn
         (lateness asked.entry.manner.late.slack asked.entry.manner.late.rule)
         (speed_seen asked.entry.manner.speed.now) (S.state input.old).left (S.state input.new).left)
         result.status result.ended }
-    ensures prompt { IsPrompt (RunOutcome (place_of asked.entry.place)
+    ensures prompt { asked.entry.proof ≡ false → IsPrompt (RunOutcome (place_of asked.entry.place)
         (lateness asked.entry.manner.late.slack asked.entry.manner.late.rule) (F.held files.old))
         (outside (S.state input.old) (K.state out.old))
         (outside (S.state input.new) (K.state out.new)) }
 {
     match plan_at(shop.alloc, asked.place, files) {
-        Ok(plan) => run_plan(shop, plan, asked.manner, crew, input, out),
+        Ok(plan) => tell_plan(shop, plan, asked, crew, input, out),
         Err(refusal) => CommandEnd::of(status_of_refusal(refusal)),
     }
 }

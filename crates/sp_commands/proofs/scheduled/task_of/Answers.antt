@@ -6,7 +6,7 @@ use Rattle.sp_commands.proofs.Tracing.{query_faulty}
 use Rattle.sp_commands.proofs.scheduled.task_of.Goals as goal
 
 pub returns-in-Err-clause-refused : goal.returns-in-Err-clause-refused
-returns-in-Err-clause-refused c = query_faulty (text_of c.args.texts.now.query) c.args.texts.now.schedule.items c.in-Err.refusal c.status_of_refusal.result c.status_of_refusal.ensures c.in-Err.ensures.refused
+returns-in-Err-clause-refused c = query_faulty (text_of c.args.texts.now.query) c.args.texts.now.content.items c.in-Err.refusal c.status_of_refusal.result c.status_of_refusal.ensures c.in-Err.ensures.refused
 
 pub returns-in-Err-BadStep-clause-refused : goal.returns-in-Err-BadStep-clause-refused
 returns-in-Err-BadStep-clause-refused c =

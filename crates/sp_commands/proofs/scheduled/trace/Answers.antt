@@ -1,25 +1,32 @@
-use Rattle.std.proofs.Common.{Err, ap}
-use Rattle.sp_load.specs.Places.{place_of, text_of}
+use Rattle.std.proofs.Common.{ℕ, List, Err, ap}
+use Rattle.sp_base.specs.Limits.{schedule_limit}
+use Rattle.sp_load.specs.Places.{Place, place_of, text_of}
 use Rattle.sp_answer.specs.Outcome.{ending}
 use Rattle.sp_answer.specs.Promise.{Filed, filed}
 use Rattle.sp_answer.specs.Ran.{Outside, outside}
-use Rattle.sp_commands.proofs.Tracing.{texts_served, loads_refused}
+use Rattle.sp_commands.specs.Trace.{TextsOutcome, TraceOutcome}
+use Rattle.sp_commands.proofs.Tracing.{trace_of_files}
+use Rattle.sp_commands.proofs.TwoTexts.{texts_served, loads_refused}
 use Rattle.sp_commands.proofs.scheduled.trace.Goals as goal
 
 pub returns-in-Ok : goal.returns-in-Ok
 returns-in-Ok g c =
+    let place : Place = place_of c.args.asked.place in
+    let name : List ℕ = c.args.asked.schedule.now in
     let before : Filed = filed (g.F.Files.held c.args.files.now) (g.F.Files.faults c.args.files.now) in
     let after : Filed = filed (g.F.Files.held c.load_texts.new.files) (g.F.Files.faults c.load_texts.new.files) in
     let old : Outside = outside (g.S.Source.state c.args.input.now) (g.K.Sink.state c.args.out.now) in
     let new : Outside = outside (g.S.Source.state c.trace_texts.new.input) (g.K.Sink.state c.trace_texts.new.out) in
     let texts = c.in-Ok.texts in
-    texts_served (place_of c.args.asked.place) c.args.asked.schedule.now c.args.asked.live before after old c.load_texts.ensures.held (text_of texts.query) texts.schedule.items c.in-Ok.ensures.query c.in-Ok.ensures.schedule
+    texts_served schedule_limit (λ query schedule. TextsOutcome query schedule c.args.asked.live) place name (TraceOutcome place name c.args.asked.live) (trace_of_files place name c.args.asked.live) before after old c.load_texts.ensures.held (text_of texts.query) texts.content.items c.in-Ok.ensures.query c.in-Ok.ensures.content
     new (ending c.trace_texts.result) (c.in-Ok.ensures.no_fault (λ e. cc)) c.trace_texts.ensures
 
 pub returns-in-Err : goal.returns-in-Err
 returns-in-Err g c =
+    let place : Place = place_of c.args.asked.place in
+    let name : List ℕ = c.args.asked.schedule.now in
     let before : Filed = filed (g.F.Files.held c.args.files.now) (g.F.Files.faults c.args.files.now) in
     let after : Filed = filed (g.F.Files.held c.load_texts.new.files) (g.F.Files.faults c.load_texts.new.files) in
     let old : Outside = outside (g.S.Source.state c.args.input.now) (g.K.Sink.state c.args.out.now) in
-    loads_refused (place_of c.args.asked.place) c.args.asked.schedule.now c.args.asked.live before after old c.load_texts.ensures.held c.in-Err.refusal c.status_of_refusal.result c.status_of_refusal.ensures c.in-Err.ensures.refused
+    loads_refused schedule_limit (λ query schedule. TextsOutcome query schedule c.args.asked.live) place name (TraceOutcome place name c.args.asked.live) (trace_of_files place name c.args.asked.live) before after old c.load_texts.ensures.held c.in-Err.refusal c.status_of_refusal.result c.status_of_refusal.ensures c.in-Err.ensures.refused
     (λ is. c.in-Err.ensures.fault (ap Err is)) (λ other. c.in-Err.ensures.no_fault (λ e. other cc))

@@ -5,7 +5,7 @@ use Rattle.sp_answer.specs.Promise.{Filed, filed, Served}
 use Rattle.sp_answer.specs.Ran.{Outside, outside}
 use Rattle.sp_cli.specs.Commands.{speed_seen}
 use Rattle.sp_commands.specs.Commands.{files_at, lateness}
-use Rattle.sp_commands.specs.Run.{RunOutcome}
+use Rattle.sp_commands.specs.Run.{text_by, ToldOutcome}
 use Rattle.sp_top.specs.Report.{ReportsPlace, WhereDone}
 use Rattle.sp_top.specs.declared.workshop.CommandEnd.{CommandEnd}
 use Rattle.sp_commands.proofs.Running.{ran_served, refused_served}
@@ -19,12 +19,12 @@ returns-in-Ok-clause-served g c =
     let before : Filed = filed (g.F.Files.held c.args.files.now) (g.F.Files.faults c.args.files.now) in
     let after : Filed = filed (g.F.Files.held c.plan_at.new.files) (g.F.Files.faults c.plan_at.new.files) in
     let old : Outside = outside (g.S.Source.state c.args.input.now) (g.K.Sink.state c.args.out.now) in
-    let new : Outside = outside (g.S.Source.state c.run_plan.new.input) (g.K.Sink.state c.run_plan.new.out) in
-    ran_served (place_of c.args.asked.place) (lateness c.args.asked.manner.late.slack c.args.asked.manner.late.rule) before after old c.plan_at.ensures.held new c.in-Ok.plan c.run_plan.result.status c.in-Ok.ensures.plan (c.in-Ok.ensures.no_fault (λ e. cc)) c.run_plan.ensures.ran
+    let new : Outside = outside (g.S.Source.state c.tell_plan.new.input) (g.K.Sink.state c.tell_plan.new.out) in
+    ran_served (text_by c.args.asked.proof) (place_of c.args.asked.place) (lateness c.args.asked.manner.late.slack c.args.asked.manner.late.rule) before after old c.plan_at.ensures.held new c.in-Ok.plan c.tell_plan.result.status c.in-Ok.ensures.plan (c.in-Ok.ensures.no_fault (λ e. cc)) c.tell_plan.ensures.ran
 
 pub returns-in-Ok-clause-report : goal.returns-in-Ok-clause-report
 returns-in-Ok-clause-report g c =
-    of_place (g.F.Files.held c.args.files.now) (place_of c.args.asked.place) (lateness c.args.asked.manner.late.slack c.args.asked.manner.late.rule) (speed_seen c.args.asked.manner.speed.now) _ _ c.in-Ok.plan c.in-Ok.ensures.plan c.run_plan.result.status c.run_plan.result.ended c.run_plan.ensures.report
+    of_place (g.F.Files.held c.args.files.now) (place_of c.args.asked.place) (lateness c.args.asked.manner.late.slack c.args.asked.manner.late.rule) (speed_seen c.args.asked.manner.speed.now) _ _ c.in-Ok.plan c.in-Ok.ensures.plan c.tell_plan.result.status c.tell_plan.result.ended c.tell_plan.ensures.report
 
 pub returns-in-Err-clause-served : goal.returns-in-Err-clause-served
 returns-in-Err-clause-served g c =
@@ -34,9 +34,9 @@ returns-in-Err-clause-served g c =
     let after : Filed = filed (g.F.Files.held c.plan_at.new.files) (g.F.Files.faults c.plan_at.new.files) in
     let old : Outside = outside (g.S.Source.state c.args.input.now) (g.K.Sink.state c.args.out.now) in
     let served =
-    refused_served place l before after old c.plan_at.ensures.held c.in-Err.refusal c.status_of_refusal.result c.status_of_refusal.ensures c.in-Err.ensures.refused
+    refused_served (text_by c.args.asked.proof) place l before after old c.plan_at.ensures.held c.in-Err.refusal c.status_of_refusal.result c.status_of_refusal.ensures c.in-Err.ensures.refused
     (λ is. c.in-Err.ensures.fault (ap Err is)) (λ other. c.in-Err.ensures.no_fault (λ e. other cc)) in
-    subst (λ (a : CommandEnd _ _). Served (files_at place) (RunOutcome place l) before after old old (ending a.status)) (sym c.of.ensures) served
+    subst (λ (a : CommandEnd _ _). Served (files_at place) (ToldOutcome (text_by c.args.asked.proof) place l) before after old old (ending a.status)) (sym c.of.ensures) served
 
 pub returns-in-Err-clause-report : goal.returns-in-Err-clause-report
 returns-in-Err-clause-report g c =
@@ -45,7 +45,7 @@ returns-in-Err-clause-report g c =
     (λ done. refused_undone c.in-Err.refusal (ap number_of (sym c.status_of_refusal.ensures) ∙ done))
 
 pub returns-in-Ok-clause-prompt : goal.returns-in-Ok-clause-prompt
-returns-in-Ok-clause-prompt g c = prompt_at (place_of c.args.asked.place) (lateness c.args.asked.manner.late.slack c.args.asked.manner.late.rule) (g.F.Files.held c.args.files.now) c.in-Ok.plan _ _ c.in-Ok.ensures.plan c.run_plan.ensures.prompt
+returns-in-Ok-clause-prompt g c lines = prompt_at (place_of c.args.asked.place) (lateness c.args.asked.manner.late.slack c.args.asked.manner.late.rule) (g.F.Files.held c.args.files.now) c.in-Ok.plan _ _ c.in-Ok.ensures.plan (c.tell_plan.ensures.prompt lines)
 
 pub returns-in-Err-clause-prompt : goal.returns-in-Err-clause-prompt
-returns-in-Err-clause-prompt g c = p.unread refl
+returns-in-Err-clause-prompt g c lines = p.unread refl
