@@ -32,6 +32,11 @@ const LONG: &str = "EVENT (at INT, k TEXT) TIME at PATTERN (A B) \
     DEFINE A AS k = 'a', B AS k = 'b' \
     WITHIN 1024 EVENTS FROM EVERY 16 EVENTS SELECT FIRST CONSUME NONE";
 
+// The same in windows that share no event.
+const APART: &str = "EVENT (at INT, k TEXT) TIME at PATTERN (A B) \
+    DEFINE A AS k = 'a', B AS k = 'b' \
+    WITHIN 2 EVENTS FROM EVERY 2 EVENTS SELECT FIRST CONSUME ALL";
+
 // A command, parted by blanks, with its query, and how many rows it is run over.
 #[derive(Drop)]
 struct Asked<'a> {
@@ -118,6 +123,57 @@ fn two_instances_are_at_work_at_once(rt: HostRuntime) -> Result<(), Fail> {
         rows: 1_024,
     };
     meet(&rt, rt.alloc(), asked, Meeting::of_instances())
+}
+
+// Behind the first job of a tree waits for that of another one to begin.
+#[derive(Drop)]
+struct TreesMeet {
+    begun: AtomicU64,
+}
+
+impl TreesMeet {
+    fn have_met(&self) -> bool {
+        self.begun.load(SeqCst) >= 2
+    }
+}
+
+impl Gate for TreesMeet {
+    fn enter(&self, _seat: u32, ticket: u64) {
+        if ticket == 1 {
+            self.begun.fetch_add(1, SeqCst);
+        }
+    }
+
+    fn leave(&self, _seat: u32, ticket: u64) {
+        if ticket != 1 {
+            return;
+        }
+        for _ in 0..100_000_000 {
+            if self.have_met() {
+                return;
+            }
+        }
+    }
+}
+
+#[test]
+fn two_trees_are_at_work_at_once(rt: HostRuntime) -> Result<(), Fail> {
+    let gate = TreesMeet {
+        begun: AtomicU64::new(0),
+    };
+    let asked = Asked {
+        words: "run --trees 2 --instances 1 --predictor even -q",
+        query: APART,
+        rows: 4,
+    };
+    let mut predictors = even(rt.alloc())?;
+    predictors.push(Box::new(rt.alloc(), Even::new())?)?;
+    let mut report = None;
+    let status = status_of(&rt, rt.alloc(), asked, &gate, predictors, &mut report)?;
+    assert!(rt; status == 0);
+    assert!(rt; gate.have_met());
+    assert!(rt; report.is_none(), "a run by several trees reported its end");
+    Ok(())
 }
 
 // Delays every other job, so that pieces come home in another order than jobs were taken.
