@@ -1,7 +1,13 @@
-"""What the benches share: the program and its runs, tables of events, scattered numbers, callgrind's counts."""
-import collections, functools, operator, os, re, subprocess, sys, tempfile, time
+"""What the benches share: the program and its runs, tables of events, scattered numbers, callgrind's counts, and the file of
+their figures."""
+import collections, csv, datetime, functools, operator, os, re, subprocess, sys, tempfile, time
 
 TOP = os.path.dirname(os.path.dirname(os.path.abspath(__file__)))
+# The figures that the benches have appended, the newest last.
+FIGURES = os.path.join(TOP, "bench", "figures.csv")
+# Of a figure: its day; the command that measured it; what it counts, with the unit; of which query or case; with how many
+# instances, which batch, and how many events, where that is said; and the figure.
+COLUMNS = ["day", "command", "what", "query", "instances", "batch", "events", "figure"]
 
 # Seconds by the clock; processor seconds; bytes of memory at most; lines written, where they were counted.
 Ran = collections.namedtuple("Ran", "seconds processor memory lines")
@@ -75,3 +81,19 @@ def profile(words, path):
         text = subprocess.run(["callgrind_annotate", "--threshold=99.9", counts.name], capture_output=True, text=True).stdout
     found = re.finditer(r"^ *([\d,]+) \([ \d.]+%\) +(\S.*)$", text, re.M)
     return [(int(it[1].replace(",", "")), it[2], it[0]) for it in found]
+
+
+def keep(what, query, figure, instances="", batch="", events=""):
+    """Appends a figure to the file of figures where the bench was called with the word `append`."""
+    if "append" not in sys.argv[1:]:
+        return
+    words = [os.path.basename(sys.argv[0]), *(word for word in sys.argv[1:] if word != "append")]
+    row = [datetime.date.today(), "bench/" + " ".join(words), what, query, instances, batch, events, "%.3g" % figure]
+    with open(FIGURES, "a", newline="") as out:
+        csv.writer(out, lineterminator="\n").writerow(row)
+
+
+def figures():
+    """The rows of the file of figures, in their order, each by the names of its columns."""
+    with open(FIGURES, newline="") as source:
+        return list(csv.DictReader(source))

@@ -8,6 +8,8 @@ INPUT = 'docs/formats.md, "Input"'
 LATE = 'docs/formats.md, "Late events"'
 COMMAND = 'docs/formats.md, "The command line"'
 SCHEDULES = 'docs/formats.md, "Schedules"'
+LISTINGS = 'docs/formats.md, "Listings"'
+RETURNS = 'docs/language.md, "Why a text of returns is refused"'
 STEPS = 'docs/formats.md, "Printed steps"'
 STATUSES = 'docs/formats.md, "Statuses"'
 LIMITS = 'docs/formats.md, "Limits"'
@@ -32,6 +34,16 @@ QUERY_CODES = {
     28: Meaning("TooMany", "column 65, or name 33 of the pattern", QUERY),
     29: Meaning("NeverEnds", "a negated name as the first or the last element: it has to stand between two others", QUERY),
     30: Meaning("NeverBound", "a negated name in front of a point or in CONSUME: no event is ever bound to it", QUERY),
+}
+
+# Those of the text of what a match returns: the faults of its pieces and of its grammar are those of a query's.
+RETURN_CODES = {
+    **{code: QUERY_CODES[code] for code in (1, 2, 3, 11, 12)},
+    21: Meaning("Unknown", "a column or a name that isn't there, a text that the first query doesn't have, or a column without an item", RETURNS),
+    22: Meaning("Twice", "a second item for a column of the second query", RETURNS),
+    23: Meaning("WrongKind", "kinds that don't go together, or more decimals than the column has", RETURNS),
+    26: Meaning("TooWide", "a value that may pass 10^36, or have more than 36 decimals", RETURNS),
+    30: Meaning("NeverBound", "a negated name in front of a point: no event is ever bound to it", RETURNS),
 }
 
 # The faults of the input, by their codes.
@@ -68,17 +80,21 @@ STEP_CODES = {
 STATUS_LINES = {
     "late": Meaning("status 0", "so many events came too late and were passed over, as --late drop asks for", LATE),
     "memory": Meaning("status 1", "memory ran out; what was written is a beginning of the right text", STATUSES),
-    "usage": Meaning("status 2", "the words are no command of the program, or a predictor's name isn't even, steady or markov; nothing was read", COMMAND),
-    "read fault": Meaning("status 5", "reading failed: the input, or the file of the query or of the schedule", STATUSES),
+    "usage": Meaning("status 2", "the words are no command of the program, or a predictor's name isn't even, steady or markov, or predictors are to take turns beside several trees; nothing was read", COMMAND),
+    "read fault": Meaning("status 5", "reading failed: the input, or the file of the query, of the schedule or of the listing", STATUSES),
     "write fault": Meaning("status 6", "writing failed: a full disk, or a reader that has gone, as `head` has once it has its lines", STATUSES),
     "limit": Meaning("status 7", "more of something than the program takes", LIMITS),
     "schedule": Meaning("status 8", "a line that is no step", SCHEDULES),
+    "listing line": Meaning("status 9", "a line that is neither that of a window nor, behind one, that of a match of the query", LISTINGS),
+    "listing window": Meaning("status 9", "the listing is not that of the query over this table: it first differs, has an entry missing or has one too many", LISTINGS),
 }
 
 # What the number of a limit is of.
 LIMIT_NUMBERS = {
-    16_384: "the query's text or file has more than 16,384 bytes",
-    1_048_576: "the input has more than 1,048,576 events, or the schedule's file more bytes than this",
+    16_384: "the query's text or file, or of a graph the second query or what is returned, has more than 16,384 bytes",
+    1_048_576: "the input has more than 1,048,576 events, or of a graph its first query more matches, or the schedule's file more bytes than this",
+    10**15: "a match of a graph's first query returns a number past 10^15, in units of its column, on either side of 0",
+    16_777_216: "the listing's file has more than 16,777,216 bytes",
     2_097_152: "the input has more than 2,097,152 rows, the header and blank ones counted",
 }
 

@@ -27,6 +27,11 @@ sum     = term { ( "+" | "-" ) term }
 term    = factor { "*" factor }
 factor  = whole | decimal | literal | name [ "." name ] | "-" factor | "(" sum ")"
 """
+# That of what a match returns, which stands there too.
+RETURNS_GRAMMAR = """\
+returns = item { "," item }
+item    = sum AS name
+"""
 WORDS = frozenset(re.findall(r"\b[A-Z]+\b", GRAMMAR))
 CLAUSES = ("EVENT", "TIME", "PATTERN", "DEFINE", "WITHIN", "FROM", "SELECT", "CONSUME")
 PIECE = re.compile(
@@ -92,7 +97,7 @@ def parts_of(rule):
     return choice()
 
 
-RULES = {name: parts_of(right) for name, right in re.findall(r"^(\w+) *=((?:.|\n +)*)$", GRAMMAR, re.MULTILINE)}
+RULES = {name: parts_of(right) for name, right in re.findall(r"^(\w+) *=((?:.|\n +)*)$", GRAMMAR + RETURNS_GRAMMAR, re.MULTILINE)}
 
 
 def fits(piece, part):
@@ -146,19 +151,26 @@ class Reading:
         return at
 
 
-def wanted_at(query, place):
-    """What the grammar takes at a place: an empty list where a whole query ends there, None where the text up to the place
-    begins no query."""
-    before = [piece for piece in pieces_of(query) if piece.place < place]
+def wanted_at(text, place, rule="query"):
+    """What the grammar takes at a place of a query, or of what another rule says: an empty list where a whole one ends there
+    and nothing may follow, None where the text up to the place begins none."""
+    before = [piece for piece in pieces_of(text) if piece.place < place]
     reading = Reading(before)
-    if reading.read("query", 0) == len(before):
-        return []
-    return reading.wanted if reading.reached == len(before) else None
+    is_whole = reading.read(rule, 0) == len(before)
+    if reading.reached == len(before):
+        return reading.wanted
+    return [] if is_whole else None
 
 
 def is_query(query):
     """Whether the bytes are a query by the grammar."""
     return wanted_at(query, len(query)) == []
+
+
+def are_returns(text):
+    """Whether the bytes say what a match returns, by the grammar."""
+    pieces = pieces_of(text)
+    return Reading(pieces).read("returns", 0) == len(pieces)
 
 
 # ---- What a query says.
@@ -202,6 +214,17 @@ def negated_of(query):
     """The negated names of the pattern, in its order."""
     pieces = clauses_of(query).get("PATTERN", [])
     return [piece.text for mark, piece in zip(pieces, pieces[1:]) if mark.text == "!" and piece.kind == "name"]
+
+
+def literals_of(query):
+    """The texts in quotes that a query has, as they are written, each once."""
+    return list(dict.fromkeys(piece.text for piece in pieces_of(query) if piece.kind == "literal"))
+
+
+def returned_of(text):
+    """The columns for which the items of a text are, in its order."""
+    pieces = pieces_of(text)
+    return [name.text for word, name in zip(pieces, pieces[1:]) if word.text == "AS" and name.kind == "name"]
 
 
 def span_of(query, first, behind):
