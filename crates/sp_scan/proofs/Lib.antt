@@ -3,6 +3,7 @@ mod Picked
 mod Searching
 mod NamedElements
 mod LooksAhead
+mod MayHold
 mod TurnsShow
 mod SplitLists
 mod TurnsTaken

@@ -11,7 +11,7 @@ use crate::ahead::span;
 use crate::offer::Offer;
 use crate::pairs::Pairs;
 use crate::run::Run;
-use sp_plan::{Element, Select};
+use sp_plan::{Element, Select, has_bit};
 
 // Whether the event fulfils the predicate of the name, for a run of these pairs.
 fn fulfils(offer: &Offer, pairs: &Pairs, name: u8) -> bool
@@ -19,7 +19,7 @@ fn fulfils(offer: &Offer, pairs: &Pairs, name: u8) -> bool
     ensures { result ≡ name_holds offer.now.plan.now pairs.now offer.now.event.now name }
 {
     match offer.plan.names.as_slice().get(name as usize) {
-        Some(name) => pairs.fulfil(&name.pred, offer.event),
+        Some(named) => has_bit(offer.may, name as usize) && pairs.fulfil(&named.pred, offer.event),
         None => false,
     }
 }

@@ -6,7 +6,7 @@ ghost use Rattle.sp_scan.specs.Scanning.{scanned_of};
 
 use crate::found::Found;
 use crate::handling::handle;
-use crate::offer::Offer;
+use crate::offer::{Offer, may_of};
 use crate::run::Run;
 use crate::runs::Runs;
 use sp_base::Numbers;
@@ -42,12 +42,14 @@ pub fn scanned(
     for place in first as usize - 1..last as usize {
         let number = place as u32 + 1;
         if !skipped.has(number) {
+            let event = &events[place];
             let offer = Offer {
                 alloc,
                 plan,
                 empty: &empty,
                 number,
-                event: &events[place],
+                event,
+                may: may_of(alloc, plan, event, runs.open_runs.len()),
             };
             runs = handle(&offer, runs)?;
         }
