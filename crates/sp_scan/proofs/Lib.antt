@@ -3,6 +3,7 @@ mod Picked
 mod Searching
 mod NamedElements
 mod LooksAhead
+mod MaskedNames
 mod MayHold
 mod TurnsShow
 mod SplitLists

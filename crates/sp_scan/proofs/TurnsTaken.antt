@@ -1,9 +1,11 @@
 -- What becomes of the runs when one has had its turn.
-use Rattle.std.proofs.Common.{◌≡◌, ℕ, ◌+◌, List, [], ◌∷◌, ◌++◌, length, Option, Some, Result, Ok, Err, IfOk, OnOk, get_or, set, ap, sym, subst, ◌∙◌, append_assoc, length-append, arith}
-use Rattle.std.specs.List.{remove}
+use Rattle.std.proofs.Common.{◌≡◌, ℕ, ◌+◌, false, List, [], ◌∷◌, ◌++◌, drop, length, Option, Some, None, Result, Ok, Err, IfOk, OnOk, get_or, set, refl, ap, sym, subst, ◌∙◌, append_assoc, length-append, arith}
+use Rattle.std.specs.Prelude.{if◌then◌else◌}
+use Rattle.std.specs.List.{All, remove}
+use Rattle.std.proofs.lemmas.List.Elements.{All-head}
 use Rattle.std.specs.declared.alloc.AllocError.{AllocError}
 use Rattle.sp_plan.specs.declared.plan.Plan.{Plan}
-use Rattle.sp_plan.specs.Runs.{Handling, Run, Started, grown, offered, takes}
+use Rattle.sp_plan.specs.Runs.{Handling, Run, Started, departs, grown, handle_run, kept_with, offered, takes}
 use Rattle.sp_scan.specs.declared.found.Found.{Found}
 use Rattle.sp_scan.specs.declared.offer.Offer.{Offer}
 use Rattle.sp_scan.specs.declared.run.Run as own
@@ -11,7 +13,8 @@ use Rattle.sp_scan.specs.declared.turns.Turns.{Turns}
 use Rattle.sp_scan.specs.inside.Ahead.{IsReady}
 use Rattle.sp_scan.specs.inside.Offer.{numbered}
 use Rattle.sp_scan.specs.inside.Shown.{IsGrown, IsTurn, IsTurnOfReady, IsTurned, ShowsTurns}
-use Rattle.sp_scan.proofs.SplitLists.{read_there, removed_there, set_there}
+use Rattle.sp_scan.proofs.SplitLists.{read_there, removed_there, rest_there, set_there}
+use Rattle.sp_scan.proofs.TurnsShow.{among_none, held_alike, held_none, ready_later, shows_kept, turn_offered}
 
 -- a list with an element more in front of the rest
 pub push_front : {X : Type 0} (xs ys : List X) (x : X) → xs ++ x ∷ ys ≡ (xs ++ x ∷ []) ++ ys
@@ -42,6 +45,32 @@ turned_as q n old new left kept rest run change change' turned same = record {
   left_is = turned.left_is;
   shown = λ h m before. subst (λ (h' : Handling). ShowsTurns q n h' turned.still new.found.items new.taken.list) (same h m before) (turned.shown h m before);
 }
+
+-- what a run does that is offered the event
+abbrev pub offers : Offer → Handling → Started → Handling
+offers o h run = offered o.plan.now (numbered o) h run (takes o.plan.now run.1 o.event.now)
+
+-- where no number is used, a run's turn is that
+pub turned_free : (o : Offer) (old new : Turns) (left : ℕ) (kept rest : List own.Run) (run : own.Run) → length old.taken.list ≡ 0 → IsTurned o.plan.now (o.number + 1) old new left kept rest run (offers o)
+    → IsTurned o.plan.now (o.number + 1) old new left kept rest run (handle_run o.plan.now (numbered o))
+turned_free o old new left kept rest run none turned =
+    let taken = old.taken.list in
+    turned_as o.plan.now (o.number + 1) old new left kept rest run (offers o) (handle_run o.plan.now (numbered o)) turned
+    (λ h m before.
+    let free = sym (held_alike taken h.taken run.pairs before.taken_are) ∙ held_none taken run.pairs none in
+    let unused = sym (before.taken_are o.number) ∙ among_none taken o.number none in
+    sym (turn_offered o.plan.now (numbered o) h (m, run.pairs) free unused))
+
+-- it passes the event over
+pub turned_over : (o : Offer) (old : Turns) (at : ℕ) (kept rest : List own.Run) (run : own.Run) → old.runs.items ≡ kept ++ run ∷ rest → length kept ≡ at → All (IsReady o.plan.now o.number) (drop at old.runs.items)
+    → takes o.plan.now run.pairs o.event.now ≡ None → departs o.plan.now run.pairs o.event.now ≡ false → IsTurned o.plan.now (o.number + 1) old old (at + 1) kept rest run (offers o)
+turned_over o old at kept rest run split size left none stays =
+    let q = o.plan.now in
+    let next = o.number + 1 in
+    let ready : IsReady q o.number run = All-head (IsReady q o.number) run rest (subst (All (IsReady q o.number)) (rest_there old.runs.items kept (run ∷ rest) at split size) left) in
+    turned_stays q next old old at kept rest run (offers o) split size refl
+    (λ h m before. subst (λ (p : Option ℕ). ShowsTurns q next (offered q (numbered o) h (m, run.pairs) p) (kept ++ run ∷ []) old.found.items old.taken.list) (sym none)
+    (subst (λ b. ShowsTurns q next (if b then h else kept_with h (m, run.pairs)) (kept ++ run ∷ []) old.found.items old.taken.list) (sym stays) (shows_kept q next h kept old.found.items old.taken.list run m before (ready_later q o.number run ready))))
 
 -- it takes the event, and is then as one that has a pair more
 pub turned_takes : (o : Offer) (old mid new : Turns) (at left name : ℕ) → IsGrown o old.runs.items mid.runs.items at name → mid.found.items ≡ old.found.items → mid.taken.list ≡ old.taken.list

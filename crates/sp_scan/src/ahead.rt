@@ -1,22 +1,23 @@
 // What counts for a run next, looked for among the elements of the plan.
-ghost use Rattle.std.specs.Prelude.{◌≡◌, ◌-◌, ◌≤◌, ◌⊎◌, not, drop, find, length, IfSome};
-ghost use Rattle.std.specs.List.{last_or, list_any, range_with_len};
+ghost use Rattle.std.specs.Prelude.{◌≡◌, ◌-◌, ◌<◌, ◌≤◌, ◌⊎◌, not, drop, find, length, IfSome};
+ghost use Rattle.std.specs.List.{All, last_or, list_any, range_with_len};
 ghost use Rattle.std.specs.Option.{option_to_list};
 ghost use Rattle.sp_base.specs.Numbers.{is_among};
 ghost use Rattle.sp_plan.specs.Compiled.{IsCompiled};
 ghost use Rattle.sp_plan.specs.Runs as definitions;
-ghost use Rattle.sp_plan.specs.Runs.{again, binds, guards, is_plus, leading};
-ghost use Rattle.sp_scan.specs.inside.Ahead.{IsAhead, IsNamed};
+ghost use Rattle.sp_plan.specs.Runs.{Run, again, binds, guards, is_plus, leading, unbound};
+ghost use Rattle.sp_scan.specs.inside.Ahead.{AreIn, IsAhead, IsNamed, Keeps};
 
 use crate::pairs::Pairs;
 use crate::run::Ahead;
-use sp_plan::{Element, Plan};
+use sp_plan::{Element, Plan, with_bit};
 
 /// The names of an element that bind events are those from the first number on and below the second.
 pub(crate) fn span(element: Element) -> (u8, u8)
     requires { IsNamed element }
     ensures names { binds element ≡ range_with_len result.0 (result.1 - result.0) }
     ensures ordered { result.0 ≤ result.1 }
+    ensures few { result.0 < result.1 → result.1 ≤ 32 }
 {
     match element {
         Element::One(name) | Element::Plus(name) => (name, name + 1),
@@ -113,14 +114,77 @@ fn guards(plan: &Plan, pairs: &Pairs) -> usize
     }
 }
 
+// The names that stand negated in front of these elements, as bits of a number.
+fn leading(elements: &[Element]) -> u64
+    requires { All IsNamed elements.now }
+    ensures { AreIn result (leading elements.now) }
+{
+    let mut all = 0;
+    for element in elements {
+        match element {
+            Element::Never(name) => all = with_bit(all, *name as usize, true),
+            _ => return all,
+        }
+    }
+    all
+}
+
+// A mask with a name too that may be there.
+fn with_name(mask: u64, name: Option<u8>) -> u64
+    requires { IfSome name (λ name. name < 32) }
+    ensures kept { Keeps mask result }
+    ensures own { AreIn result (option_to_list name) }
+{
+    match name {
+        Some(name) => with_bit(mask, name as usize, true),
+        None => mask,
+    }
+}
+
+// A mask with the names too to which an element that may be there binds events.
+fn with_element(mask: u64, element: Option<Element>) -> u64
+    requires { IfSome element IsNamed }
+    ensures kept { Keeps mask result }
+    ensures own { IfSome element (λ element. AreIn result (binds element)) }
+{
+    let Some(element) = element else {
+        return mask;
+    };
+    let (first, past) = span(element);
+    let mut all = mask;
+    for name in first..past {
+        all = with_bit(all, name as usize, true);
+    }
+    all
+}
+
+// The names of the element, the one that may be bound once more, and those that stand negated in front of the elements
+// from the place on.
+fn counting(plan: &Plan, element: Option<Element>, again: Option<u8>, behind: usize) -> u64
+    requires compiled { IsCompiled plan.now }
+    requires element { IfSome element IsNamed }
+    requires again { IfSome again (λ name. name < 32) }
+    requires within { behind ≤ length plan.now.elements }
+    ensures element { IfSome element (λ element. AreIn result (binds element)) }
+    ensures again { AreIn result (option_to_list again) }
+    ensures guards { AreIn result (leading (drop behind plan.now.elements)) }
+{
+    let guards = leading(&plan.elements.as_slice()[behind..]);
+    with_element(with_name(guards, again), element)
+}
+
 /// What counts for a run of these pairs next.
 pub(crate) fn look_ahead(plan: &Plan, pairs: &Pairs) -> Ahead
     requires { IsCompiled plan.now }
     ensures { IsAhead plan.now pairs.now result }
 {
+    let element = unfilled(plan, pairs);
+    let again = again(plan, pairs);
+    let behind = guards(plan, pairs);
     Ahead {
-        element: unfilled(plan, pairs),
-        again: again(plan, pairs),
-        behind: guards(plan, pairs),
+        element,
+        again,
+        behind,
+        names: counting(plan, element, again, behind),
     }
 }

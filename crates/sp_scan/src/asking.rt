@@ -1,5 +1,5 @@
 // What a run does with an event: it is asked under which name it takes it, and whether it is guarded.
-ghost use Rattle.std.specs.Prelude.{◌≡◌, [], find, IfSome};
+ghost use Rattle.std.specs.Prelude.{◌≡◌, true, false, None, [], find, IfSome};
 ghost use Rattle.std.specs.List.{list_any};
 ghost use Rattle.std.specs.Option.{option_to_list};
 ghost use Rattle.sp_plan.specs.Runs as definitions;
@@ -133,4 +133,20 @@ pub(crate) fn departs(offer: &Offer, run: &Run) -> bool
     ensures { result ≡ definitions.departs offer.now.plan.now run.now.pairs offer.now.event.now }
 {
     leaves(offer) || is_guarded(offer, run)
+}
+
+/// Whether the run is known to pass the event over: none of the names that count for it may hold of the event, and the
+/// policy lets it stay.
+pub(crate) fn passes_over(offer: &Offer, run: &Run) -> bool
+    requires offer { IsOffer offer.now }
+    requires ahead { IsAhead offer.now.plan.now run.now.pairs run.now.ahead }
+    ensures none { result ≡ true
+        → definitions.takes offer.now.plan.now run.now.pairs offer.now.event.now ≡ None }
+    ensures stays { result ≡ true
+        → definitions.departs offer.now.plan.now run.now.pairs offer.now.event.now ≡ false }
+{
+    match offer.plan.select {
+        Select::Last => false,
+        Select::First | Select::Each => offer.may & run.ahead.names == 0,
+    }
 }

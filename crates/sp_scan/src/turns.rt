@@ -5,7 +5,7 @@ ghost use Rattle.sp_plan.specs.Runs.{holds_one};
 ghost use Rattle.sp_scan.specs.inside.Offer.{IsOffer, IsShared, numbered};
 ghost use Rattle.sp_scan.specs.inside.Shown.{AreLeft, IsGrown, IsTurn, IsTurnOfReady};
 
-use crate::asking::{departs, takes};
+use crate::asking::{departs, passes_over, takes};
 use crate::found::{Found, bindings};
 use crate::offer::{Offer, share};
 use crate::run::Run;
@@ -125,6 +125,7 @@ impl Turns {
     }
 
     // The turn of the run at this place: it leaves where it holds a used number, and is offered no event that is used.
+    #[inline(always)]
     pub(crate) fn take_turn(
         &mut self,
         offer: &Offer,
@@ -140,6 +141,9 @@ impl Turns {
         ensures shared { IsShared offer.now shared.new }
     {
         if self.taken.list().is_empty() {
+            if passes_over(offer, &self.runs[at]) {
+                return Ok(at + 1);
+            }
             return self.offered(offer, shared, at);
         }
         if self.runs[at].pairs.hold_one(&self.taken) {

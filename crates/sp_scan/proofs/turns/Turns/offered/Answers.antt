@@ -1,15 +1,12 @@
-use Rattle.std.proofs.Common.{◌≡◌, ◌+◌, ℕ, ◌++◌, ◌∷◌, [], List, None, Option, true, false, length, refl, sym, ap, subst, ◌∙◌, arith}
+use Rattle.std.proofs.Common.{◌≡◌, ◌+◌, ℕ, List, None, Option, true, false, length, refl, sym, ap, subst, ◌∙◌, arith}
 use Rattle.std.specs.Prelude.{if◌then◌else◌}
-use Rattle.std.specs.List.{All}
-use Rattle.std.proofs.lemmas.List.Elements.{All-head}
 use Rattle.sp_plan.specs.Runs.{Handling, Started, departs, kept_with, offered, takes}
 use Rattle.sp_scan.specs.declared.run.Run as own
 use Rattle.sp_scan.specs.inside.Ahead.{IsReady}
 use Rattle.sp_scan.specs.inside.Offer.{numbered}
 use Rattle.sp_scan.specs.inside.Shown.{IsGrown, ShowsTurns}
-use Rattle.sp_scan.proofs.SplitLists.{first_of_rest, read_there, rest_there, written_back}
-use Rattle.sp_scan.proofs.TurnsShow.{ready_later, shows_kept}
-use Rattle.sp_scan.proofs.TurnsTaken.{any_takes, turned_leaves, turned_stays}
+use Rattle.sp_scan.proofs.SplitLists.{first_of_rest, read_there, written_back}
+use Rattle.sp_scan.proofs.TurnsTaken.{any_takes, turned_leaves, turned_over}
 use Rattle.sp_scan.proofs.turns.Turns.offered.Goals as goal
 
 pub takes-requires-clause-ahead : goal.takes-requires-clause-ahead
@@ -48,17 +45,10 @@ returns-then-departs-clause-turn c = λ kept rest run split size.
 
 pub returns-else-departs-clause-turn : goal.returns-else-departs-clause-turn
 returns-else-departs-clause-turn c = λ kept rest run split size.
-    let q = c.args.offer.now.plan.now in
-    let x = numbered c.args.offer.now in
-    let number = c.args.offer.now.number in
-    let next = number + 1 in
+    let o = c.args.offer.now in
     let old = c.args.self.now in
-    let change : Handling → Started → Handling = λ h run. offered q x h run (takes q run.1 x.1) in
     let is_run : c.index.result.now ≡ run = c.index.ensures ∙ read_there old.runs.items kept rest run c.args.at split size c.index.result.now in
     let is_run' : c.index-in-None.result.now ≡ run = c.index-in-None.ensures ∙ read_there old.runs.items kept rest run c.args.at split size c.index-in-None.result.now in
-    let none : takes q run.pairs x.1 ≡ None = ap (λ (r : own.Run). takes q r.pairs x.1) (sym is_run) ∙ sym c.takes.ensures ∙ c.in-None.is in
-    let stays : departs q run.pairs x.1 ≡ false = ap (λ (r : own.Run). departs q r.pairs x.1) (sym is_run') ∙ sym c.departs.ensures ∙ c.if-departs.false in
-    let ready : IsReady q number run = All-head (IsReady q number) run rest (subst (All (IsReady q number)) (rest_there old.runs.items kept (run ∷ rest) c.args.at split size) c.requires.left.ready) in
-    turned_stays q next old old c.args.at kept rest run change split size refl
-    (λ h m before. subst (λ (o : Option ℕ). ShowsTurns q next (offered q x h (m, run.pairs) o) (kept ++ run ∷ []) old.found.items old.taken.list) (sym none)
-    (subst (λ b. ShowsTurns q next (if b then h else kept_with h (m, run.pairs)) (kept ++ run ∷ []) old.found.items old.taken.list) (sym stays) (shows_kept q next h kept old.found.items old.taken.list run m before (ready_later q number run ready))))
+    let none : takes o.plan.now run.pairs o.event.now ≡ None = ap (λ (r : own.Run). takes o.plan.now r.pairs o.event.now) (sym is_run) ∙ sym c.takes.ensures ∙ c.in-None.is in
+    let stays : departs o.plan.now run.pairs o.event.now ≡ false = ap (λ (r : own.Run). departs o.plan.now r.pairs o.event.now) (sym is_run') ∙ sym c.departs.ensures ∙ c.if-departs.false in
+    turned_over o old c.args.at kept rest run split size c.requires.left.ready none stays
