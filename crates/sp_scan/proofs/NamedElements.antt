@@ -1,5 +1,5 @@
 -- The names of a compiled plan's elements are below 32.
-use Rattle.std.proofs.Common.{◌≡◌, inl, inr, Bool, true, false, cond, Some, IfSome, ℕ, suc, zero, ◌+◌, ◌<◌, ◌≤◌, List, [], ◌∷◌, ◌++◌, length, get_or, refl, sym, subst, arith}
+use Rattle.std.proofs.Common.{◌≡◌, inl, inr, Bool, true, false, cond, not, Some, IfSome, ℕ, suc, zero, ◌+◌, ◌<◌, ◌≤◌, List, [], ◌∷◌, ◌++◌, length, get_or, refl, sym, subst, arith}
 use Rattle.std.specs.List.{All, find, range_with_len}
 use Rattle.std.proofs.lemmas.List.Elements.{All-nil, All-cons, All-head, All-tail, All-get_or}
 use Rattle.sp_plan.specs.declared.plan.Plan.{Plan}
@@ -55,3 +55,12 @@ found_keeps {X} P p (x ∷ xs) all = one (p x) (found_keeps P p xs (All-tail P x
     one : (b : Bool) → IfSome (find p xs) P → IfSome (cond b (Some x) (find p xs)) P
     one true rest = All-head P x xs all
     one false rest = rest
+
+-- what is found that fails does so
+pub found_fails : {X : Type 0} (p : X → Bool) (xs : List X) → IfSome (find (λ x. not (p x)) xs) (λ x. p x ≡ false)
+found_fails p [] = tt
+found_fails {X} p (x ∷ xs) = one (p x) refl (found_fails p xs)
+  where
+    one : (b : Bool) → p x ≡ b → IfSome (find (λ x. not (p x)) xs) (λ x. p x ≡ false) → IfSome (cond (not b) (Some x) (find (λ x. not (p x)) xs)) (λ x. p x ≡ false)
+    one true is rest = rest
+    one false is rest = is

@@ -1,5 +1,5 @@
 // What a run does with an event: it is asked under which name it takes it, and whether it is guarded.
-ghost use Rattle.std.specs.Prelude.{◌≡◌, true, false, None, [], find, IfSome};
+ghost use Rattle.std.specs.Prelude.{◌≡◌, true, false, None, [], ◌∷◌, find, IfSome};
 ghost use Rattle.std.specs.List.{list_any};
 ghost use Rattle.std.specs.Option.{option_to_list};
 ghost use Rattle.sp_plan.specs.Runs as definitions;
@@ -24,6 +24,19 @@ fn fulfils(offer: &Offer, pairs: &Pairs, name: u8) -> bool
     }
 }
 
+// The name, where the event is taken under it.
+fn under(offer: &Offer, pairs: &Pairs, name: u8) -> Option<u8>
+    requires { IsOffer offer.now }
+    ensures { result ≡ find (name_holds offer.now.plan.now pairs.now offer.now.event.now)
+        (name ∷ []) }
+{
+    if fulfils(offer, pairs, name) {
+        Some(name)
+    } else {
+        None
+    }
+}
+
 // The first name of the element that is still to be bound and under which the event is taken.
 fn lacking(offer: &Offer, pairs: &Pairs, element: Element) -> Option<u8>
     requires offer { IsOffer offer.now }
@@ -40,14 +53,19 @@ fn lacking(offer: &Offer, pairs: &Pairs, element: Element) -> Option<u8>
     None
 }
 
-// The same of an element that may be there.
+// The same of an element that may be there, which isn't filled: where it binds a single name, that is to be bound.
 fn onward(offer: &Offer, pairs: &Pairs, element: Option<Element>) -> Option<u8>
     requires offer { IsOffer offer.now }
     requires named { IfSome element IsNamed }
+    requires unfilled { IfSome element
+        (λ element. definitions.is_filled pairs.now element ≡ false) }
     ensures { result ≡ find (name_holds offer.now.plan.now pairs.now offer.now.event.now)
         (unbound pairs.now element) }
 {
-    lacking(offer, pairs, element?)
+    match element? {
+        Element::One(name) | Element::Plus(name) => under(offer, pairs, name),
+        set => lacking(offer, pairs, set),
+    }
 }
 
 // The name that may be bound once more, where the event is taken under it.
@@ -56,12 +74,7 @@ fn once_more(offer: &Offer, pairs: &Pairs, again: Option<u8>) -> Option<u8>
     ensures { result ≡ find (name_holds offer.now.plan.now pairs.now offer.now.event.now)
         (option_to_list again) }
 {
-    let name = again?;
-    if fulfils(offer, pairs, name) {
-        Some(name)
-    } else {
-        None
-    }
+    under(offer, pairs, again?)
 }
 
 /// The name under which the run takes the event, if it takes it: of the first element not yet filled the first

@@ -20,7 +20,8 @@ pub(crate) struct Offer<'a> {
     /// The event's number, from 1.
     pub(crate) number: u32,
     pub(crate) event: &'a Event,
-    /// The names whose predicates may hold of it, whatever is bound, as bits of a number; also others.
+    /// The names whose predicates may hold of it, as bits of a number, and perhaps others: of a name that isn't among
+    /// them the predicate doesn't hold, whatever a run has bound.
     pub(crate) may: u64,
 }
 

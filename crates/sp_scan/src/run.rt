@@ -22,8 +22,8 @@ pub(crate) struct Ahead {
     pub(crate) again: Option<u8>,
     /// The names that guard it are those of the elements from this place on that stand negated in front there.
     pub(crate) behind: usize,
-    /// The names that count for it, as bits of a number: those under which it may take an event, and those that
-    /// guard it; also others. It passes an event over for which none of them may hold.
+    /// The names that count for it, as bits of a number: those under which it may take an event, those that guard it,
+    /// and perhaps others. It passes an event over of which none of them may hold.
     pub(crate) names: u64,
 }
 

@@ -15,7 +15,8 @@ use std::alloc::Global;
 
 /// The matches of the events of a window from the `first` to the `last`, those `skipped` left out, in the order in
 /// which they come. The plan is compiled, and the events fit it; they are numbered from 1, and the last is there.
-/// An event takes a step for each open run and each name that this may take or that guards it; one that is skipped
+/// An event takes a step for each open run, and for one that it may concern a step for each name that this may take or
+/// that guards it; where more runs are open than the plan has names, also a step for each of these. One that is skipped
 /// takes a search among the skipped. Fails for want of memory alone.
 pub fn scanned(
     alloc: Global,

@@ -125,6 +125,7 @@ impl Turns {
     }
 
     // The turn of the run at this place: it leaves where it holds a used number, and is offered no event that is used.
+    // Most events concern few of the runs: those that pass it over aren't asked.
     #[inline(always)]
     pub(crate) fn take_turn(
         &mut self,

@@ -1,10 +1,10 @@
-use Rattle.std.proofs.Common.{IfSome, None, not, sym, ap, subst, ◌∙◌}
+use Rattle.std.proofs.Common.{◌≡◌, false, IfSome, None, not, sym, ap, subst, ◌∙◌}
 use Rattle.std.specs.Option.{option_or}
 use Rattle.std.specs.List.{find, last_or}
 use Rattle.std.proofs.lemmas.List.Folds.{find-append}
 use Rattle.sp_plan.specs.Runs.{again, is_filled, name_holds, unbound}
 use Rattle.sp_scan.specs.inside.Ahead.{IsNamed}
-use Rattle.sp_scan.proofs.NamedElements.{elements_named, found_keeps}
+use Rattle.sp_scan.proofs.NamedElements.{elements_named, found_fails, found_keeps}
 use Rattle.sp_scan.proofs.asking.takes.Goals as goal
 
 pub onward-requires-clause-named : goal.onward-requires-clause-named
@@ -12,6 +12,11 @@ onward-requires-clause-named c =
     let q = c.args.offer.now.plan.now in
     let r = c.args.run.now.pairs in
     subst (λ o. IfSome o IsNamed) (sym c.requires.ahead.element_is) (found_keeps IsNamed (λ element. not (is_filled r element)) q.elements (elements_named q c.requires.offer.compiled))
+
+pub onward-requires-clause-unfilled : goal.onward-requires-clause-unfilled
+onward-requires-clause-unfilled c =
+    let r = c.args.run.now.pairs in
+    subst (λ o. IfSome o (λ element. is_filled r element ≡ false)) (sym c.requires.ahead.element_is) (found_fails (is_filled r) c.args.offer.now.plan.now.elements)
 
 pub returns-in-Some : goal.returns-in-Some
 returns-in-Some c =
