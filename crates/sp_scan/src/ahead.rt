@@ -26,8 +26,8 @@ pub(crate) fn span(element: Element) -> (u8, u8)
     }
 }
 
-// Whether an event is bound to each name of the element that binds some.
-fn is_filled(pairs: &Pairs, element: Element) -> bool
+// Whether an event is bound to each name of the element that binds some, name by name.
+fn all_bound(pairs: &Pairs, element: Element) -> bool
     requires { IsNamed element }
     ensures { result ≡ definitions.is_filled pairs.now element }
 {
@@ -38,6 +38,17 @@ fn is_filled(pairs: &Pairs, element: Element) -> bool
         }
     }
     true
+}
+
+// The same, which is mostly of a single name.
+fn is_filled(pairs: &Pairs, element: Element) -> bool
+    requires { IsNamed element }
+    ensures { result ≡ definitions.is_filled pairs.now element }
+{
+    match element {
+        Element::One(name) | Element::Plus(name) => pairs.has(name),
+        set => all_bound(pairs, set),
+    }
 }
 
 // The first element that isn't filled.

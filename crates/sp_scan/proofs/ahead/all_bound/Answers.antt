@@ -2,7 +2,7 @@ use Rattle.std.proofs.Common.{◌≡◌, ◌-◌, true, false, sym, ap, ◌∙�
 use Rattle.std.specs.List.{list_all, range_with_len}
 use Rattle.sp_plan.specs.Runs.{is_bound}
 use Rattle.sp_scan.proofs.Searching.{range_at, range_push, all_next, all_not}
-use Rattle.sp_scan.proofs.ahead.is_filled.Goals as goal
+use Rattle.sp_scan.proofs.ahead.all_bound.Goals as goal
 
 pub returns-then-not-has : goal.returns-then-not-has
 returns-then-not-has c =
