@@ -172,7 +172,6 @@ impl RowReader {
         if self.rows.count() == ROWS {
             return Ok(Some(failed(Failure::Limit { limit: ROWS })));
         }
-        let known = self.rows.text_count();
         match self.rows.row_into(alloc, self.cutter.row_at(span), event) {
             Ok(()) => {}
             Err(RowError::Fault(fault)) => return Ok(Some(failed(failure_at(&fault)))),
@@ -192,7 +191,7 @@ impl RowReader {
             Fate::Late => {
                 let failure = self.late_row();
                 // its row is faulty, and brings no text
-                self.rows.forget_texts(known);
+                self.rows.forget_texts();
                 return Ok(Some(failed(failure)));
             }
             Fate::Full => return Ok(Some(failed(Failure::Limit { limit: EVENT_LIMIT }))),

@@ -28,6 +28,10 @@ is_loose rows = rows.progress.clock.loose
 abbrev pub read_of : Rows → RowsRead
 read_of rows = reading (option_map (λ places. places.items) rows.places) rows.progress
 
+-- how many texts had a number before the last row that gave an event
+abbrev pub known_before : Rows → ℕ
+known_before rows = rows.progress.known
+
 -- the same with the texts below this number alone
 abbrev pub with_texts_below : ℕ → RowsRead → RowsRead
 with_texts_below number read = record read { texts = take number read.texts }

@@ -20,6 +20,8 @@ pub(crate) struct Progress {
     pub(crate) read: u32,
     clock: Clock,
     pub(crate) texts: Texts,
+    /// How many texts had a number before the last row that gave an event.
+    pub(crate) known: usize,
 }
 
 // A place as a column's number from 1. There is none past the last `u32`.
@@ -53,6 +55,7 @@ impl Progress {
             read: 0,
             clock: Clock::new(loose),
             texts: Texts::of(alloc, plan.texts.as_slice())?,
+            known: 0,
         })
     }
 
@@ -158,12 +161,15 @@ impl Progress {
             (spec.event_row layout.now.plan.now (reading (Some layout.now.places.now) self.old)
             (fields_in cells.now) layout.now.places.now) e) }
         ensures kept { take (length self.old.texts) self.new.texts ≡ self.old.texts }
+        ensures known { OnOk result (self.new.known ≡ length self.old.texts) }
         ensures loose { self.new.clock.loose ≡ self.old.clock.loose }
         ensures err { OnErr result (self.new ≡ self.old) }
     {
         let known = self.texts.len();
         let read = self.read_event(alloc, cells, layout, event);
-        if read.is_err() {
+        if read.is_ok() {
+            self.known = known;
+        } else {
             self.texts.truncate(known);
         }
         read
@@ -192,6 +198,7 @@ impl Progress {
         ensures same { OnErr result (self.new.read ≡ self.old.read) }
         ensures last { OnErr result (self.new.clock ≡ self.old.clock) }
         ensures kept { take (length self.old.texts) self.new.texts ≡ self.old.texts }
+        ensures known { self.new.known ≡ self.old.known }
         ensures loose { self.new.clock.loose ≡ self.old.clock.loose }
     {
         let Ok(values) = Values::with_capacity(alloc, layout.columns.len()) else {

@@ -33,7 +33,7 @@ pub struct Rows {
 }
 
 impl Rows {
-    ghost use Rattle.sp_rows.specs.Progress.{plan_of, read_of, with_texts_below, is_loose, Answers, no_header, given_as};
+    ghost use Rattle.sp_rows.specs.Progress.{plan_of, read_of, with_texts_below, known_before, is_loose, Answers, no_header, given_as};
 
     // No row was read, and times may go back or not.
     fn begin(alloc: Global, plan: Arc<Plan>, loose: bool) -> Result<Rows, Memory>
@@ -99,13 +99,15 @@ impl Rows {
         self.progress.texts.get(number)
     }
 
-    /// Forgets the texts from this number on, and nothing else. Takes no memory.
-    pub fn forget_texts(&mut self, number: usize)
+    /// Forgets the texts that the last row with an event brought, and nothing else: those that `row_into` found
+    /// with no number. Takes no memory.
+    pub fn forget_texts(&mut self)
         ensures plan { plan_of self.new ≡ plan_of self.old }
-        ensures read { read_of self.new ≡ with_texts_below number (read_of self.old) }
+        ensures read { read_of self.new
+            ≡ with_texts_below (known_before self.old) (read_of self.old) }
         ensures loose { is_loose self.new ≡ is_loose self.old }
     {
-        self.progress.texts.truncate(number);
+        self.progress.texts.truncate(self.progress.known);
     }
 
     /// The event of the next row, which comes without its line feed; None where the row is blank or the
@@ -147,6 +149,8 @@ impl Rows {
             (read_of self.old) (read_of self.new) (given_as result event.new) }
         ensures kept { take (length (read_of self.old).texts) (read_of self.new).texts
             ≡ (read_of self.old).texts }
+        ensures known { OnOk result (IsSome event.new
+            → known_before self.new ≡ length (read_of self.old).texts) }
         ensures loose { is_loose self.new ≡ is_loose self.old }
     {
         let cells = match read_cells(row, &mut self.nexts, &mut self.record) {
