@@ -1,4 +1,4 @@
-use Rattle.std.proofs.Common.{◌≡◌, ◌==◌, ◌+◌, ◌-◌, ◌<◌, ◌≤ℤ◌, true, false, pos, List, [], ◌∷◌, take, Some, IsSome, Option, tt, refl, sym, ◌∙◌, ap, subst, arith, to_z, of_z, w64}
+use Rattle.std.proofs.Common.{◌≡◌, ◌==◌, ◌+◌, ◌-◌, ◌<◌, ◌≤ℤ◌, true, false, pos, List, [], ◌∷◌, take, Some, IsSome, Option, refl, sym, ◌∙◌, ap, subst, arith, to_z, of_z, w64}
 use Rattle.std.specs.Prelude.{ℕ, ℤ}
 use Rattle.std.proofs.lemmas.Bool.Decides.{nat_tests}
 use Rattle.std.proofs.lemmas.Int.{ints, to_z-of_z}
@@ -190,7 +190,7 @@ returns-in-Late-clause-reads c source =
     let is : given_if (is_loose old.rows) (row_result (plan_of old.rows) (read_of old.rows) bytes) ≡ event e (read_of mid.rows) = rw c.in-Some.is at c.in-Ok.ensures.answers in
     let between = time_between (plan_of old.rows) e (event_fits old.rows mid.rows ready.suits bytes e is) in
     let same : to_z w64 (of_z w64 e.time) ≡ e.time = to_z-of_z w64 e.time (omega (arith, ints, between)) in
-    let some : IsSome c.row_into.new.event = subst IsSome (sym c.in-Some.is) tt in
+    let some : IsSome c.row_into.new.event = subst IsSome (sym c.in-Some.is) refl in
     let known : texts_of new ≡ texts_of old =
     ap (λ (r : RowsRead). r.texts) c.forget_texts.ensures.read ∙ ap (λ (n : ℕ). take n (texts_of mid)) (c.in-Ok.ensures.known some) ∙ c.row_into.ensures.kept in
     reads_refused c.rows_stay.ensures source old new (row bytes) c.late_row-failure.result c.failed-in-Late.result (Some e) c.failed-in-Late.ensures
