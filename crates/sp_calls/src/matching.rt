@@ -11,8 +11,12 @@ use sp_base::Numbers;
 use sp_emit::match_line;
 use sp_match::{Matcher, Move, Moves, match_of, places_of};
 use sp_plan::{Event, Plan};
+use sp_wants::{Stretch, Wants};
 use std::alloc::{AllocError, Global};
 use std::sync::Arc;
+
+// What stands between two pairs of a list.
+const BETWEEN_PAIRS: &str = "), (";
 
 // Appends the numbers of the events that a completed run uses, and the match of window 1 that it is, with
 // the run's number as its own.
@@ -63,6 +67,26 @@ fn push_run(number: u32, what: &str, out: &mut AnswerText) {
     out.text(what);
 }
 
+// Appends the pair of a stretch for each of its runs: a text before the first one, and commas between them.
+fn push_stretch(first: &str, stretch: &Stretch, out: &mut AnswerText) {
+    let mut before = first;
+    for _ in 0..stretch.times {
+        out.number(before, i128::from(stretch.before));
+        out.number(", ", i128::from(stretch.after));
+        before = BETWEEN_PAIRS;
+    }
+}
+
+// Appends a list of pairs that isn't empty.
+fn push_wanted(wanted: &Wants, out: &mut AnswerText) {
+    let mut before = " wanted [(";
+    for stretch in wanted.stretches() {
+        push_stretch(before, stretch, out);
+        before = BETWEEN_PAIRS;
+    }
+    out.text(")]");
+}
+
 // Appends the moves, and what the runs wanted before and after the event.
 fn push_all(
     alloc: Global,
@@ -74,7 +98,7 @@ fn push_all(
         push_move(alloc, plan, one, out)?;
     }
     if !moves.wanted.is_empty() {
-        out.made(format!(in alloc; " wanted {:?}", moves.wanted));
+        push_wanted(&moves.wanted, out);
     }
     Ok(())
 }

@@ -1,6 +1,4 @@
-ghost use Rattle.std.specs.Prelude.{◌≡◌, ◌+◌, ◌<◌, ◌≤◌, ◌↔◌, length, IfOk, IsTrue, codes};
-ghost use Rattle.std.specs.List.{All};
-ghost use Rattle.sp_base.specs.Limits.{renewal};
+ghost use Rattle.std.specs.Prelude.{◌≡◌, ◌+◌, ◌%◌, ◌<◌, ◌≤◌, ◌↔◌, replicate, IfOk, IsTrue, codes};
 ghost use Rattle.sp_chance.specs.Counted.{IsMove};
 ghost use Rattle.sp_chance.specs.Learned as learning;
 ghost use Rattle.sp_chance.specs.Matrices.{at, first, power};
@@ -8,10 +6,11 @@ ghost use Rattle.sp_chance.specs.Learned.{fresh, learned, learned_all, chance_of
 
 use crate::Predictor;
 use crate::matrix::{STATES, WHOLE};
-use crate::pairs::{Pairs, RECENT};
+use crate::pairs::Pairs;
 use crate::powers::{POWERS, Powers, worked_out};
 use crate::recent::Recent;
 use sp_base::Memory;
+use sp_wants::Wants;
 use std::alloc::Global;
 use std::cell::RefCell;
 use std::marker::Model;
@@ -61,41 +60,31 @@ impl Markov {
         })
     }
 
-    // One pair more. At a turn the matrices are those of the last pairs from then on; these are only copied,
-    // since most are never asked about.
-    fn note(&mut self, from: u32, to: u32)
-        ensures { self.new ≡ learned self.old from to }
+    // The same pair so many times more, up to the last place of the ring at most. At a turn the matrices are
+    // those of the last pairs from then on; these are only copied, since most are never asked about.
+    fn note_some(&mut self, from: u32, to: u32, times: usize)
+        requires counts { IsMove (from, to) }
+        requires some { 0 < times }
+        requires room { self.old.since % 256 + times ≤ 256 }
+        ensures { self.new ≡ learned_all self.old (replicate times (from, to)) }
+    {
+        if self.recent.push_times(from, to, times) {
+            self.built.replace(self.recent.whole());
+        }
+    }
+
+    // The same pair so many times more.
+    fn note(&mut self, from: u32, to: u32, times: usize)
+        ensures { self.new ≡ learned_all self.old (replicate times (from, to)) }
     {
         if !is_move(from, to) {
             return;
         }
-        if self.recent.push(from, to) {
-            self.built.replace(self.recent.whole());
-        }
-    }
-
-    // Pairs that count, no fewer than are kept, and up to a turn at most.
-    fn note_many(&mut self, pairs: &[(u32, u32)])
-        requires moves { All IsMove pairs.now }
-        requires many { 256 ≤ length pairs.now }
-        requires turn { self.old.since + length pairs.now ≤ renewal }
-        ensures { self.new ≡ learned_all self.old pairs.now }
-    {
-        if self.recent.push_many(pairs) {
-            self.built.replace(self.recent.whole());
-        }
-    }
-
-    // Pairs up to a turn at most.
-    fn note_some(&mut self, pairs: &[(u32, u32)])
-        requires turn { self.old.since + length pairs.now ≤ renewal }
-        ensures { self.new ≡ learned_all self.old pairs.now }
-    {
-        if pairs.len() > RECENT && pairs.iter().all(|pair| is_move(pair.0, pair.1)) {
-            return self.note_many(pairs);
-        }
-        for (from, to) in pairs {
-            self.note(*from, *to);
+        let mut noted = 0;
+        while noted < times {
+            let some = self.recent.room().min(times - noted);
+            self.note_some(from, to, some);
+            noted += some;
         }
     }
 
@@ -128,18 +117,15 @@ impl Predictor for Markov {
     fn learn(&mut self, from: u32, to: u32)
         ensures { self.new ≡ learned self.old from to }
     {
-        self.note(from, to);
+        self.note(from, to, 1);
     }
 
-    /// As `learn`, with one call for all of them.
-    fn learn_all(&mut self, pairs: &[(u32, u32)])
+    /// As `learn`, with one call for all of them. Equal pairs that follow one another cost little more than one.
+    fn learn_all(&mut self, pairs: &Wants)
         ensures { self.new ≡ learned_all self.old pairs.now }
     {
-        let mut at = 0;
-        while at < pairs.len() {
-            let end = pairs.len().min(at + self.recent.until_turn());
-            self.note_some(&pairs[at..end]);
-            at = end;
+        for stretch in pairs.stretches() {
+            self.note(stretch.before, stretch.after, stretch.times);
         }
     }
 

@@ -1,6 +1,8 @@
 ghost use Rattle.std.specs.Prelude.{◌≡◌, ◌∷◌, ℕ, List, []};
 ghost use Rattle.sp_chance.specs.Taught.{TaughtOn};
 
+use sp_wants::Wants;
+
 /// Tells how likely it is that an open group completes. Nothing rests on its numbers but the choice of the
 /// work that is done first.
 pub trait Predictor: Drop + Send {
@@ -24,12 +26,14 @@ pub trait Predictor: Drop + Send {
         ensures taught { TaughtOn (taught self.old) ((from, to) ∷ []) (taught self.new) };
 
     /// Learns each of these pairs, in their order.
-    fn learn_all(&mut self, pairs: &[(u32, u32)])
+    fn learn_all(&mut self, pairs: &Wants)
         ensures name { named self.new ≡ named self.old }
         ensures taught { TaughtOn (taught self.old) pairs.now (taught self.new) }
     {
-        for (from, to) in pairs {
-            self.learn(*from, *to);
+        for stretch in pairs.stretches() {
+            for _ in 0..stretch.times {
+                self.learn(stretch.before, stretch.after);
+            }
         }
     }
 

@@ -1,9 +1,7 @@
-ghost use Rattle.std.specs.Prelude.{◌≡◌, ◌+◌, ◌<◌, ◌≤◌, [], ◌==◌, length, map, if◌then◌else◌};
-ghost use Rattle.std.specs.List.{All};
+ghost use Rattle.std.specs.Prelude.{◌≡◌, ◌+◌, ◌%◌, ◌<◌, ◌≤◌, [], ◌++◌, ◌==◌, map, replicate, if◌then◌else◌};
 ghost use Rattle.circular_buffer.specs.Buffer.{keep_last};
 ghost use Rattle.sp_base.specs.Limits.{renewal};
 ghost use Rattle.sp_chance.specs.Counted.{decoded, IsMove};
-ghost use Rattle.sp_chance.specs.Learned.{with_pair};
 
 use crate::pairs::{RECENT, encode};
 use sp_base::limits::RENEWAL;
@@ -45,51 +43,33 @@ impl Recent {
         }
     }
 
-    /// How many pairs bring the next turn.
-    pub(crate) fn until_turn(&self) -> usize
-        ensures left { self.now.since + result ≡ renewal }
+    /// How many pairs the ring takes up to its last place. A turn comes only there.
+    pub(crate) fn room(&self) -> usize
+        ensures left { self.now.since % 256 + result ≡ 256 }
         ensures some { 0 < result }
-        ensures few { result ≤ renewal }
     {
-        (RENEWAL - self.since) as usize
+        RECENT - self.since as usize % RECENT
     }
 
-    /// One pair more. Whether it brings a turn.
-    pub(crate) fn push(&mut self, from: u32, to: u32) -> bool
-        requires { IsMove (from, to) }
-        ensures ring { self.new.ring ≡ with_pair self.old.ring from to }
-        ensures turn { result ≡ (self.old.since + 1 == renewal) }
+    /// The same pair so many times more, up to the last place of the ring at most. Whether they bring a turn.
+    pub(crate) fn push_times(&mut self, from: u32, to: u32, times: usize) -> bool
+        requires counts { IsMove (from, to) }
+        requires room { self.old.since % 256 + times ≤ 256 }
+        ensures within { self.old.since + times ≤ renewal }
+        ensures ring { self.new.ring ≡ keep_last 256 (self.old.ring ++ replicate times (from, to)) }
+        ensures turn { result ≡ (self.old.since + times == renewal) }
         ensures since { self.new.since
-            ≡ (if self.old.since + 1 == renewal then 0 else self.old.since + 1) }
+            ≡ (if self.old.since + times == renewal then 0 else self.old.since + times) }
     {
-        self.codes[self.since as usize % RECENT] = encode(from, to);
-        if self.since + 1 < RENEWAL {
-            self.since += 1;
+        let at = self.since as usize % RECENT;
+        self.codes[at..at + times].fill(encode(from, to));
+        self.since += times as u32;
+        if self.since < RENEWAL {
             return false;
         }
         self.since = 0;
         self.full = true;
         true
-    }
-
-    /// So many pairs more, up to a turn at most and no fewer than are kept. Whether they bring the turn. Only the
-    /// last ones are written down: those in front of them would be overwritten.
-    pub(crate) fn push_many(&mut self, pairs: &[(u32, u32)]) -> bool
-        requires moves { All IsMove pairs.now }
-        requires many { 256 ≤ length pairs.now }
-        requires turn { self.old.since + length pairs.now ≤ renewal }
-        ensures ring { self.new.ring ≡ keep_last 256 pairs.now }
-        ensures turn { result ≡ (self.old.since + length pairs.now == renewal) }
-        ensures since { self.new.since ≡ (if self.old.since + length pairs.now == renewal then 0
-            else self.old.since + length pairs.now) }
-    {
-        let passed = pairs.len() - RECENT;
-        self.since += passed as u32;
-        let mut turned = false;
-        for (from, to) in &pairs[passed..] {
-            turned = self.push(*from, *to);
-        }
-        turned
     }
 
     /// The number of each pair, at a turn.

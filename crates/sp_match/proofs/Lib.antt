@@ -59,3 +59,4 @@ pub mod MatcherAfterEvent
 pub mod EventIsOffered
 -- What the runs want of later events.
 pub mod WantedIsTold
+pub mod WantsStay

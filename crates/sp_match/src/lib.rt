@@ -13,6 +13,7 @@ mod holdings;
 mod known;
 pub mod law;
 mod leaving;
+mod lefts;
 mod matcher;
 mod moves;
 mod offer;

@@ -5,6 +5,7 @@ ghost use Rattle.sp_plan.specs.Events.{fits};
 ghost use Rattle.sp_match.specs.inside.Handling as handling;
 ghost use Rattle.sp_match.specs.public.Laws.{Below};
 ghost use Rattle.sp_match.specs.public.Seen.{all_seen, seen_run};
+ghost use Rattle.sp_wants.specs.Stretches.{repeated};
 
 use crate::Memory;
 use crate::all_runs::{copies, same_runs};
@@ -12,6 +13,7 @@ use crate::handling::handle_all;
 use crate::holdings::Holdings;
 use crate::known::Known;
 use crate::leaving::abandon_all;
+use crate::lefts::Lefts;
 use crate::moves::Moves;
 use crate::offer::Offer;
 use crate::run::Run;
@@ -20,6 +22,7 @@ use crate::stock::Stock;
 use crate::takers::{Takers, takers_of};
 use crate::wanting::{left, want_as_before};
 use sp_plan::{Event, Plan, law};
+use sp_wants::Wants;
 use std::alloc::Global;
 use std::marker::Model;
 use std::sync::Arc;
@@ -31,8 +34,8 @@ pub struct Matcher {
     plan: Arc<Plan>,
     runs: Vec<Run>,
     count: u32,
-    // what the open runs wanted before the event at hand; a room that is used again
-    lefts: Vec<u32>,
+    // what the open runs want, from one event to the next
+    lefts: Lefts,
     // what runs that ended have left for later ones
     stock: Stock,
     // what is kept for asking predicates once for all open runs
@@ -57,6 +60,7 @@ impl Model for Matcher {
     ghost use Rattle.sp_match.specs.inside.Kept.{all_kept, pairs, started};
     ghost use Rattle.sp_match.specs.inside.Keeping.{IsKept};
     ghost use Rattle.sp_match.specs.inside.Takers.{IsHeld};
+    ghost use Rattle.sp_match.specs.inside.Wanted.{AreLeft};
 
     ghost view = { λ m. record {
       plan = arc_value m.plan;
@@ -65,7 +69,8 @@ impl Model for Matcher {
     } };
 
     ghost invariant = { λ m. IsKept (arc_value m.plan) m.count (all_kept m.runs.items)
-        × IsHeld (arc_value m.plan) (map pairs (all_kept m.runs.items)) m.holdings };
+        × IsHeld (arc_value m.plan) (map pairs (all_kept m.runs.items)) m.holdings
+        × AreLeft (arc_value m.plan) (all_kept m.runs.items) m.lefts };
 }
 
 // How many runs have started, where one more may have.
@@ -93,7 +98,7 @@ impl Matcher {
             plan,
             runs: Vec::new(alloc),
             count: 0,
-            lefts: Vec::new(alloc),
+            lefts: Lefts::new(alloc),
             stock: Stock::new(alloc),
             holdings: Holdings::new(alloc),
             takers: Takers::new(alloc),
@@ -116,6 +121,7 @@ impl Matcher {
         end_all(&mut self.runs, &mut self.stock);
         self.count = 0;
         self.holdings.forget();
+        self.lefts.forget();
     }
 
     /// Handles the next visible event: the open runs are offered it, the oldest first, and then it may
@@ -134,12 +140,12 @@ impl Matcher {
         ensures told { OnOk result
             (TellsEvent (number, event.now) self.old (all_seen moves.new.list.items)) }
         ensures wanted { OnOk result
-            (TellsWanted (number, event.now) self.old moves.new.wanted.items) }
+            (TellsWanted (number, event.now) self.old moves.new.wanted) }
         ensures below { OnOk result (Below (number + 1) (runs_of self.new)) }
         ensures plan { self.new.plan ≡ self.old.plan }
         ensures err { OnErr result (self.new ≡ self.old) }
         ensures cleared { OnErr result
-            ((moves.new.list.items ≡ []) × (moves.new.wanted.items ≡ [])) }
+            ((moves.new.list.items ≡ []) × (moves.new.wanted ≡ [])) }
     {
         self.offer_known::<true>(alloc, number, event, Known::Any, moves)
     }
@@ -162,14 +168,20 @@ impl Matcher {
         }
     }
 
-    /// Adds behind the list what the open runs want where an event changes nothing: as many events after it
-    /// as before it. After want of memory the list is as before.
-    pub fn add_wanted(&self, wanted: &mut Vec<(u32, u32)>) -> Result<(), Memory>
+    /// Adds behind the list, so many times, what the open runs want where an event changes nothing: as many
+    /// events after it as before it. What stood in the room is forgotten. After want of memory the list is as
+    /// before.
+    pub fn add_wanted(&self, times: u32, room: &mut Wants, wanted: &mut Wants) -> Result<(), Memory>
         ensures added { OnOk result
-            (wanted.new.items ≡ wanted.old.items ++ wanted_as_before self.now) }
-        ensures err { OnErr result (wanted.new.items ≡ wanted.old.items) }
+            (wanted.new ≡ wanted.old ++ repeated times (wanted_as_before self.now)) }
+        ensures err { OnErr result (wanted.new ≡ wanted.old) }
     {
-        want_as_before(&self.plan, &self.runs, wanted)
+        if self.lefts.is_fresh {
+            return wanted.extend_times(&self.lefts.wants, times);
+        }
+        room.clear();
+        want_as_before(&self.plan, &self.runs, room)?;
+        wanted.extend_times(room, times)
     }
 
     /// Handles the next visible event, of which this is known, as `offer_into` does, but tells what the runs
@@ -189,12 +201,12 @@ impl Matcher {
         ensures told { OnOk result
             (TellsEvent (number, event.now) self.old (all_seen moves.new.list.items)) }
         ensures wanted { IsTrue WANTED → OnOk result
-            (TellsWanted (number, event.now) self.old moves.new.wanted.items) }
+            (TellsWanted (number, event.now) self.old moves.new.wanted) }
         ensures below { OnOk result (Below (number + 1) (runs_of self.new)) }
         ensures plan { self.new.plan ≡ self.old.plan }
         ensures err { OnErr result (self.new ≡ self.old) }
         ensures cleared { OnErr result
-            ((moves.new.list.items ≡ []) × (moves.new.wanted.items ≡ [])) }
+            ((moves.new.list.items ≡ []) × (moves.new.wanted ≡ [])) }
     {
         // The numbers of an event that fits are small, which predicates ask for.
         law::fitting_events_are_small();
@@ -226,6 +238,7 @@ impl Matcher {
         ) {
             Ok(started) => {
                 let is_quiet = moves.list.is_empty();
+                let handled = self.runs.len();
                 end_event(
                     &offer,
                     &mut self.runs,
@@ -234,12 +247,14 @@ impl Matcher {
                     open,
                     is_quiet,
                 );
+                self.lefts.outlive::<WANTED>(self.runs.len() == handled);
                 self.count = count_after(self.count, started);
                 Ok(())
             }
             Err(memory) => {
                 undo(&mut self.runs, open, number);
                 self.holdings.forget();
+                self.lefts.forget();
                 moves.clear();
                 Err(memory)
             }
@@ -254,7 +269,7 @@ impl Matcher {
         ensures told { IfOk result
             (λ moves. TellsEvent (number, event.now) self.old (all_seen moves.list.items)) }
         ensures wanted { IfOk result
-            (λ moves. TellsWanted (number, event.now) self.old moves.wanted.items) }
+            (λ moves. TellsWanted (number, event.now) self.old moves.wanted) }
         ensures below { OnOk result (Below (number + 1) (runs_of self.new)) }
         ensures plan { self.new.plan ≡ self.old.plan }
         ensures err { OnErr result (self.new ≡ self.old) }
@@ -278,7 +293,7 @@ impl Matcher {
         ensures told { IfOk result
             (λ moves. TellsEvent (number, event.now) self.old (all_seen moves.list.items)) }
         ensures wanted { IfOk result
-            (λ moves. TellsWanted (number, event.now) self.old moves.wanted.items) }
+            (λ moves. TellsWanted (number, event.now) self.old moves.wanted) }
         ensures below { OnOk result (Below (number + 1) (runs_of self.new)) }
         ensures plan { self.new.plan ≡ self.old.plan }
         ensures err { OnErr result (self.new ≡ self.old) }
@@ -305,13 +320,14 @@ impl Matcher {
         ensures plan { self.new.plan ≡ self.old.plan }
         ensures told { IfOk result
             (λ moves. TellsClosing self.old (all_seen moves.list.items)) }
-        ensures wanted { IfOk result (λ moves. moves.wanted.items ≡ []) }
+        ensures wanted { IfOk result (λ moves. moves.wanted ≡ []) }
         ensures err { OnErr result (self.new ≡ self.old) }
     {
         let mut moves = Moves::new(alloc);
         abandon_all(&self.runs, &mut moves.list)?;
         self.runs.clear();
         self.holdings.forget();
+        self.lefts.forget();
         Ok(moves)
     }
 
@@ -323,7 +339,7 @@ impl Matcher {
             plan: Arc::try_clone(&self.plan)?,
             runs: copies(alloc, &self.runs)?,
             count: self.count,
-            lefts: Vec::new(alloc),
+            lefts: Lefts::new(alloc),
             stock: Stock::new(alloc),
             holdings: Holdings::new(alloc),
             takers: Takers::new(alloc),

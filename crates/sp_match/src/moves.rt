@@ -3,6 +3,7 @@ ghost use Rattle.std.specs.Prelude.{◌≡◌, []};
 
 use sp_base::Numbers;
 use sp_plan::Listed;
+use sp_wants::Wants;
 use std::alloc::Global;
 
 /// What happened to a run. Runs are named by their numbers.
@@ -37,25 +38,25 @@ pub struct Moves {
     pub list: Vec<Move>,
     /// For each run that was open before and wasn't abandoned, by run number: how many events it wanted
     /// at least before the event, and how many after it.
-    pub wanted: Vec<(u32, u32)>,
+    pub wanted: Wants,
 }
 
 impl Moves {
     /// No moves. Takes no memory.
     pub fn new(alloc: Global) -> Moves
         ensures list { result.list.items ≡ [] }
-        ensures wanted { result.wanted.items ≡ [] }
+        ensures wanted { result.wanted ≡ [] }
     {
         Moves {
             list: Vec::new(alloc),
-            wanted: Vec::new(alloc),
+            wanted: Wants::new(alloc),
         }
     }
 
     /// Forgets all moves. The rooms are kept, and no memory is taken.
     pub fn clear(&mut self)
         ensures list { self.new.list.items ≡ [] }
-        ensures wanted { self.new.wanted.items ≡ [] }
+        ensures wanted { self.new.wanted ≡ [] }
     {
         self.list.clear();
         self.wanted.clear();

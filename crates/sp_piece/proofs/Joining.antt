@@ -34,7 +34,7 @@ module _ (x y : Moves) (z m : Account) (told : (seen_moves y).told ++ z.told ≡
 -- An entry and the moves that are to come behind it, before and after they were joined.
 pub record AreJoined (x room y left : Moves) : Type 0 where
   pub list : IsJoined x.list.items room.list.items y.list.items left.list.items
-  pub wanted : IsJoined x.wanted.items room.wanted.items y.wanted.items left.wanted.items
+  pub wanted : IsJoined x.wanted room.wanted y.wanted left.wanted
 
 -- the last entry, and what is left, tell what the room told behind it
 behind_last : (x room y left : Moves) → AreJoined x room y left → (xs : List Moves) (i : ℕ) → i + 1 ≡ length xs → x ≡ get_or xs i x
@@ -42,10 +42,10 @@ behind_last : (x room y left : Moves) → AreJoined x room y left → (xs : List
 behind_last x room y left are =
     last_joined x y (seen_moves left) (seen_moves room)
     (sym (map-append seen y.list.items left.list.items) ∙ ap (map seen) (together x.list.items room.list.items y.list.items left.list.items are.list) ∙ map-append seen x.list.items room.list.items)
-    (together x.wanted.items room.wanted.items y.wanted.items left.wanted.items are.wanted)
+    (together x.wanted room.wanted y.wanted left.wanted are.wanted)
 
 -- where nothing is left, the last entry tells all
-pub all_behind : (x room y left : Moves) → AreJoined x room y left → left.list.items ≡ [] → left.wanted.items ≡ [] → (xs : List Moves) (i : ℕ) → i + 1 ≡ length xs → x ≡ get_or xs i x
+pub all_behind : (x room y left : Moves) → AreJoined x room y left → left.list.items ≡ [] → left.wanted ≡ [] → (xs : List Moves) (i : ℕ) → i + 1 ≡ length xs → x ≡ get_or xs i x
     → TellsOn (seen_moves room) xs (set xs i y)
 all_behind x room y left are no_list no_wanted xs i end here =
     let none : seen_moves left ≡ (record { told = []; wanted = [] }) = λ j. record { told = map seen (no_list j); wanted = no_wanted j } in

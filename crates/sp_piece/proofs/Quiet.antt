@@ -20,7 +20,8 @@ use Rattle.sp_match.specs.declared.moves.Moves.{Moves}
 use Rattle.sp_piece.specs.declared.job.Job.{Job}
 use Rattle.sp_piece.specs.Reading.{Loan, Account, account, accounts_on, joined, read_on, seen_moves, skips}
 use Rattle.sp_piece.specs.Pieced.{loan}
-use Rattle.sp_piece.specs.Keeping.{IsKept, NoneSkipped, PassesBy, TellsOn, current, going, repeated}
+use Rattle.sp_piece.specs.Keeping.{IsKept, NoneSkipped, PassesBy, TellsOn, current, going}
+use Rattle.sp_wants.specs.Stretches.{repeated}
 use Rattle.sp_piece.proofs.Kept.{below_next, joined_both, joined_nothing, on_handled, told_handled}
 use Rattle.sp_piece.proofs.Wants.{of_wants}
 

@@ -1,5 +1,5 @@
 -- What a piece keeps between two steps.
-use Rattle.std.specs.Prelude.{◌≡◌, ◌⊎◌, ℕ, zero, suc, ◌+◌, ◌<◌, ◌≤◌, true, false, List, [], ◌∷◌, ◌++◌, Option, Some, None, length, map}
+use Rattle.std.specs.Prelude.{◌≡◌, ◌⊎◌, ℕ, ◌+◌, ◌<◌, ◌≤◌, true, false, List, [], ◌∷◌, ◌++◌, Option, Some, None, length, map}
 use Rattle.sp_plan.specs.Windows.{Numbered}
 use Rattle.sp_plan.specs.Runs.{State, handle}
 use Rattle.sp_match.specs.declared.known.Known.{Known}
@@ -71,8 +71,3 @@ pub record PassesBy (m : Matching) (k : Known) : Type 0 where
   pub stands : (x : Numbered) → IsKnown m.plan x.1 k → IsAfter x m m
   pub told : (x : Numbered) → IsKnown m.plan x.1 k → TellsEvent x m []
   pub wanted : (x : Numbered) → IsKnown m.plan x.1 k → TellsWanted x m (wanted_as_before m)
-
--- the same list so many times, one after another
-abbrev pub repeated : {A : Type 0} → ℕ → List A → List A
-repeated zero l = []
-repeated (suc n) l = repeated n l ++ l

@@ -73,4 +73,4 @@ joined accounts = record { told = flat_map (λ a. a.told) accounts; wanted = fla
 
 -- moves as an account
 abbrev pub seen_moves : Moves → Account
-seen_moves m = record { told = map seen m.list.items; wanted = m.wanted.items }
+seen_moves m = record { told = map seen m.list.items; wanted = m.wanted }

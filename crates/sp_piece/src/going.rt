@@ -4,13 +4,14 @@ ghost use Rattle.sp_plan.specs.Events.{fits};
 ghost use Rattle.sp_match.specs.public.Known.{IsKnown};
 ghost use Rattle.sp_match.specs.public.Laws.{Below};
 ghost use Rattle.sp_match.specs.public.Matching.{runs_of, wanted_as_before};
-ghost use Rattle.sp_piece.specs.Keeping.{ClosedOff, HandledOn, TellsOn, TellsSame, current, repeated};
+ghost use Rattle.sp_piece.specs.Keeping.{ClosedOff, HandledOn, TellsOn, TellsSame, current};
+ghost use Rattle.sp_wants.specs.Stretches.{repeated};
 
 use crate::Memory;
 use crate::telling::Telling;
 use sp_match::{Known, Matcher};
 use sp_plan::Event;
-use std::alloc::{AllocError, Global};
+use std::alloc::Global;
 
 /// A lent event that is to be read, with its number.
 #[derive(Clone, Copy, Drop)]
@@ -42,25 +43,6 @@ fn begin(alloc: Global, matcher: &mut Option<Matcher>, before: &Matcher) -> Resu
     Ok(())
 }
 
-// Adds so many times what the open runs want where an event changes nothing. After want of memory the list is
-// as before.
-fn add_times(led: &Matcher, times: u32, wanted: &mut Vec<(u32, u32)>) -> Result<(), Memory>
-    ensures added { OnOk result
-        (wanted.new.items ≡ wanted.old.items ++ repeated times (wanted_as_before led.now)) }
-    ensures err { OnErr result (wanted.new.items ≡ wanted.old.items) }
-{
-    let before = wanted.len();
-    // Room for all of it is made once.
-    wanted.reserve(led.open_runs().len().saturating_mul(times as usize))?;
-    for _ in 0..times {
-        if led.add_wanted(wanted).is_err() {
-            wanted.truncate(before);
-            return Err(AllocError);
-        }
-    }
-    Ok(())
-}
-
 /// What the open runs want where so many events change nothing comes behind what the last entry tells. After
 /// want of memory no more is told than before.
 pub(crate) fn add_wanted(
@@ -79,7 +61,8 @@ pub(crate) fn add_wanted(
     }
     telling.begin(alloc)?;
     let last = telling.entries.len() - 1;
-    add_times(led, times, &mut telling.entries[last].wanted)
+    let entry = &mut telling.entries[last];
+    led.add_wanted(times, &mut telling.room.wanted, &mut entry.wanted)
 }
 
 // The matcher handles the event, and what is told of it comes behind the other moves. After want of memory

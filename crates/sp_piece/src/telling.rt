@@ -22,10 +22,10 @@ pub(crate) struct Telling {
 fn join(entry: &mut Moves, more: &mut Moves) -> bool
     ensures list { IsJoined entry.old.list.items more.old.list.items entry.new.list.items
         more.new.list.items }
-    ensures wanted { IsJoined entry.old.wanted.items more.old.wanted.items
-        entry.new.wanted.items more.new.wanted.items }
+    ensures wanted { IsJoined entry.old.wanted more.old.wanted
+        entry.new.wanted more.new.wanted }
     ensures all { IsTrue result
-        → (more.new.list.items ≡ []) × (more.new.wanted.items ≡ []) }
+        → (more.new.list.items ≡ []) × (more.new.wanted ≡ []) }
 {
     entry.list.append(&mut more.list).is_ok() && entry.wanted.append(&mut more.wanted).is_ok()
 }

@@ -15,7 +15,7 @@ use Rattle.sp_core.specs.Running.{Running}
 
 -- what moves tell of how many events runs wanted before one more event, and after it
 abbrev pub wanted_of : List Moves → List (ℕ × ℕ)
-wanted_of moves = flat_map (λ entry. entry.wanted.items) moves
+wanted_of moves = flat_map (λ entry. entry.wanted) moves
 
 -- These pairs are what the reading of a piece tells of the events that runs wanted, from any runs for which its job's matcher stands; and
 -- there are runs for which it stands.

@@ -27,7 +27,7 @@ impl Readings {
     pub(crate) fn add(&mut self, piece: &Piece) {
         self.events = self.events.saturating_add(piece.read() as u64);
         for entry in piece.moves() {
-            self.visits = self.visits.saturating_add(entry.wanted.len() as u64);
+            self.visits = self.visits.saturating_add(entry.wanted.count());
         }
     }
 

@@ -4,7 +4,7 @@ use Rattle.std.proofs.lemmas.Result.{on_err_weaker, on_ok_weaker}
 use Rattle.sp_match.specs.declared.moves.Moves.{Moves}
 use Rattle.sp_match.specs.public.Matching.{wanted_as_before}
 use Rattle.sp_piece.specs.Reading.{seen_moves}
-use Rattle.sp_piece.specs.Keeping.{repeated}
+use Rattle.sp_wants.specs.Stretches.{repeated}
 use Rattle.sp_piece.proofs.Kept.{joined_behind}
 use Rattle.sp_piece.proofs.Quiet.{nothing_wanted}
 use Rattle.sp_piece.proofs.Wants.{last_same, last_set, of_wants}
@@ -13,26 +13,26 @@ use Rattle.sp_piece.proofs.going.add_wanted.Goals as goal
 pub returns-clause-ok : goal.returns-clause-ok
 returns-clause-ok c =
     let items : List Moves = c.begin.new.self.entries.items in
-    let x : Moves = c.index_mut.result.now in
-    let y : Moves = record { list = x.list; wanted = c.add_times.new.wanted } in
+    let x : Moves = c.index_mut-entry.result.now in
+    let y : Moves = record { list = x.list; wanted = c.add_wanted.new.wanted } in
     let some = c.in_ok-begin.ensures.some in
     let n : c.len-last.result ≡ length items = c.len-last.ensures ∙ c.begin.new.self.entries.ok.0 in
     let place : c.len-last.result - 1 + 1 ≡ length items = omega (arith, n, some) in
-    on_ok_weaker c.add_times.result
-    (λ added. last_set (repeated c.args.times (wanted_as_before c.args.led.now)) x y refl added items (c.len-last.result - 1) place c.index_mut.ensures.value ∙ joined_behind (map seen_moves items) (map seen_moves c.args.telling.now.entries.items) (of_wants (repeated c.args.times (wanted_as_before c.args.led.now)) ∷ []) (sym c.in_ok-begin.ensures.same))
-    c.add_times.ensures.added
+    on_ok_weaker c.add_wanted.result
+    (λ added. last_set (repeated c.args.times (wanted_as_before c.args.led.now)) x y refl added items (c.len-last.result - 1) place c.index_mut-entry.ensures.value ∙ joined_behind (map seen_moves items) (map seen_moves c.args.telling.now.entries.items) (of_wants (repeated c.args.times (wanted_as_before c.args.led.now)) ∷ []) (sym c.in_ok-begin.ensures.same))
+    c.add_wanted.ensures.added
 
 pub returns-clause-err : goal.returns-clause-err
 returns-clause-err c =
     let items : List Moves = c.begin.new.self.entries.items in
-    let x : Moves = c.index_mut.result.now in
-    let y : Moves = record { list = x.list; wanted = c.add_times.new.wanted } in
+    let x : Moves = c.index_mut-entry.result.now in
+    let y : Moves = record { list = x.list; wanted = c.add_wanted.new.wanted } in
     let some = c.in_ok-begin.ensures.some in
     let n : c.len-last.result ≡ length items = c.len-last.ensures ∙ c.begin.new.self.entries.ok.0 in
     let place : c.len-last.result - 1 + 1 ≡ length items = omega (arith, n, some) in
-    on_err_weaker c.add_times.result
-    (λ same. c.in_ok-begin.ensures.same ∙ last_same x y refl same items (c.len-last.result - 1) place c.index_mut.ensures.value)
-    c.add_times.ensures.err
+    on_err_weaker c.add_wanted.result
+    (λ same. c.in_ok-begin.ensures.same ∙ last_same x y refl same items (c.len-last.result - 1) place c.index_mut-entry.ensures.value)
+    c.add_wanted.ensures.err
 
 pub returns-then-is_empty-clause-ok : goal.returns-then-is_empty-clause-ok
 returns-then-is_empty-clause-ok c =

@@ -1,7 +1,8 @@
 use Rattle.std.proofs.Common.{◌≡◌, ◌-◌, List, ap, length, sym, subst, ◌∙◌, Some, slice_get, arith}
 use Rattle.sp_match.specs.declared.known.Known.{Known}
 use Rattle.sp_match.specs.public.Matching.{Matching, wanted_as_before}
-use Rattle.sp_piece.specs.Keeping.{PassesBy, TellsOn, current, repeated}
+use Rattle.sp_piece.specs.Keeping.{PassesBy, TellsOn, current}
+use Rattle.sp_wants.specs.Stretches.{repeated}
 use Rattle.sp_piece.proofs.Kept.{as_many}
 use Rattle.sp_piece.proofs.Quiet.{kept_quiet}
 use Rattle.sp_piece.proofs.Wants.{of_wants}

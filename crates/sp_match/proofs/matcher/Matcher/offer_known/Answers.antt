@@ -15,6 +15,8 @@ use Rattle.sp_match.specs.inside.Handling.{count_after}
 use Rattle.sp_match.specs.public.Seen.{seen}
 use Rattle.sp_match.proofs.GrownRunIsGood.{looked_for}
 use Rattle.sp_match.proofs.MatcherAfterEvent.{all_started_looked, kept_looked, ready}
+use Rattle.sp_match.specs.inside.Wanted.{AreLeft}
+use Rattle.sp_match.proofs.WantsStay.{left_after}
 use Rattle.sp_match.proofs.EventIsOffered.{back, kept_after, offered, wanted_after}
 use Rattle.sp_match.proofs.matcher.Matcher.offer_known.Goals as goal
 
@@ -53,7 +55,11 @@ invariant_of-self g c =
     let kept_so = subst (λ (n : ℕ). IsKept q n settled) (sym c.count_after-self-inside.ensures)
     (kept_after q c.deref-3.result.now x count old c.in-Ok.started (map kept c.handle_all.new.runs.items) settled (map seen c.handle_all.new.moves.list.items) c.args.self.now after c.deref-3.ensures c.self.view_is c.self.invariant.0
     c.in-Ok.ensures.handled c.end_event.ensures.runs refl (c.end_event.ensures.good c.deref-3.result.now c.in-Ok.ensures.handled.good) c.end_event.ensures.idle) in
-    (kept_so, subst (λ (p : Plan). IsHeld p (map pairs settled) c.end_event.new.holdings) c.deref-3.ensures c.end_event.ensures.held)
+    let handled = map kept c.handle_all.new.runs.items in
+    let left : AreLeft q settled c.outlive.new.self =
+    left_after c.deref-3.result.now q handled settled c.handle_all.new.lefts c.outlive.new.self c.len.result c.len-handled.result c.deref-3.ensures c.in-Ok.ensures.left c.end_event.ensures.runs c.outlive.ensures.fresh c.outlive.ensures.wants
+    (c.len.ensures ∙ c.end_event.new.runs.ok.0 ∙ sym (length-map c.end_event.new.runs.items kept)) (c.len-handled.ensures ∙ c.handle_all.new.runs.ok.0 ∙ sym (length-map c.handle_all.new.runs.items kept)) in
+    (kept_so, subst (λ (p : Plan). IsHeld p (map pairs settled) c.end_event.new.holdings) c.deref-3.ensures c.end_event.ensures.held, left)
 
 pub returns-in-Ok : goal.returns-in-Ok
 returns-in-Ok g c =
@@ -68,7 +74,7 @@ returns-in-Ok g c =
     let m = c.args.self.now in
     let later : after ≡ (record { plan = q; open_runs = map started settled; started = count_after count c.in-Ok.started }) = λ i. record { plan = q; open_runs = map started settled; started = c.count_after-self-inside.ensures i } in
     let o = offered q c.deref-3.result.now x count old c.in-Ok.started new settled ts m after c.deref-3.ensures c.self.view_is c.self.invariant.0 c.in-Ok.ensures.handled c.end_event.ensures.runs later c.requires.below in
-    record { stands = o.stands; told = o.tells; wanted = λ asked. wanted_after q c.deref-3.result.now x count old c.in-Ok.started new settled ts m after c.deref-3.ensures c.self.view_is c.self.invariant.0 c.in-Ok.ensures.handled c.end_event.ensures.runs later c.handle_all.new.moves.wanted.items (c.in-Ok.ensures.wanted asked); below = o.stays_below; plan = search rules; err = search rules; cleared = search rules }
+    record { stands = o.stands; told = o.tells; wanted = λ asked. wanted_after q c.deref-3.result.now x count old c.in-Ok.started new settled ts m after c.deref-3.ensures c.self.view_is c.self.invariant.0 c.in-Ok.ensures.handled c.end_event.ensures.runs later c.handle_all.new.moves.wanted (c.in-Ok.ensures.wanted asked); below = o.stays_below; plan = search rules; err = search rules; cleared = search rules }
 
 pub invariant_of-self-in-Err : goal.invariant_of-self-in-Err
 invariant_of-self-in-Err g c =
@@ -79,6 +85,7 @@ invariant_of-self-in-Err g c =
     (subst (λ (m : Matching). Below c.args.number (runs_of m)) (sym c.self.view_is) c.requires.below) (c.len-open.ensures ∙ c.self.inside.runs.ok.0) c.in-Err.ensures.undoes c.undo.ensures in (
       subst (IsKept q c.self.inside.count) (sym same) (kept_looked q c.self.inside.count old c.self.invariant.0),
       λ fresh. absurd (let f : false ≡ true = sym c.forget.ensures ∙ fresh in cc),
+      λ fresh. absurd (let f : false ≡ true = sym c.forget-in-Err.ensures ∙ fresh in cc),
     )
 
 pub returns-in-Err-clause-err : goal.returns-in-Err-clause-err
