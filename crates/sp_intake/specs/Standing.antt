@@ -16,6 +16,8 @@ use Rattle.sp_intake.specs.declared.reader.State.{State}
 use Rattle.sp_intake.specs.declared.reader.State.TheVariants.{Going, Stopped, Broken}
 use Rattle.sp_intake.specs.declared.reader.Step.{Step}
 use Rattle.sp_intake.specs.declared.reader.Step.TheVariants as step
+use Rattle.sp_intake.specs.declared.reader.Took.{Took}
+use Rattle.sp_intake.specs.declared.reader.Took.TheVariants as took
 use Rattle.sp_ports.specs.declared.stop.Stop.{Stop}
 use Rattle.sp_ports.specs.declared.stop.Stop.TheVariants.{End, Open}
 use Rattle.sp_ports.specs.declared.stop.Stop.TheVariants as stop
@@ -134,6 +136,24 @@ abbrev pub given_after : Result (Option Step) AllocError → Option Event → Li
 given_after (Ok None) given = []
 given_after (Ok (Some told)) given = given_by told given
 given_after (Err e) given = []
+
+-- and where a stop is put in the state
+abbrev pub given_where : Took → Option Event → List Event
+given_where took.Event given = event_in given
+given_where took.Nothing given = []
+given_where took.Ask given = []
+given_where took.Over given = []
+
+abbrev pub is_over : Took → Bool
+is_over took.Event = false
+is_over took.Nothing = false
+is_over took.Ask = false
+is_over took.Over = true
+
+abbrev pub goes_on : State → Bool
+goes_on Going = true
+goes_on (Stopped stop) = false
+goes_on Broken = false
 
 -- no row is left, and the input may go on
 pub record IsHungry (reader : Reader) : Type 0 where

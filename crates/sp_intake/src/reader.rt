@@ -47,6 +47,19 @@ pub(crate) enum Step {
     Ask,
 }
 
+/// What looking for a row comes to: a step that tells of no stop, since the state does.
+#[derive(Clone, Copy, Drop)]
+pub(crate) enum Took {
+    /// An event, which was put in.
+    Event,
+    /// The row gave no event.
+    Nothing,
+    /// No row is left, and the input may go on.
+    Ask,
+    /// The input goes on no more.
+    Over,
+}
+
 /// What becomes of an event that a row gave.
 #[derive(Clone, Copy, Drop)]
 pub(crate) enum Fate {
@@ -82,7 +95,7 @@ pub(crate) struct RowReader {
 }
 
 impl RowReader {
-    ghost use Rattle.sp_intake.specs.Standing.{Reads, Since, WasRead, going, IsHungry, stop_in, is_whole, given_in, given_after, state_after};
+    ghost use Rattle.sp_intake.specs.Standing.{Reads, Since, WasRead, going, IsHungry, stop_in, is_whole, given_in, given_after, state_after, given_where, is_over, goes_on};
     ghost use Rattle.sp_intake.specs.Pieces.{RowsTake};
     ghost use Rattle.sp_intake.specs.RowsSeen.{lateness_of, reader_of, rows_at, IsAsking};
     ghost use Rattle.sp_intake.specs.Reader.{Fails, texts_of, fate, late_failure};
@@ -150,6 +163,7 @@ impl RowReader {
     }
 
     // Takes the next row that counts, if there is one: what it comes to, or nothing where it gives no event.
+    #[inline(always)]
     fn take_row(&mut self, alloc: Global, event: &mut Option<Event>) -> Result<Option<Step>, Memory>
         requires going { self.old.state ≡ Going }
         ensures reads { (source : SourceState)
@@ -199,6 +213,34 @@ impl RowReader {
         self.latest = self.latest.with(time);
         self.given += 1;
         Ok(Some(Step::Event))
+    }
+
+    // The same, where a stop is put in the state. What it answers fits a register, and that is done at each row.
+    #[inline(never)]
+    fn next_row(&mut self, alloc: Global, event: &mut Option<Event>) -> Took
+        requires going { self.old.state ≡ Going }
+        ensures reads { (source : SourceState)
+            → Reads (going source (reader_of self.old)) [] (given_where result event.new)
+            (rows_at source self.new) }
+        ensures some { result ≡ Took.Event → IsSome event.new }
+        ensures hungry { result ≡ Took.Ask → IsHungry (reader_of self.new) }
+        ensures going { is_over result ≡ false → self.new.state ≡ Going }
+        ensures over { result ≡ Took.Over → goes_on self.new.state ≡ false }
+        ensures lateness { lateness_of self.new ≡ lateness_of self.old }
+    {
+        match self.take_row(alloc, event) {
+            Ok(Some(Step::Event)) => Took::Event,
+            Ok(None) => Took::Nothing,
+            Ok(Some(Step::Ask)) => Took::Ask,
+            Ok(Some(Step::Stop(stop))) => {
+                self.state = State::Stopped(stop);
+                Took::Over
+            }
+            Err(_) => {
+                self.state = State::Broken;
+                Took::Over
+            }
+        }
     }
 
     // What comes where no row is left.
@@ -257,18 +299,14 @@ impl RowReader {
             State::Broken => return Err(AllocError),
         }
         for _ in 0..u64::MAX {
-            match self.take_row(alloc, event) {
-                Ok(None) => {}
-                Ok(Some(Step::Event)) => return Ok(Step::Event),
-                Ok(Some(Step::Stop(stop))) => {
-                    self.state = State::Stopped(stop);
-                    return Ok(Step::Stop(stop));
-                }
-                Ok(Some(Step::Ask)) => return Ok(Step::Ask),
-                Err(_) => {
-                    self.state = State::Broken;
-                    return Err(AllocError);
-                }
+            match self.next_row(alloc, event) {
+                Took::Nothing => {}
+                Took::Event => return Ok(Step::Event),
+                Took::Ask => return Ok(Step::Ask),
+                Took::Over => match self.state {
+                    State::Stopped(why) => return Ok(Step::Stop(why)),
+                    _ => return Err(AllocError),
+                },
             }
         }
         self.state = State::Broken;
