@@ -126,7 +126,7 @@ HINTS = [
     Hint(11, r"(?i)(LIKE|MATCHES|REGEXP)\b", "=", "Texts are equal or not, and have no patterns."),
     Hint(11, r"(?i)BETWEEN\b", "=", "x >= 1 AND x <= 2 stands for it."),
     Hint(11, r"(?i)IS\b", "=", "There is no missing value: a row without one is left out before, docs/recipes.md."),
-    Hint(11, r"(?i)(MS|MILLIS\w*|SEC|SECS|SECONDS?|MIN|MINS|MINUTES?|HOURS?|DAYS?)\b", "TIME", "The unit is the one of the TIME column: WITHIN 900 TIME is a quarter of an hour where it counts seconds."),
+    Hint(11, r"(?i)(MS|MILLIS\w*|SEC|SECS|SECONDS?|MIN|MINS|MINUTES?|HOURS?|DAYS?)\b", "TIME", "The unit is the one of the TIME column: where it counts seconds, WITHIN 901 TIME holds what comes up to a quarter of an hour later."),
     Hint(11, r"[A-Za-z]\w*", "INT", "The kinds are INT, DEC with its decimals, as DEC 2, and TEXT."),
     Hint(11, r"[-.']", "INT", "There are no quoted names, and a heading such as price-usd or Solar.R can't be written: change the table's heading."),
     Hint(11, r"\*", "SET", "One or more is B+; none or more there isn't."),
