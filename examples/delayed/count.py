@@ -24,7 +24,7 @@ rules.write(
         "High": lambda row, bound: row["kind"] == "pressure" and row["pump"] == bound["Alarm"]["pump"] and Fraction(row["bar"]) > Fraction("8.5"),
         "Valve": lambda row, bound: row["kind"] == "valve" and row["pump"] == bound["Alarm"]["pump"],
     },
-    "FIRST",
+    "EACH",
     {"Alarm", "Valve"},
     windows,
     rows,
