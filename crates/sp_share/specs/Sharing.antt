@@ -1,0 +1,21 @@
+-- What is kept beside a matcher that several hold.
+use Rattle.std.specs.Prelude.{◌≡◌, [], Option, Some, None, IfSome}
+use Rattle.std.specs.Arc.{arc_value}
+use Rattle.std.specs.declared.sync.Arc.{Arc}
+use Rattle.sp_match.specs.public.Matching.{Matching}
+
+-- It is of the plan of the other one, and has read nothing.
+pub record IsFresh (fresh m : Matching) : Type 0 where
+  pub plan : fresh.plan ≡ m.plan
+  pub none : fresh.open_runs ≡ []
+  pub count : fresh.started ≡ 0
+
+-- the matcher that is held: the one that is lent, where one is
+abbrev pub held : {Z : Type 0} → Matching → Option (Arc Matching Z) → Matching
+held m None = m
+held m (Some handle) = arc_value handle
+
+-- What is kept beside a matcher has read nothing, and neither has the matcher where another one is lent.
+pub record IsHolding {Z : Type 0} (m : Matching) (fresh : Option Matching) (lent : Option (Arc Matching Z)) : Type 0 where
+  pub beside : IfSome fresh (λ f. IsFresh f m)
+  pub behind : IfSome lent (λ handle. IsFresh m (arc_value handle))

@@ -1,0 +1,13 @@
+//! Matchers that several hold. What reads on from a matcher holds a handle of it, and none copies its runs until an
+//! event changes one. Contracts see the matcher.
+#![tactic(auto)]
+
+mod held;
+mod shared;
+
+pub use held::Held;
+pub use shared::Shared;
+use std::alloc::AllocError;
+
+/// Want of memory. Any call that allocates may answer it, and says what stands after it.
+pub type Memory = AllocError;
