@@ -7,6 +7,7 @@ use crate::search::least_among;
 use sp_base::Numbers;
 use sp_match::Matcher;
 use sp_plan::{Match, Plan};
+use sp_share::Held;
 use std::alloc::Global;
 use std::sync::Arc;
 
@@ -22,7 +23,7 @@ pub struct Version {
     /// The numbers of those that it skipped, since they were suppressed for it.
     pub skipped: Numbers,
     /// The partial matches over the events that it read and did not skip.
-    pub matcher: Matcher,
+    pub matcher: Held,
     /// Its matches, in the order of their completion. A match has the number 0 until it is written.
     pub matches: Vec<Match>,
     /// The same matches once more, so that one list can be handed out and the other kept.
@@ -59,7 +60,7 @@ impl Version {
             first,
             position: 0,
             skipped: Numbers::new(alloc),
-            matcher: Matcher::new(alloc, plan)?,
+            matcher: Held::new(Matcher::new(alloc, plan)?),
             matches: Vec::new(alloc),
             copies: Vec::new(alloc),
             used: Numbers::new(alloc),
