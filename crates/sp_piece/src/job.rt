@@ -3,8 +3,9 @@ ghost use Rattle.sp_piece.specs.Lending.{IsLendable, all_known-prop};
 
 use sp_base::Numbers;
 use sp_hub::Named;
-use sp_match::{Known, Matcher};
+use sp_match::Known;
 use sp_plan::{Event, Listed};
+use sp_share::Shared;
 
 /// What is lent to be read, with all that the reading needs. Its events fit the plan of `before`, which
 /// is compiled as each matcher's is, and what is said to be known of each of them is so; the first one's
@@ -19,7 +20,7 @@ pub struct Job {
     /// The number of the first lent event.
     pub first: u32,
     /// The matcher of the version before these events.
-    pub before: Matcher,
+    pub before: Shared,
     /// The lent events, numbered from `first` on.
     pub events: Listed<Event>,
     /// What is known of each of them.

@@ -11,6 +11,7 @@ use crate::telling::Telling;
 use crate::{Job, Memory, Stepped};
 use sp_hub::Named;
 use sp_match::{Matcher, Moves};
+use sp_share::Held;
 use std::alloc::Global;
 use std::marker::Model;
 
@@ -152,7 +153,8 @@ impl Piece {
         ensures err { OnErr result (self.new ≡ self.old) }
     {
         let job = &self.job;
-        handle_closing(alloc, &mut self.matcher, &mut self.telling, &job.before)?;
+        let before = job.before.get();
+        handle_closing(alloc, &mut self.matcher, &mut self.telling, before)?;
         self.closed = true;
         Ok(Stepped::Closed)
     }
@@ -184,7 +186,7 @@ impl Piece {
     pub fn after(&self) -> &Matcher
         ensures led { LedTo self.now result.now }
     {
-        led(&self.matcher, &self.job.before)
+        led(&self.matcher, self.job.before.get())
     }
 
     /// Gives the piece up, since memory was refused: no step reads any more of it.
@@ -211,7 +213,7 @@ impl Piece {
     }
 
     /// The matcher to which the reading led, the one of the job where nothing was read. Takes no memory.
-    pub fn into_after(self) -> Matcher
+    pub fn into_after(self) -> Held
         ensures led { LedTo self result }
         ensures below { Below (self.job.first + self.read) (runs_of result) }
         ensures unread { self.read ≡ 0 → self.closed ≡ false → result ≡ self.job.before }
@@ -225,8 +227,8 @@ impl Piece {
             short: _,
         } = self;
         match matcher {
-            Some(matcher) => matcher,
-            None => job.before,
+            Some(matcher) => Held::led(matcher, job.before),
+            None => Held::of(job.before),
         }
     }
 }

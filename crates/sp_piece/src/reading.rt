@@ -50,7 +50,7 @@ pub(crate) fn read_next(
         event: &job.events.as_slice()[place],
         known: job.known.as_slice()[place],
     };
-    handle_event(alloc, matcher, telling, &job.before, &next)?;
+    handle_event(alloc, matcher, telling, job.before.get(), &next)?;
     *read += 1;
     Ok(())
 }
@@ -74,7 +74,7 @@ fn read_some(
     ensures within { read.new ≤ end }
     ensures ok { OnOk result (read.old < read.new) }
 {
-    let so_far = led(matcher, &job.before);
+    let so_far = led(matcher, job.before.get());
     let quiet = quiet_to(so_far, job.known.as_slice(), *read, end);
     if quiet == *read {
         return read_next(alloc, job, read, matcher, telling);
