@@ -22,7 +22,7 @@ returns-clause-kept c =
     let quiet = c.quiet_to-quiet.result in
     let list = c.args.telling.now.entries.items in
     let more = c.add_wanted.new.telling.entries.items in
-    let same : c.led-so_far.result.now ≡ current c.args.matcher.now job.before = c.led-so_far.ensures in
+    let same : c.led-so_far.result.now ≡ current c.args.matcher.now job.before = c.led-so_far.ensures ∙ ap (λ (m : Matching). current c.args.matcher.now m) c.get.ensures in
     let end = c.quiet_to-quiet.ensures.end in
     let within = c.requires.within in
     kept_quiet job read quiet c.args.matcher.now list more c.requires.kept c.quiet_to-quiet.ensures.from (omega (arith, end, within))

@@ -6,6 +6,7 @@ use Rattle.sp_piece.proofs.piece.Piece.into_after.Goals as goal
 pub returns-in-Some-clause-unread : goal.returns-in-Some-clause-unread
 returns-in-Some-clause-unread c = λ none not_closed.
     let p = c.self.inside in
-    ap (λ o. current o p.job.before) (sym c.in-Some.is)
+    c.led.ensures
+    ∙ ap (λ o. current o p.job.before) (sym c.in-Some.is)
     ∙ unread _ p.matcher p.telling.entries.items c.self.invariant (ap (λ s. s.read) c.self.view_is ∙ none) (ap (λ s. s.closed) c.self.view_is ∙ not_closed)
     ∙ ap (λ s. s.job.before) c.self.view_is
