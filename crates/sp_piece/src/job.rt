@@ -1,3 +1,4 @@
+ghost use Rattle.std.specs.Prelude.{◌≡◌};
 ghost use Rattle.std.proofs.Props.{props};
 ghost use Rattle.sp_piece.specs.Lending.{IsLendable, all_known-prop};
 
@@ -30,6 +31,34 @@ pub struct Job {
     /// Whether the window's closing comes behind them.
     pub closes: bool,
     pub ghost lendable: { IsLendable before events known first } by { Prim.hlevel (props, all_known-prop) },
+}
+
+impl Job {
+    // The same, without the matcher that served its own before.
+    pub(crate) fn shed(self) -> Job
+        ensures { result ≡ self }
+    {
+        let Job {
+            ticket,
+            version,
+            first,
+            before,
+            events,
+            known,
+            snapshot,
+            closes,
+        } = self;
+        Job {
+            ticket,
+            version,
+            first,
+            before: before.shed(),
+            events,
+            known,
+            snapshot,
+            closes,
+        }
+    }
 }
 
 impl Named for Job {

@@ -48,12 +48,12 @@ impl Model for Piece {
 }
 
 impl Piece {
-    /// A piece that has read nothing. Takes no memory.
+    /// A piece that has read nothing. Takes no memory. What served the job's matcher before is let go.
     pub fn start(alloc: Global, job: Job) -> Piece
         ensures { result ≡ begun job }
     {
         Piece {
-            job,
+            job: job.shed(),
             matcher: None,
             telling: Telling::new(alloc),
             read: 0,

@@ -16,6 +16,8 @@ pub struct Held {
     // one of the same plan that has read nothing
     fresh: Option<Matcher>,
     lent: Option<Arc<Matcher>>,
+    // one that served before, which the next one to whom it is lent lets go
+    worn: Option<Matcher>,
 }
 
 impl Model for Held {
@@ -63,6 +65,7 @@ impl Held {
             matcher,
             fresh: None,
             lent: None,
+            worn: None,
         }
     }
 
@@ -70,24 +73,35 @@ impl Held {
     pub fn of(shared: Shared) -> Held
         ensures { result ≡ shared }
     {
-        let Shared { handle, fresh } = shared;
+        let Shared {
+            handle,
+            fresh,
+            worn,
+        } = shared;
         Held {
             matcher: fresh,
             fresh: None,
             lent: Some(handle),
+            worn,
         }
     }
 
-    /// What a reading led to from what was lent; the empty matcher of that serves again. Takes no memory.
+    /// What a reading led to from what was lent; the empty matcher of that serves again, and its runs are let go by
+    /// whoever is lent this one next, if nobody else holds them. Takes no memory.
     pub fn led(matcher: Matcher, before: Shared) -> Held
         requires { matcher.plan ≡ before.plan }
         ensures { result ≡ matcher }
     {
-        let Shared { handle: _, fresh } = before;
+        let Shared {
+            handle,
+            fresh,
+            worn: _,
+        } = before;
         Held {
             matcher,
             fresh: Some(fresh),
             lent: None,
+            worn: Arc::into_inner(handle),
         }
     }
 
@@ -113,6 +127,15 @@ impl Held {
 
     /// Lends it: a handle of it, and no copy of its runs. After want of memory it is as before.
     pub fn lend(&mut self, alloc: Global) -> Result<Shared, Memory>
+        ensures same { self.new ≡ self.old }
+        ensures lent { IfOk result (λ shared. shared ≡ self.old) }
+    {
+        let shared = self.share(alloc)?;
+        Ok(shared.with(self.worn.take()))
+    }
+
+    // Lends it, with none that served before.
+    fn share(&mut self, alloc: Global) -> Result<Shared, Memory>
         ensures same { self.new ≡ self.old }
         ensures lent { IfOk result (λ shared. shared ≡ self.old) }
     {

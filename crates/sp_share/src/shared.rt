@@ -9,11 +9,13 @@ use std::marker::Model;
 use std::sync::Arc;
 
 /// A handle of a matcher that no longer changes, which several may hold, in different threads; and beside it a
-/// matcher of the same plan that has read nothing. Contracts see the matcher.
+/// matcher of the same plan that has read nothing, and one that served before, if there is one, which goes along to be
+/// let go where there is time for it. Contracts see the matcher.
 #[derive(Drop)]
 pub struct Shared {
     pub(crate) handle: Arc<Matcher>,
     pub(crate) fresh: Matcher,
+    pub(crate) worn: Option<Matcher>,
 }
 
 impl Model for Shared {
@@ -48,7 +50,31 @@ impl Shared {
         Ok(Shared {
             handle: Arc::try_clone(handle)?,
             fresh: fresh.copy(alloc)?,
+            worn: None,
         })
+    }
+
+    // The same, with one that served before.
+    pub(crate) fn with(self, worn: Option<Matcher>) -> Shared
+        ensures { result ≡ self }
+    {
+        let Shared {
+            handle,
+            fresh,
+            worn: _,
+        } = self;
+        Shared {
+            handle,
+            fresh,
+            worn,
+        }
+    }
+
+    /// The same, without the matcher that served before. Letting its runs go may take as long as copying them did.
+    pub fn shed(self) -> Shared
+        ensures { result ≡ self }
+    {
+        self.with(None)
     }
 
     /// The matcher.
