@@ -1,9 +1,10 @@
 -- What is told behind the last entry.
-use Rattle.std.proofs.Common.{◌≡◌, ⊎_elim, ℕ, zero, suc, ◌+◌, List, [], ◌∷◌, ◌++◌, map, length, get_or, set, sym, ap, ◌∙◌, arith}
+use Rattle.std.proofs.Common.{◌≡◌, ⊎_elim, ℕ, zero, suc, ◌+◌, Bool, true, false, refl, List, [], ◌∷◌, ◌++◌, map, length, get_or, set, sym, ap, ◌∙◌, arith}
+use Rattle.std.specs.Prelude.{IsTrue, IsFalse}
 use Rattle.std.proofs.lemmas.List.{append-nil, map-append}
 use Rattle.sp_match.specs.declared.moves.Moves.{Moves}
 use Rattle.sp_match.specs.public.Seen.{seen}
-use Rattle.sp_piece.specs.Reading.{Account, joined, seen_moves}
+use Rattle.sp_piece.specs.Reading.{Account, joined, seen_moves, with_wants}
 use Rattle.sp_piece.specs.Keeping.{IsJoined, TellsOn, TellsSame}
 use Rattle.sp_piece.proofs.Kept.{joined_behind, joined_nothing}
 
@@ -68,3 +69,9 @@ told_on list begun ready more m a same is on told wanted =
     ∙ ap (λ (l : List Moves). joined (map seen_moves l ++ seen_moves m ∷ [])) is
     ∙ joined_behind (map seen_moves begun) (map seen_moves list) (seen_moves m ∷ []) (sym same)
     ∙ ap (λ (b : Account). joined (map seen_moves list ++ b ∷ [])) tells
+
+-- moves that tell what an account does, with what the runs wanted only where that is so
+pub told_where : (so : Bool) (m : Moves) (a : Account) → (seen_moves m).told ≡ a.told → (IsTrue so → (seen_moves m).wanted ≡ a.wanted) → (IsFalse so → (seen_moves m).wanted ≡ [])
+    → seen_moves m ≡ with_wants so a
+told_where true m a told all none = λ i. record { told = told i; wanted = all refl i }
+told_where false m a told all none = λ i. record { told = told i; wanted = none refl i }

@@ -17,9 +17,9 @@ use Rattle.sp_match.specs.public.Laws.{Below}
 use Rattle.sp_match.specs.public.Matching.{IsAfter, Matching, Stands, TellsEvent, TellsWanted, runs_of, wanted_as_before}
 use Rattle.sp_match.specs.declared.moves.Moves.{Moves}
 use Rattle.sp_piece.specs.declared.job.Job.{Job}
-use Rattle.sp_piece.specs.Reading.{Loan, Account, account, joined, skips, read_on, accounts_on, event_accounts, seen_moves}
+use Rattle.sp_piece.specs.Reading.{Loan, Account, account, joined, gathered, skips, read_on, accounts_on, event_accounts, seen_moves, with_wants}
 use Rattle.sp_piece.specs.Pieced.{Pieced, loan, has_event}
-use Rattle.sp_piece.specs.Keeping.{current, HandledOn, IsKept, TellsOn}
+use Rattle.sp_piece.specs.Keeping.{current, HandledOn, IsKept, TellsOn, wanted_where}
 
 -- an event passed over changes no runs, and tells nothing
 on_skipped : (l : Loan) (s : State) (n : ℕ) → skips l n ≡ true → read_on l s (n + 1) ≡ read_on l s n
@@ -64,6 +64,23 @@ joined_behind xs ys zs same =
 pub joined_nothing : (xs : List Account) → joined (xs ++ (record { told = []; wanted = [] }) ∷ []) ≡ joined xs
 joined_nothing xs = joined_both xs _ ∙ λ i. record { told = append-nil (joined xs).told i; wanted = append-nil (joined xs).wanted i }
 
+-- what is gathered of one account more comes behind what is gathered of the others
+pub gathered_behind : (so : Bool) (ms xs : List Account) (a : Account) → joined ms ≡ with_wants so (joined xs) → joined (ms ++ with_wants so a ∷ []) ≡ with_wants so (joined (xs ++ a ∷ []))
+gathered_behind true ms xs a same = joined_behind ms xs (a ∷ []) same
+gathered_behind false ms xs a same =
+    let before : (joined ms).told ≡ (joined xs).told = ap (λ (b : Account). b.told) same in
+    let none : (joined ms).wanted ≡ [] = ap (λ (b : Account). b.wanted) same in
+    let told : (joined (ms ++ with_wants false a ∷ [])).told ≡ (joined (xs ++ a ∷ [])).told =
+    ap (λ (b : Account). b.told) (joined_both ms (with_wants false a ∷ [])) ∙ ap (λ ts. ts ++ (joined (a ∷ [])).told) before ∙ sym (ap (λ (b : Account). b.told) (joined_both xs (a ∷ []))) in
+    let wanted : (joined (ms ++ with_wants false a ∷ [])).wanted ≡ [] =
+    ap (λ (b : Account). b.wanted) (joined_both ms (with_wants false a ∷ [])) ∙ ap (λ ws. ws ++ (joined (with_wants false a ∷ [])).wanted) none in
+    λ i. record { told = told i; wanted = wanted i }
+
+-- of an event that changes nothing it is what the open runs want
+gathered_quiet : (so : Bool) (m : Matching) (a : Account) → [] ≡ a.told → wanted_as_before m ≡ a.wanted → with_wants so a ≡ (record { told = []; wanted = wanted_where so m })
+gathered_quiet true m a told wanted = λ i. record { told = sym told i; wanted = sym wanted i }
+gathered_quiet false m a told wanted = λ i. record { told = sym told i; wanted = [] }
+
 abbrev is_below : ℕ → Pair → Type 0
 is_below n pair = pair.number < n
 
@@ -90,7 +107,7 @@ kept_skipped job read false short now list kept within skip = record {
     plan = kept.led.plan;
     stands = λ s stands. subst (Stands (current now job.before)) (sym (on_skipped (loan job) s read skip)) (kept.led.stands s stands);
   };
-  tells = λ s stands. kept.tells s stands ∙ ap joined (sym (told_skipped (loan job) s read skip));
+  tells = λ s stands. kept.tells s stands ∙ ap (λ (accounts : List Account). gathered job.before.plan (joined accounts)) (sym (told_skipped (loan job) s read skip));
   below =
       let same : job.first + read + 1 ≡ job.first + (read + 1) = omega arith in
       subst (λ n. Below n (runs_of (current now job.before))) same (below_next _ _ kept.below);
@@ -100,7 +117,7 @@ kept_skipped job read false short now list kept within skip = record {
 -- it is handled
 pub kept_handled : (job : Job) (read : ℕ) (closed short : Bool) (now later : Option Matching) (list more : List Moves) (e : Event)
     → IsKept (at job read closed short) now list → read < length job.events → skips (loan job) read ≡ false → slice_get job.events read ≡ Some e
-    → HandledOn (job.first + read, e) (current now job.before) (current later job.before) list more → IsKept (at job (read + 1) closed short) later more
+    → HandledOn job.wants (job.first + read, e) (current now job.before) (current later job.before) list more → IsKept (at job (read + 1) closed short) later more
 kept_handled job read true short now later list more e kept within seen there handled = absurd (omega (arith, (kept.last refl).0))
 kept_handled job read false short now later list more e kept within seen there handled =
     let l = loan job in
@@ -116,9 +133,11 @@ kept_handled job read false short now later list more e kept within seen there h
       };
       tells = λ s stands.
           handled.told (read_on l s read) (kept.led.stands s stands)
-          ∙ joined_behind (map seen_moves list) (accounts_on l s read) (account (current now job.before).plan (read_on l s read) (job.first + read, e) ∷ []) (kept.tells s stands)
-          ∙ ap (λ q. joined (accounts_on l s read ++ account q (read_on l s read) (job.first + read, e) ∷ [])) plan
-          ∙ ap joined (sym (told_handled l s read e seen there));
+          ∙ gathered_behind job.wants (map seen_moves list) (accounts_on l s read) (account (current now job.before).plan (read_on l s read) (job.first + read, e))
+          (kept.tells s stands ∙ ap (λ (so : Bool). with_wants so (joined (accounts_on l s read))) (sym job.wanting))
+          ∙ ap (λ (q : Plan). with_wants job.wants (joined (accounts_on l s read ++ account q (read_on l s read) (job.first + read, e) ∷ []))) plan
+          ∙ ap (λ (accounts : List Account). with_wants job.wants (joined accounts)) (sym (told_handled l s read e seen there))
+          ∙ ap (λ (so : Bool). with_wants so (joined (accounts_on l s (read + 1)))) job.wanting;
       below =
           let same : job.first + read + 1 ≡ job.first + (read + 1) = omega arith in
           subst (λ n. Below n (runs_of (current later job.before))) same handled.below;
@@ -126,12 +145,12 @@ kept_handled job read false short now later list more e kept within seen there h
     }
 
 -- it changes nothing: what the open runs want is told
-pub passed_by : (x : Numbered) (m : Matching) (list more : List Moves) → IsAfter x m m → TellsEvent x m [] → TellsWanted x m (wanted_as_before m)
-    → TellsOn (record { told = []; wanted = wanted_as_before m }) list more → Below x.0 (runs_of m) → HandledOn x m m list more
-passed_by x m list more after told wanted on below = record {
+pub passed_by : (so : Bool) (x : Numbered) (m : Matching) (list more : List Moves) → IsAfter x m m → TellsEvent x m [] → TellsWanted x m (wanted_as_before m)
+    → TellsOn (record { told = []; wanted = wanted_where so m }) list more → Below x.0 (runs_of m) → HandledOn so x m m list more
+passed_by so x m list more after told wanted on below = record {
   plan = refl;
   stands = after;
-  told = λ s stands. on ∙ ap (λ (a : Account). joined (map seen_moves list ++ a ∷ [])) (λ i. record { told = told s stands i; wanted = wanted s stands i });
+  told = λ s stands. on ∙ ap (λ (a : Account). joined (map seen_moves list ++ a ∷ [])) (sym (gathered_quiet so m (account m.plan s x) (told s stands) (wanted s stands)));
   below = below_next x.0 (runs_of m) below;
 }
 

@@ -7,3 +7,4 @@ pub mod Joining
 pub mod Quiet
 pub mod Stepping
 pub mod Passing
+pub mod Consuming

@@ -1,5 +1,5 @@
 -- What a piece keeps between two steps.
-use Rattle.std.specs.Prelude.{◌≡◌, ◌⊎◌, ℕ, ◌+◌, ◌<◌, ◌≤◌, true, false, List, [], ◌∷◌, ◌++◌, Option, Some, None, length, map}
+use Rattle.std.specs.Prelude.{◌≡◌, ◌⊎◌, ℕ, ◌+◌, ◌<◌, ◌≤◌, Bool, true, false, List, [], ◌∷◌, ◌++◌, Option, Some, None, length, map, if◌then◌else◌}
 use Rattle.sp_plan.specs.Windows.{Numbered}
 use Rattle.sp_plan.specs.Runs.{State, handle}
 use Rattle.sp_match.specs.declared.known.Known.{Known}
@@ -8,7 +8,7 @@ use Rattle.sp_match.specs.public.Laws.{Below}
 use Rattle.sp_match.specs.public.Matching.{IsAfter, Matching, Stands, TellsEvent, TellsWanted, runs_of, wanted_as_before}
 use Rattle.sp_match.specs.declared.moves.Moves.{Moves}
 use Rattle.sp_piece.specs.declared.job.Job.{Job}
-use Rattle.sp_piece.specs.Reading.{Account, account, closing_account, joined, seen_moves, skips}
+use Rattle.sp_piece.specs.Reading.{Account, account, closing_account, joined, seen_moves, skips, with_wants}
 use Rattle.sp_piece.specs.Pieced.{Pieced, LedTo, Tells, loan}
 
 -- the matcher that has read: the one of the job until there is another
@@ -36,11 +36,16 @@ TellsOn a list more = joined (map seen_moves more) ≡ joined (map seen_moves li
 abbrev pub IsJoined : {A : Type 0} → List A → List A → List A → List A → Type 0
 IsJoined list more joint left = ((joint ≡ list ++ more) × (left ≡ [])) ⊎ ((joint ≡ list) × (left ≡ more))
 
--- What the handling of an event made of a matcher and a list of moves: what is told of it came behind the others.
-pub record HandledOn (x : Numbered) (m n : Matching) (list more : List Moves) : Type 0 where
+-- what is told that the open runs want where an event changes nothing
+abbrev pub wanted_where : Bool → Matching → List (ℕ × ℕ)
+wanted_where so m = if so then wanted_as_before m else []
+
+-- What the handling of an event made of a matcher and a list of moves: what is told of it came behind the others, with what the runs wanted
+-- only where that is so.
+pub record HandledOn (so : Bool) (x : Numbered) (m n : Matching) (list more : List Moves) : Type 0 where
   pub plan : n.plan ≡ m.plan
   pub stands : (s : State) → Stands m s → Stands n (handle m.plan s x)
-  pub told : (s : State) → Stands m s → TellsOn (account m.plan s x) list more
+  pub told : (s : State) → Stands m s → TellsOn (with_wants so (account m.plan s x)) list more
   pub below : Below (x.0 + 1) (runs_of n)
 
 -- What the closing made of them.

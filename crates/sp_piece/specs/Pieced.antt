@@ -6,7 +6,7 @@ use Rattle.sp_match.specs.declared.moves.Moves.{Moves}
 use Rattle.sp_piece.specs.declared.job.Job.{Job}
 use Rattle.sp_piece.specs.declared.stepped.Stepped.{Stepped}
 use Rattle.sp_piece.specs.declared.stepped.Stepped.TheVariants as s
-use Rattle.sp_piece.specs.Reading.{Loan, skips, read_to, accounts_to, joined, seen_moves}
+use Rattle.sp_piece.specs.Reading.{Loan, skips, read_to, accounts_to, gathered, joined, seen_moves}
 
 -- its job, how many of the lent events it has read, whether it has read the closing, and whether memory was refused
 pub record Pieced : Type 0 where
@@ -68,7 +68,7 @@ pub record LedTo (p : Pieced) (m : Matching) : Type 0 where
   pub plan : m.plan ≡ p.job.before.plan
   pub stands : (s : State) → Stands p.job.before s → Stands m (read_to (loan p.job) s p.read p.closed)
 
--- The moves, one after another, are what is told, from any runs for which the matcher of the job stands: of each event that was read and
+-- The moves, one after another, are what is gathered of what is told, from any runs for which the matcher of the job stands: of each event that was read and
 -- not passed over, in their order, and of the closing. One entry may tell of several of these.
 abbrev pub Tells : Pieced → List Moves → Type 0
-Tells p list = (s : State) → Stands p.job.before s → joined (map seen_moves list) ≡ joined (accounts_to (loan p.job) s p.read p.closed)
+Tells p list = (s : State) → Stands p.job.before s → joined (map seen_moves list) ≡ gathered p.job.before.plan (joined (accounts_to (loan p.job) s p.read p.closed))

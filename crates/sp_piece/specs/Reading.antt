@@ -1,6 +1,6 @@
 -- Where the reading of lent events leads, and what is told of it.
 use Rattle.std.specs.Prelude.{ℕ, zero, suc, ◌+◌, Bool, List, [], ◌∷◌, ◌++◌, Option, Some, None, map, slice_get, if◌then◌else◌}
-use Rattle.std.specs.List.{flat_map}
+use Rattle.std.specs.List.{flat_map, list_any}
 use Rattle.sp_base.specs.Numbers.{is_among}
 use Rattle.sp_plan.specs.declared.event.Event.{Event}
 use Rattle.sp_plan.specs.declared.plan.Plan.{Plan}
@@ -70,6 +70,19 @@ accounts_to l s n closed =
 -- what several accounts tell, one after another
 abbrev pub joined : List Account → Account
 joined accounts = record { told = flat_map (λ a. a.told) accounts; wanted = flat_map (λ a. a.wanted) accounts }
+
+-- whether a match can consume an event
+abbrev pub consumes : Plan → Bool
+consumes q = list_any (λ name. name.consumed) q.names
+
+-- an account, with what the runs wanted only where that is so
+abbrev pub with_wants : Bool → Account → Account
+with_wants so a = if so then a else record a { wanted = [] }
+
+-- what is gathered of an account: the moves, and what the runs wanted only where a match can consume an event, since no run has a group
+-- where none can
+abbrev pub gathered : Plan → Account → Account
+gathered q a = with_wants (consumes q) a
 
 -- moves as an account
 abbrev pub seen_moves : Moves → Account

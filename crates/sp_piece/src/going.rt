@@ -1,15 +1,16 @@
 // How a matcher and what is told of it go on.
-ghost use Rattle.std.specs.Prelude.{◌≡◌, [], ◌++◌, true, Some, OnOk, OnErr, map};
+ghost use Rattle.std.specs.Prelude.{◌≡◌, ◌+◌, [], ◌++◌, true, Some, OnOk, OnErr, IsTrue, IsFalse, map};
 ghost use Rattle.sp_plan.specs.Events.{fits};
 ghost use Rattle.sp_match.specs.public.Known.{IsKnown};
 ghost use Rattle.sp_match.specs.public.Laws.{Below};
-ghost use Rattle.sp_match.specs.public.Matching.{runs_of, wanted_as_before};
-ghost use Rattle.sp_piece.specs.Keeping.{ClosedOff, HandledOn, TellsOn, TellsSame, current};
+ghost use Rattle.sp_match.specs.public.Matching.{IsAfter, TellsEvent, TellsWanted, runs_of};
+ghost use Rattle.sp_match.specs.public.Seen.{all_seen};
+ghost use Rattle.sp_piece.specs.Keeping.{ClosedOff, HandledOn, TellsOn, TellsSame, current, wanted_where};
 ghost use Rattle.sp_wants.specs.Stretches.{repeated};
 
 use crate::Memory;
 use crate::telling::Telling;
-use sp_match::{Known, Matcher};
+use sp_match::{Known, Matcher, Moves};
 use sp_plan::Event;
 use std::alloc::Global;
 
@@ -20,6 +21,8 @@ pub(crate) struct Next<'a> {
     pub(crate) event: &'a Event,
     /// What is known of it.
     pub(crate) known: Known,
+    /// Whether what the open runs want is told.
+    pub(crate) wants: bool,
 }
 
 /// The matcher that goes on: the one before until there is another.
@@ -43,19 +46,23 @@ fn begin(alloc: Global, matcher: &mut Option<Matcher>, before: &Matcher) -> Resu
     Ok(())
 }
 
-/// What the open runs want where so many events change nothing comes behind what the last entry tells. After
-/// want of memory no more is told than before.
+/// What the open runs want where so many events change nothing comes behind what the last entry tells, where that is
+/// told. After want of memory no more is told than before.
 pub(crate) fn add_wanted(
     alloc: Global,
     led: &Matcher,
+    wants: bool,
     times: u32,
     telling: &mut Telling,
 ) -> Result<(), Memory>
     ensures ok { OnOk result
-        (TellsOn (record { told = []; wanted = repeated times (wanted_as_before led.now) })
+        (TellsOn (record { told = []; wanted = repeated times (wanted_where wants led.now) })
         telling.old.entries.items telling.new.entries.items) }
     ensures err { OnErr result (TellsSame telling.old.entries.items telling.new.entries.items) }
 {
+    if !wants {
+        return Ok(());
+    }
     if led.open_runs().is_empty() {
         return Ok(());
     }
@@ -63,6 +70,30 @@ pub(crate) fn add_wanted(
     let last = telling.entries.len() - 1;
     let entry = &mut telling.entries[last];
     led.add_wanted(times, &mut telling.room.wanted, &mut entry.wanted)
+}
+
+// The matcher handles the event, and the room holds what is told of it. After want of memory the matcher is as before.
+fn offer(alloc: Global, led: &mut Matcher, room: &mut Moves, next: &Next) -> Result<(), Memory>
+    requires fits { fits led.old.plan next.now.event.now ≡ true }
+    requires known { IsKnown led.old.plan next.now.event.now next.now.known }
+    requires below { Below next.now.number (runs_of led.old) }
+    ensures stands { OnOk result (IsAfter (next.now.number, next.now.event.now) led.old led.new) }
+    ensures told { OnOk result (TellsEvent (next.now.number, next.now.event.now) led.old
+        (all_seen room.new.list.items)) }
+    ensures wanted { IsTrue next.now.wants → OnOk result
+        (TellsWanted (next.now.number, next.now.event.now) led.old room.new.wanted) }
+    ensures none { IsFalse next.now.wants → OnOk result (room.new.wanted ≡ []) }
+    ensures below { OnOk result (Below (next.now.number + 1) (runs_of led.new)) }
+    ensures plan { led.new.plan ≡ led.old.plan }
+    ensures err { OnErr result (led.new ≡ led.old) }
+{
+    let number = next.number;
+    if next.wants {
+        return led.offer_known::<true>(alloc, number, next.event, next.known, room);
+    }
+    led.offer_known::<false>(alloc, number, next.event, next.known, room)?;
+    room.wanted.clear();
+    Ok(())
 }
 
 // The matcher handles the event, and what is told of it comes behind the other moves. After want of memory
@@ -78,7 +109,7 @@ fn offer_event(
     requires known { IsKnown (current matcher.old before.now).plan
         next.now.event.now next.now.known }
     requires below { Below next.now.number (runs_of (current matcher.old before.now)) }
-    ensures ok { OnOk result (HandledOn (next.now.number, next.now.event.now)
+    ensures ok { OnOk result (HandledOn next.now.wants (next.now.number, next.now.event.now)
         (current matcher.old before.now) (current matcher.new before.now)
         telling.old.entries.items telling.new.entries.items) }
     ensures err { OnErr result (current matcher.new before.now ≡ current matcher.old before.now) }
@@ -89,8 +120,7 @@ fn offer_event(
     telling.entries.reserve(1)?;
     begin(alloc, matcher, before)?;
     let Some(led) = matcher else { unreachable!() };
-    let (number, room) = (next.number, &mut telling.room);
-    led.offer_known::<true>(alloc, number, next.event, next.known, room)?;
+    offer(alloc, led, &mut telling.room, next)?;
     telling.take_in(alloc);
     Ok(())
 }
@@ -109,7 +139,7 @@ pub(crate) fn handle_event(
     requires known { IsKnown (current matcher.old before.now).plan
         next.now.event.now next.now.known }
     requires below { Below next.now.number (runs_of (current matcher.old before.now)) }
-    ensures ok { OnOk result (HandledOn (next.now.number, next.now.event.now)
+    ensures ok { OnOk result (HandledOn next.now.wants (next.now.number, next.now.event.now)
         (current matcher.old before.now) (current matcher.new before.now)
         telling.old.entries.items telling.new.entries.items) }
     ensures err { OnErr result (current matcher.new before.now ≡ current matcher.old before.now) }
@@ -118,7 +148,7 @@ pub(crate) fn handle_event(
 {
     let so_far = led(matcher, before);
     if so_far.ignores(next.known) {
-        return add_wanted(alloc, so_far, 1, telling);
+        return add_wanted(alloc, so_far, next.wants, 1, telling);
     }
     offer_event(alloc, matcher, telling, before, next)
 }

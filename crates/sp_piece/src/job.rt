@@ -1,12 +1,20 @@
 ghost use Rattle.std.specs.Prelude.{◌≡◌};
 ghost use Rattle.std.proofs.Props.{props};
 ghost use Rattle.sp_piece.specs.Lending.{IsLendable, all_known-prop};
+ghost use Rattle.sp_piece.specs.Reading as reading;
 
 use sp_base::Numbers;
 use sp_hub::Named;
 use sp_match::Known;
-use sp_plan::{Event, Listed};
+use sp_plan::{Event, Listed, Plan};
 use sp_share::Shared;
+
+/// Whether a match can consume an event: where none can, no run has a group.
+pub fn consumes(plan: &Plan) -> bool
+    ensures { result ≡ reading.consumes plan.now }
+{
+    plan.names.as_slice().iter().any(|name| name.consumed)
+}
 
 /// What is lent to be read, with all that the reading needs. Its events fit the plan of `before`, which
 /// is compiled as each matcher's is, and what is said to be known of each of them is so; the first one's
@@ -30,7 +38,10 @@ pub struct Job {
     pub snapshot: Numbers,
     /// Whether the window's closing comes behind them.
     pub closes: bool,
+    /// Whether what the open runs want is to be told: where a match can consume an event.
+    pub wants: bool,
     pub ghost lendable: { IsLendable before events known first } by { Prim.hlevel (props, all_known-prop) },
+    pub ghost wanting: { wants ≡ reading.consumes before.plan } by { Prim.hlevel props },
 }
 
 impl Job {

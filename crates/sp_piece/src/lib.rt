@@ -11,7 +11,7 @@ mod reading;
 mod stepped;
 mod telling;
 
-pub use job::Job;
+pub use job::{Job, consumes};
 pub use law::{readings_tell_matches, same_plans_read_alike};
 pub use piece::Piece;
 use std::alloc::AllocError;

@@ -175,7 +175,8 @@ impl Piece {
     }
 
     /// What it did, in the order of the events that were read and not passed over, and of the closing behind
-    /// them. One entry may tell of several events: of those that changed nothing there is none of their own.
+    /// them. One entry may tell of several events: of those that changed nothing there is none of their own. What the
+    /// runs wanted is told only where a match can consume an event.
     pub fn moves(&self) -> &[Moves]
         ensures { Tells self.now result.now }
     {

@@ -49,6 +49,7 @@ pub(crate) fn read_next(
         number: job.first + *read,
         event: &job.events.as_slice()[place],
         known: job.known.as_slice()[place],
+        wants: job.wants,
     };
     handle_event(alloc, matcher, telling, job.before.get(), &next)?;
     *read += 1;
@@ -79,7 +80,7 @@ fn read_some(
     if quiet == *read {
         return read_next(alloc, job, read, matcher, telling);
     }
-    add_wanted(alloc, so_far, quiet - *read, telling)?;
+    add_wanted(alloc, so_far, job.wants, quiet - *read, telling)?;
     *read = quiet;
     Ok(())
 }

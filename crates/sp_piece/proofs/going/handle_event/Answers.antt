@@ -18,6 +18,6 @@ returns-then-ignores-clause-ok c =
     let known : IsKnown so_far.plan x.1 c.args.next.now.known = subst (λ (m : Matching). IsKnown m.plan x.1 c.args.next.now.known) (sym same) c.requires.known in
     let below : Below x.0 (runs_of so_far) = subst (λ (m : Matching). Below x.0 (runs_of m)) (sym same) c.requires.below in
     on_ok_weaker c.add_wanted.result
-    (λ on. subst (λ (m : Matching). HandledOn x m m list more) same
-    (passed_by x so_far list more (c.ignores.ensures.stands c.if-ignores.true x known) (c.ignores.ensures.told c.if-ignores.true x known) (c.ignores.ensures.wanted c.if-ignores.true x known) on below))
+    (λ on. subst (λ (m : Matching). HandledOn c.args.next.now.wants x m m list more) same
+    (passed_by c.args.next.now.wants x so_far list more (c.ignores.ensures.stands c.if-ignores.true x known) (c.ignores.ensures.told c.if-ignores.true x known) (c.ignores.ensures.wanted c.if-ignores.true x known) on below))
     c.add_wanted.ensures.ok

@@ -41,7 +41,7 @@ returns-clause-kept c =
     let x : Numbered = (job.first + place, c.index-as_slice-place.result) in
     let list = c.args.telling.now.entries.items in
     let more = c.handle_event.new.telling.entries.items in
-    let handled : HandledOn x (current c.args.matcher.now job.before) (current c.handle_event.new.matcher job.before) list more =
-    subst (λ (m : Matching). HandledOn x (current c.args.matcher.now m) (current c.handle_event.new.matcher m) list more) c.get.ensures c.in_ok-handle_event.ensures.ok in
+    let handled : HandledOn job.wants x (current c.args.matcher.now job.before) (current c.handle_event.new.matcher job.before) list more =
+    subst (λ (m : Matching). HandledOn job.wants x (current c.args.matcher.now m) (current c.handle_event.new.matcher m) list more) c.get.ensures c.in_ok-handle_event.ensures.ok in
     kept_handled job place _ _ c.args.matcher.now c.handle_event.new.matcher list more _
     c.requires.kept c.requires.next c.requires.shown there handled

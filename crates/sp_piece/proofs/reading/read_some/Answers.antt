@@ -1,7 +1,7 @@
 use Rattle.std.proofs.Common.{◌≡◌, ◌-◌, List, ap, length, sym, subst, ◌∙◌, Some, slice_get, arith}
 use Rattle.sp_match.specs.declared.known.Known.{Known}
-use Rattle.sp_match.specs.public.Matching.{Matching, wanted_as_before}
-use Rattle.sp_piece.specs.Keeping.{PassesBy, TellsOn, current}
+use Rattle.sp_match.specs.public.Matching.{Matching}
+use Rattle.sp_piece.specs.Keeping.{PassesBy, TellsOn, current, wanted_where}
 use Rattle.sp_wants.specs.Stretches.{repeated}
 use Rattle.sp_piece.proofs.Kept.{as_many}
 use Rattle.sp_piece.proofs.Quiet.{kept_quiet}
@@ -29,4 +29,4 @@ returns-clause-kept c =
     (λ i low high. c.requires.shown i low (omega (arith, end, high)))
     (λ i k low high at. subst (λ (m : Matching). PassesBy m k) same
     (c.quiet_to-quiet.ensures.quiet i k low high (subst (λ (ks : List Known). slice_get ks i ≡ Some k) (sym c.as_slice.ensures) at)))
-    (subst (λ (m : Matching). TellsOn (of_wants (repeated (quiet - read) (wanted_as_before m))) list more) same c.in_ok-add_wanted.ensures.ok)
+    (subst (λ (m : Matching). TellsOn (of_wants (repeated (quiet - read) (wanted_where job.wants m))) list more) same c.in_ok-add_wanted.ensures.ok)
