@@ -14,7 +14,7 @@ use Rattle.sp_match.specs.public.Laws.{completion}
 use Rattle.sp_match.specs.public.Matching.{Matching, Stands}
 use Rattle.sp_piece.specs.Alike.{ReadAlike, all_told, by_plan}
 use Rattle.sp_piece.specs.Pieced.{Pieced, LedTo, Tells, loan}
-use Rattle.sp_piece.specs.Reading.{Account, Loan, accounts_to, read_on, read_to}
+use Rattle.sp_piece.specs.Reading.{Account, Loan, accounts_to, joined, read_on, read_to}
 use Rattle.sp_version.specs.declared.version.Version.{Version}
 use Rattle.sp_group.specs.Family.{entry_at}
 use Rattle.sp_group.specs.Machine as machine
@@ -33,6 +33,7 @@ use Rattle.sp_core.specs.Holding.{Holding, Holds, IsCore, machine_of, running, v
 use Rattle.sp_core.specs.Homecoming.{completions, is_grouped, spent_run}
 use Rattle.sp_core.specs.Returning.{IsCarried}
 use Rattle.sp_core.specs.Settling.{CanBring, CanSettle, HomeLaws, IsFrom, IsWithin}
+use Rattle.sp_piece.proofs.Consuming.{gathered_moves}
 use Rattle.sp_core.proofs.Entries.{found_of_all, local, version_is}
 use Rattle.sp_core.proofs.FirstDecided.{all_among}
 use Rattle.sp_core.proofs.Journal.{reached}
@@ -195,7 +196,8 @@ module _ (laws : HomeLaws) (h : Holding) (p : Pieced) (a : Coming h p) where
   pub completed_now : (moves : List Moves) → Tells p moves → completions moves ≡ map (completion h.plan) adds.later
   completed_now moves tells =
       completions_are h.plan before now adds.later moves (accounts_to lending before p.read p.closed)
-      (ap (λ (x : Account). x.told) (tells before a.carries.stands) ∙ ap (λ (l : Loan). all_told (accounts_to l before p.read p.closed)) loan_is
+      (ap (λ (x : Account). x.told) (tells before a.carries.stands) ∙ gathered_moves p.job.before.plan (joined (accounts_to (loan p.job) before p.read p.closed))
+      ∙ ap (λ (l : Loan). all_told (accounts_to l before p.read p.closed)) loan_is
       ∙ ap all_told (alike.told lending before p.read p.closed))
       adds.matched
       (ap (λ (s : State). map (completion h.plan) s.matched) (sym led_home) ∙ laws.tell lending before p.read p.closed has_before.sound)
