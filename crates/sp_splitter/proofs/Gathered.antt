@@ -103,7 +103,7 @@ brings_all_then a b c first second third seat ticket all one is =
 
 -- ---- what is learned of pieces
 
--- the moves of a piece tell what its reading tells
+-- the moves of a piece tell what is gathered of its reading
 pub told_of : (p : Pieced) (moves : List Moves) → Tells p moves → AreTold p (wanted_of moves)
 told_of p moves tells = record {
   some = (runs_of p.job.before, record { open_is = refl; started_is = refl });

@@ -8,7 +8,7 @@ use Rattle.sp_match.specs.public.Matching.{Stands}
 use Rattle.sp_hub.specs.State.{Posting}
 use Rattle.sp_group.specs.Machine.{Version, version_at}
 use Rattle.sp_piece.specs.Pieced.{Pieced, loan}
-use Rattle.sp_piece.specs.Reading.{accounts_to, joined}
+use Rattle.sp_piece.specs.Reading.{accounts_to, gathered, joined}
 use Rattle.sp_core.specs.declared.given.Given.{Given}
 use Rattle.sp_core.specs.Returning.{IsGiven}
 use Rattle.sp_core.specs.Running.{Running}
@@ -17,13 +17,13 @@ use Rattle.sp_core.specs.Running.{Running}
 abbrev pub wanted_of : List Moves → List (ℕ × ℕ)
 wanted_of moves = flat_map (λ entry. entry.wanted) moves
 
--- These pairs are what the reading of a piece tells of the events that runs wanted, from any runs for which its job's matcher stands; and
--- there are runs for which it stands.
+-- These pairs are what is gathered of what the reading of a piece tells of the events that runs wanted, from any runs for which its job's
+-- matcher stands: none where no match can consume an event; and there are runs for which it stands.
 pub record AreTold (p : Pieced) (pairs : List (ℕ × ℕ)) : Type 0 where
   pub some : (s : State) × Stands p.job.before s
-  pub told : (s : State) → Stands p.job.before s → pairs ≡ (joined (accounts_to (loan p.job) s p.read p.closed)).wanted
+  pub told : (s : State) → Stands p.job.before s → pairs ≡ (gathered p.job.before.plan (joined (accounts_to (loan p.job) s p.read p.closed))).wanted
 
--- What is learned of a piece is what its reading tells, where its version is live, and else nothing.
+-- What is learned of a piece is what is gathered of its reading, where its version is live, and else nothing.
 abbrev pub IsLesson : Option Version → Pieced → List (ℕ × ℕ) → Type 0
 IsLesson None p pairs = pairs ≡ []
 IsLesson (Some v) p pairs = AreTold p pairs
