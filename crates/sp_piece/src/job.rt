@@ -58,6 +58,7 @@ impl Job {
             known,
             snapshot,
             closes,
+            wants,
         } = self;
         Job {
             ticket,
@@ -68,6 +69,7 @@ impl Job {
             known,
             snapshot,
             closes,
+            wants,
         }
     }
 }
