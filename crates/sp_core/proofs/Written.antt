@@ -4,7 +4,7 @@ use Rattle.std.specs.List.{All}
 use Rattle.std.proofs.lemmas.Bool.Decides.{nat_tests}
 use Rattle.std.proofs.lemmas.List.Elements.{All-nil, All-cons, All-head, All-tail}
 use Rattle.sp_group.specs.Family.{entry_at, parent_there}
-use Rattle.sp_tree.specs.Grown.{Grown, Entry, kin, written, with_value, AreGrown, AreRooted, FallFrom}
+use Rattle.sp_tree.specs.Grown.{Grown, Entry, kin, value_of, written, with_value, AreGrown, AreRooted, FallFrom}
 
 module _ {V : Type 0} where
   -- what the new value does not change
@@ -17,6 +17,19 @@ module _ {V : Type 0} where
           → cond b (Some x) (entry_at kin es id) ≡ Some e → map f (cond b (record x { value = w } ∷ es) (x ∷ written es id w)) ≡ map f (x ∷ es)
       one rest true is = let x_is : e ≡ x = cc in subst (λ (y : Entry V). f (record y { value = w }) ∷ map f es ≡ f y ∷ map f es) x_is (ap (λ y. y ∷ map f es) same)
       one rest false is = ap (λ ys. f x ∷ ys) (rest is same)
+
+  -- the value that is there, written once more, changes nothing
+  written_same : (es : List (Entry V)) (id : ℕ) (w : V) → Some w ≡ value_of (entry_at kin es id) → written es id w ≡ es
+  written_same [] id w at = refl
+  written_same (x ∷ es) id w at = one (written_same es id w) (x.version.id == id) at
+    where
+      one : (Some w ≡ value_of (entry_at kin es id) → written es id w ≡ es) → (b : Bool) → Some w ≡ value_of (cond b (Some x) (entry_at kin es id))
+          → cond b (record x { value = w } ∷ es) (x ∷ written es id w) ≡ x ∷ es
+      one rest true is = let same : w ≡ x.value = cc in ap (λ (v : V). record x { value = v } ∷ es) same
+      one rest false is = ap (λ (ys : List (Entry V)). x ∷ ys) (rest is)
+
+  pub same_written : (t : Grown V) (id : ℕ) (w : V) → Some w ≡ value_of (entry_at kin t.entries id) → with_value t id w ≡ t
+  same_written t id w at = ap (λ (es : List (Entry V)). record t { entries = es }) (written_same t.entries id w at)
 
   pub length_written : (es : List (Entry V)) (id : ℕ) (w : V) → length (written es id w) ≡ length es
   length_written [] id w = refl

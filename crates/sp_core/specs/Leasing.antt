@@ -1,7 +1,8 @@
 -- What a lease answers, and what it asks of windows.
-use Rattle.std.specs.Prelude.{◌≡◌, ◌≤◌, ℕ, Bool, Option, Some, None, nat_le}
+use Rattle.std.specs.Prelude.{◌≡◌, ◌≤◌, ℕ, Bool, Option, Some, None, IfSome, nat_le}
 use Rattle.sp_plan.specs.Windows.{closed}
 use Rattle.sp_plan.specs.WindowNumbers.{count}
+use Rattle.sp_match.specs.public.Matching.{Matching}
 use Rattle.sp_piece.specs.declared.job.Job.{Job}
 use Rattle.sp_version.specs.declared.version.Version as held
 use Rattle.sp_group.specs.Family.{entry_at}
@@ -20,6 +21,10 @@ IsLent c id count lent = (v : Version) × (version_at c.machine.versions id ≡ 
 abbrev pub IsLeased : Running → ℕ → ℕ → Job → Type 0
 IsLeased c id count job =
     (v : Version) × (version_at c.machine.versions id ≡ Some v) × Carries c.plan c.machine (effects.lent c.plan c.machine count v) v job
+
+-- the matcher of a version, where it is live
+abbrev pub IsMatcherOf : Grown held.Version → ℕ → Matching → Type 0
+IsMatcherOf t id m = IfSome (entry_at kin t.entries id) (λ e. m ≡ e.value.matcher)
 
 -- an event has opened the window of that number
 abbrev pub HasBegun : Running → ℕ → Type 0

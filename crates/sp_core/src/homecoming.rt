@@ -273,7 +273,7 @@ fn has_open(tree: &Tree<Version>, owner: u64, run: u32) -> bool
         (λ e. result ≡ is_grouped e.value.matcher run) }
 {
     match tree.get(owner) {
-        Some(held) => is_grouped(&held.matcher, run),
+        Some(held) => is_grouped(held.matcher.get(), run),
         None => false,
     }
 }

@@ -1,10 +1,12 @@
 // A lease: the next unread events of a version go out under a ticket.
-ghost use Rattle.std.specs.Prelude.{◌≡◌, ◌≤◌, ℕ, length, None, Some, IfOk, IfErr, OnOk, OnErr};
+ghost use Rattle.std.specs.Prelude.{◌≡◌, ◌≤◌, ℕ, length, None, Some, IfOk, IfErr, IsSome, OnOk, OnErr};
 ghost use Rattle.sp_base.specs.Limits.{batch_limit};
 ghost use Rattle.sp_plan.specs.WindowNumbers.{size};
 ghost use Rattle.sp_group.specs.declared.step.Step.TheVariants as s;
+ghost use Rattle.sp_group.specs.Family.{entry_at};
+ghost use Rattle.sp_tree.specs.Grown.{kin};
 ghost use Rattle.sp_core.specs.Faults.{IsFault};
-ghost use Rattle.sp_core.specs.Leasing.{HasBegun, IsLent, IsLeased, is_closed, with_out};
+ghost use Rattle.sp_core.specs.Leasing.{HasBegun, IsLent, IsLeased, IsMatcherOf, is_closed, with_out};
 ghost use Rattle.sp_core.specs.Running.{IsDone, after, refused};
 
 use crate::rooms::{enter, make_room};
@@ -12,6 +14,7 @@ use crate::{Core, CoreFault, Lent, Memory, law};
 use sp_group::{Refusal, Step};
 use sp_piece::Job;
 use sp_plan::{Event, Listed};
+use sp_share::Shared;
 use sp_tree::Tree;
 use sp_version::Version;
 use std::alloc::Global;
@@ -23,6 +26,18 @@ fn put_out_for(tree: &mut Tree<Version>, version: u64, ticket: u64)
     if let Some(held) = tree.get_mut(version) {
         held.out = Some(ticket);
     }
+}
+
+// Lends the matcher of a live version: a handle of it goes out, and contracts see the tree as before.
+fn lend_matcher(alloc: Global, tree: &mut Tree<Version>, version: u64) -> Result<Shared, Memory>
+    requires live { IsSome (entry_at kin tree.old.entries version) }
+    ensures same { tree.new ≡ tree.old }
+    ensures lent { IfOk result (λ before. IsMatcherOf tree.old version before) }
+{
+    let Some(held) = tree.get_mut(version) else {
+        unreachable!()
+    };
+    held.matcher.lend(alloc)
 }
 
 impl Core {
@@ -95,10 +110,11 @@ impl Core {
     }
 
     // The job that carries what is lent.
-    fn job(&self, alloc: Global, lent: &Lent, count: u32) -> Result<Job, Memory>
-        requires lent { IsLent self.now lent.now.version count lent.now }
-        requires passes { refused self.now (s.Lease lent.now.version count) ≡ None }
-        ensures job { IfOk result (IsLeased self.now lent.now.version count) }
+    fn job(&mut self, alloc: Global, lent: &Lent, count: u32) -> Result<Job, Memory>
+        requires lent { IsLent self.old lent.now.version count lent.now }
+        requires passes { refused self.old (s.Lease lent.now.version count) ≡ None }
+        ensures same { self.new ≡ self.old }
+        ensures job { IfOk result (IsLeased self.old lent.now.version count) }
         ensures events { IfOk result (λ job. length job.events ≡ lent.now.count) }
     {
         // The state is one to which steps lead: what is lent was fed. Where plans are the same they read
@@ -106,18 +122,16 @@ impl Core {
         law::every_schedule();
         law::compiled_plans_are_lawful();
         law::same_plans_read_alike();
-        let Some(held) = self.tree.get(lent.version) else {
-            unreachable!()
-        };
+        let fed = &self.events;
         let place = lent.first as usize - 1;
         let end = place + lent.count as usize;
-        let events = Event::copies(alloc, &self.events[place..end])?;
+        let events = Event::copies(alloc, &fed[place..end])?;
         let known = self.known[place..end].to_vec(alloc)?;
         Ok(Job {
             ticket: lent.ticket,
             version: lent.version,
             first: lent.first,
-            before: held.matcher.copy(alloc)?,
+            before: lend_matcher(alloc, &mut self.tree, lent.version)?,
             events: Listed::of(events),
             known: Listed::of(known),
             snapshot: lent.snapshot.copy(alloc)?,

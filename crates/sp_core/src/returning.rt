@@ -245,7 +245,7 @@ impl Core {
         let events = &self.events[from..from + lent.count as usize];
         has_values(job, lent)
             && Event::all_same(job.events.as_slice(), events)
-            && held.matcher.same(&job.before)
+            && held.matcher.get().same(job.before.get())
     }
 
     // Ends a ticket that is out, with nothing read.

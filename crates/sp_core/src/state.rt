@@ -43,7 +43,7 @@ fn version_line(alloc: Global, tree: &Tree<Version>, id: u64) -> Result<Option<V
         skipped: held.skipped.copy(alloc)?,
         done: held.done,
         out: held.out,
-        groups: open_groups(alloc, &held.matcher)?,
+        groups: open_groups(alloc, held.matcher.get())?,
     }))
 }
 

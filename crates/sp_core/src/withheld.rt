@@ -23,7 +23,7 @@ pub(crate) fn least_withheld(
     ensures { result ≡ least_kept_back parent.now label.now first count skipped.now.list }
 {
     let mut found = least_unskipped(&parent.used, first, count, skipped);
-    for run in parent.matcher.open_runs() {
+    for run in parent.matcher.get().open_runs() {
         if label.has(run.number) {
             found = lesser(found, least_unskipped(&run.used, first, count, skipped));
         }
@@ -46,7 +46,7 @@ pub(crate) fn withheld_within(
         ≡ (is_among numbers.old.list i || is_kept_within parent.now label.now first count i)) }
 {
     numbers.union(alloc, &parent.used.cut_to(alloc, first, count)?)?;
-    for run in parent.matcher.open_runs() {
+    for run in parent.matcher.get().open_runs() {
         if label.has(run.number) {
             numbers.union(alloc, &run.used.cut_to(alloc, first, count)?)?;
         }

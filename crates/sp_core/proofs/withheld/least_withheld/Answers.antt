@@ -1,5 +1,7 @@
-use Rattle.std.proofs.Common.{ℕ, Bool, ◌+◌, ◌||◌, sym, ap, ◌∙◌}
+use Rattle.std.proofs.Common.{◌≡◌, ℕ, Bool, ◌+◌, ◌||◌, map, sym, ap, subst, ◌∙◌}
 use Rattle.sp_base.specs.Numbers.{is_among}
+use Rattle.sp_match.specs.public.Matching.{Matching, shown}
+use Rattle.sp_match.specs.public.Seen.{seen_run}
 use Rattle.sp_core.specs.Withheld.{is_kept_back, lesser}
 use Rattle.sp_core.proofs.KeptBack.{is_kept_by, kept_by_none, kept_by_named, kept_by_unnamed, kept_by_all}
 use Rattle.sp_core.proofs.Least.{least_unskipped, unskipped_alike, unskipped_either}
@@ -44,4 +46,5 @@ returns c =
     let n = c.loop-run.run-index in
     c.loop-run.invariant
     ∙ unskipped_alike (is_kept_by parent.used.list label runs n) (is_kept_back parent label) c.args.first c.args.count c.args.skipped.now.list
-    (λ i. kept_by_all parent.used.list label parent.matcher.plan runs parent.matcher.open_runs n i c.open_runs-run-items.ensures c.loop-run-test.false)
+    (λ i. kept_by_all parent.used.list label parent.matcher.plan runs parent.matcher.open_runs n i
+    (subst (λ (m : Matching). map seen_run runs ≡ map (shown m.plan) m.open_runs) c.get.ensures c.open_runs-run-items.ensures) c.loop-run-test.false)

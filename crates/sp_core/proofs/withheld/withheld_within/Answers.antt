@@ -1,5 +1,7 @@
-use Rattle.std.proofs.Common.{ℕ, ◌+◌, ◌||◌, ◌&&◌, Bool, List, sym, ap, ◌∙◌}
+use Rattle.std.proofs.Common.{◌≡◌, ℕ, ◌+◌, ◌||◌, ◌&&◌, Bool, List, map, sym, ap, subst, ◌∙◌}
 use Rattle.sp_base.specs.Numbers.{NumberList, is_within, is_among}
+use Rattle.sp_match.specs.public.Matching.{Matching, shown}
+use Rattle.sp_match.specs.public.Seen.{seen_run}
 use Rattle.sp_core.proofs.KeptBack.{is_kept_by, kept_by_named, kept_by_unnamed, kept_by_all, takes_in, takes_first}
 use Rattle.sp_core.proofs.withheld.withheld_within.Goals as goal
 use Rattle.sp_core.proofs.withheld.withheld_within.Goals.{then-has+in_ok-cut_to-2+in_ok-union-2, else-has}
@@ -34,7 +36,8 @@ loop-run-preserved c =
 pub returns : goal.returns
 returns c i =
     let parent = c.args.parent.now in
+    let runs = c.open_runs-run-items.result.now in
     c.loop-run.invariant i
     ∙ ap (λ (b : Bool). is_among c.args.numbers.now.list i || (is_within c.args.first c.args.count i && b))
-    (kept_by_all parent.used.list c.args.label.now parent.matcher.plan c.open_runs-run-items.result.now parent.matcher.open_runs c.loop-run.run-index i
-    c.open_runs-run-items.ensures c.loop-run-test.false)
+    (kept_by_all parent.used.list c.args.label.now parent.matcher.plan runs parent.matcher.open_runs c.loop-run.run-index i
+    (subst (λ (m : Matching). map seen_run runs ≡ map (shown m.plan) m.open_runs) c.get.ensures c.open_runs-run-items.ensures) c.loop-run-test.false)

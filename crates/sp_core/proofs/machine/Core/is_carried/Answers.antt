@@ -1,7 +1,7 @@
 use Rattle.std.proofs.Common.{◌-◌, length, sym, ap, subst, ◌∙◌, refl, arith}
 use Rattle.std.specs.Option.{option_copied}
 use Rattle.std.specs.Prelude.{IsTrue, ◌↔◌}
-use Rattle.sp_match.specs.public.Matching.{SameMatching}
+use Rattle.sp_match.specs.public.Matching.{Matching, SameMatching}
 use Rattle.sp_version.specs.declared.version.Version.{Version}
 use Rattle.sp_core.specs.Returning.{IsPlaceOf, IsCarried}
 use Rattle.sp_core.specs.Running.{Running}
@@ -55,14 +55,19 @@ returns-then-all_same c =
     let held = c.in-Some-get.held.now in
     let f = found_out c.every_schedule.ensures h c.self.invariant n c.in-Some.place d held at c.index-lent.ensures (sym (ap option_copied c.in-Some-get.is) ∙ c.get.ensures) in
     let part = part_of c.deref.result.now h.events (d.first - 1) d.count c.deref.ensures.value in
+    let own = c.get-then-all_same.ensures in
+    let lent = c.get-then-all_same-2.ensures in
+    let same : IsTrue c.same.result ↔ SameMatching held.matcher job.before =
+    subst (λ (m : Matching). IsTrue c.same.result ↔ SameMatching held.matcher m) lent
+    (subst (λ (m : Matching). IsTrue c.same.result ↔ SameMatching m c.get-then-all_same-2.result.now) own c.same.ensures.same) in
     elim c.if-has_values.branch [
       | then-has_values w ↦
           let values = c.has_values.ensures.0 w.if-has_values.true in
           let events = sym w.as_slice.ensures ∙ w.all_same.ensures.0 (sym w.value-is ∙ c.if-all_same.true) ∙ part in
           subst (λ (r : Running). IsTrue c.same.result ↔ IsCarried r job) c.self.view_is (
             (λ t. carried h n d f.entry f.is job refl values events
-                (subst (λ (v : Version). SameMatching v.matcher job.before) (sym f.value) (c.same.ensures.same.0 t))),
-            (λ is. c.same.ensures.same.1 (subst (λ (v : Version). SameMatching v.matcher job.before) f.value (has_all h n d f.entry f.is job refl is).same)),
+                (subst (λ (v : Version). SameMatching v.matcher job.before) (sym f.value) (same.0 t))),
+            (λ is. same.1 (subst (λ (v : Version). SameMatching v.matcher job.before) f.value (has_all h n d f.entry f.is job refl is).same)),
           )
       | else-has_values w ↦ let shut = w.value-is in let open_ = c.if-all_same.true in absurd (cc)
     ]
