@@ -6,6 +6,7 @@ ghost use Rattle.sp_piece.specs.Lending.{IsLendable};
 use sp_match::{Known, Matcher};
 use sp_piece::Job;
 use sp_plan::{Event, Listed};
+use sp_share::Held;
 use std::alloc::{AllocError, Global};
 
 // The job with this matcher and one event.
@@ -14,11 +15,12 @@ fn with(alloc: Global, job: &Job, before: Matcher, event: Event) -> Result<Job, 
 {
     let events = vec![in alloc; event]?;
     let known = vec![in alloc; Known::Any]?;
+    let mut held = Held::new(before);
     Ok(Job {
         ticket: job.ticket,
         version: job.version,
         first: job.first,
-        before,
+        before: held.lend(alloc)?,
         events: Listed::of(events),
         known: Listed::of(known),
         snapshot: job.snapshot.copy(alloc)?,
@@ -39,7 +41,7 @@ pub(crate) fn with_other_event(alloc: Global, job: &Job) -> Result<Option<Job>, 
         time: 0,
         values: event.values.copy(alloc)?,
     };
-    Ok(Some(with(alloc, job, job.before.copy(alloc)?, other)?))
+    Ok(Some(with(alloc, job, job.before.get().copy(alloc)?, other)?))
 }
 
 /// A job of one event once more, with a matcher that has no run. None of a job without events.
@@ -47,7 +49,7 @@ pub(crate) fn with_other_matcher(alloc: Global, job: &Job) -> Result<Option<Job>
     let Some(event) = job.events.as_slice().first() else {
         return Ok(None);
     };
-    let mut before = job.before.copy(alloc)?;
+    let mut before = job.before.get().copy(alloc)?;
     before.clear();
     Ok(Some(with(alloc, job, before, event.copy(alloc)?)?))
 }
