@@ -23,6 +23,8 @@ use Rattle.sp_group.specs.Effects.{lent_count, unread}
 use Rattle.sp_piece.specs.declared.job.Job.{Job}
 use Rattle.sp_piece.specs.Alike.{SamePlansReadAlike}
 use Rattle.sp_piece.specs.Lending.{IsLendable}
+use Rattle.sp_piece.specs.Reading.{consumes}
+use Rattle.sp_piece.proofs.Consuming.{consume_alike}
 use Rattle.sp_rules.specs.Kept.{Local}
 use Rattle.sp_rules.specs.Lawful.{Lawful}
 use Rattle.sp_rules.specs.Schedules.{Reached}
@@ -135,6 +137,10 @@ module _ (h : Holding) (lent : Lent) (n : ℕ) (a : Leases h lent n) (r : Reache
             (subst (λ (m : Matching). Stands m (inner h.plan h.events (version_of a.entry.entry))) (sym matcher) held.stands) runs_below;
         few = omega (arith, fed.low, fed.high, fed.few, size);
       }
+
+  -- and what it wants is told where the plan consumes
+  pub wants_are : (before : Matching) → before ≡ a.entry.entry.value.matcher → consumes h.plan ≡ consumes before.plan
+  wants_are before matcher = sym (consume_alike before.plan h.plan (subst (λ (m : Matching). SamePlan m.plan h.plan) (sym matcher) held.plan))
 
   -- and a job with all that carries the lease
   pub is_leased : (job : Job) → job.ticket ≡ lent.ticket → job.version ≡ lent.version → job.first ≡ lent.first → job.before ≡ a.entry.entry.value.matcher

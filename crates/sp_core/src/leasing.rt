@@ -12,7 +12,7 @@ ghost use Rattle.sp_core.specs.Running.{IsDone, after, refused};
 use crate::rooms::{enter, make_room};
 use crate::{Core, CoreFault, Lent, Memory, law};
 use sp_group::{Refusal, Step};
-use sp_piece::Job;
+use sp_piece::{Job, consumes};
 use sp_plan::{Event, Listed};
 use sp_share::Shared;
 use sp_tree::Tree;
@@ -136,6 +136,7 @@ impl Core {
             known: Listed::of(known),
             snapshot: lent.snapshot.copy(alloc)?,
             closes: lent.closes,
+            wants: consumes(&self.plan),
         })
     }
 

@@ -4,6 +4,7 @@ use Rattle.std.proofs.lemmas.List.Elements.{same_from_all_zip}
 use Rattle.sp_match.specs.public.Known.{IsKnown}
 use Rattle.sp_tree.specs.Grown.{Entry}
 use Rattle.sp_core.specs.Carrying.{lent_events, ticket_of}
+use Rattle.sp_piece.specs.Reading.{consumes}
 use Rattle.sp_group.specs.declared.step.Step.TheVariants as s
 use Rattle.sp_version.specs.declared.version.Version.{Version}
 use Rattle.sp_core.specs.Leasing.{IsLent}
@@ -12,7 +13,7 @@ use Rattle.sp_core.specs.Holding.{holding}
 use Rattle.sp_core.proofs.Journal.{reached}
 use Rattle.sp_core.proofs.KnownEvents.{as_many}
 use Rattle.sp_core.proofs.Leased.{leases}
-use Rattle.sp_core.proofs.Lending.{all_lent, is_fed, lendable, is_leased, part_of}
+use Rattle.sp_core.proofs.Lending.{all_lent, is_fed, lendable, is_leased, part_of, wants_are}
 use Rattle.sp_core.proofs.machine.Core.job.Goals as goal
 
 pub overflow_sub-place : goal.overflow_sub-place
@@ -72,6 +73,8 @@ invariant_of-result c =
     let known : c.in_ok-known.known.items ≡ take lent.count (drop (lent.first - 1) h.known) =
     same_from_all_zip _ _ _ c.in_ok-known.ensures.ok (λ x y is. is) ∙ part_of c.deref-2.result.now h.known (lent.first - 1) lent.count c.deref-2.ensures.value in
     record {
+      wanting = c.consumes.ensures ∙ ap consumes c.deref-3.ensures
+          ∙ wants_are h lent n a (reached c.every_schedule.ensures h c.self.invariant) (c.compiled_plans_are_lawful.ensures h.plan c.self.invariant.compiled) c.in_ok-lend_matcher.field-0 before;
       lendable = lendable h lent n a (reached c.every_schedule.ensures h c.self.invariant) (c.compiled_plans_are_lawful.ensures h.plan c.self.invariant.compiled)
           c.same_plans_read_alike.ensures c.in_ok-lend_matcher.field-0 c.of.result c.of-2.result before (c.of.ensures ∙ events) (c.of-2.ensures ∙ known);
     }
