@@ -249,6 +249,8 @@ pub(crate) fn take_up(held: &mut Version, piece: Piece, passed: &Numbers, brough
     held.position += piece.read();
     held.done = held.done || piece.closed();
     held.out = None;
+    // Its handle of what was lent is put away first, so that the piece's is the last one.
+    held.matcher.clear();
     held.matcher = piece.into_after();
     put_all(&mut held.skipped, passed.list());
     put_all(&mut held.used, brought.used.list());
