@@ -19,8 +19,14 @@ use crate::taken::Taken;
 use crate::way::{Way, bring, fetch, make_seat};
 use sp_base::Listed;
 use std::alloc::Global;
+use std::hint::spin_loop;
 use std::marker::Model;
+use std::sync::atomic::AtomicU64;
+use std::sync::atomic::Ordering::SeqCst;
 use std::sync::{Condvar, Mutex, Wait};
+
+// So often a processor rests between two looks of a seat, half a microsecond or so in all.
+const RESTS: u32 = 16;
 
 /// What a hub did, with the takes and puts of each seat by its number, and the seats that were told that no job will
 /// come.
@@ -45,6 +51,9 @@ pub struct Hub<J: Named, P: Named, L: Naming> {
     listed: Condvar,
     // a piece came home
     home: Condvar,
+    // how often a job was listed, or the hub closed: what a seat that looks for a job sees without the lock. Nothing
+    // rests on it but how long it looks
+    changes: AtomicU64,
     seats: u32,
     room: u32,
     takes: Vec<u64>,
@@ -102,6 +111,7 @@ impl<J: Named, P: Named, L: Naming> Hub<J, P, L> {
             shared: Mutex::new(Shared::new(Locked::new(alloc, book)?)),
             listed: Condvar::new(),
             home: Condvar::new(),
+            changes: AtomicU64::new(0),
             seats,
             room,
             takes: Vec::with_capacity(alloc, seats as usize)?,
@@ -121,6 +131,7 @@ impl<J: Named, P: Named, L: Naming> Hub<J, P, L> {
         ensures back { IfErr result (λ j. j ≡ job) }
     {
         let (answer, wakes) = self.shared.lock(rt).post(by, job);
+        self.changes.fetch_add(1, SeqCst);
         if wakes {
             self.listed.notify_one();
         }
@@ -136,7 +147,9 @@ impl<J: Named, P: Named, L: Naming> Hub<J, P, L> {
         ensures by { by.new ≡ (if is_ok result then posts by.old (J.ticket_of job) else by.old) }
         ensures back { IfErr result (λ j. j ≡ job) }
     {
-        self.shared.lock(rt).post_quietly(by, job)
+        let answer = self.shared.lock(rt).post_quietly(by, job);
+        self.changes.fetch_add(1, SeqCst);
+        answer
     }
 
     /// Gives the seat the oldest job.
@@ -189,11 +202,35 @@ impl<J: Named, P: Named, L: Naming> Hub<J, P, L> {
         ensures { by.new ≡ record by.old { closed = true } }
     {
         self.shared.lock(rt).close(by);
+        self.changes.fetch_add(1, SeqCst);
         self.listed.notify_all();
     }
 
-    /// Returns once a job is listed or the hub is closed.
-    pub fn wait_job<R: Wait>(&self, rt: &R, _seat: &Seat<P, L>) {
+    // Looks so many times whether a job is listed or the hub is closed, some half a microsecond apart; answers whether
+    // one look found it so. The lock is asked for only where something changed.
+    fn is_seen<R: Wait>(&self, rt: &R, looks: u32) -> bool {
+        let mut seen = self.changes.load(SeqCst);
+        for _ in 0..looks {
+            for _ in 0..RESTS {
+                spin_loop();
+            }
+            let changes = self.changes.load(SeqCst);
+            if changes != seen {
+                seen = changes;
+                if !self.shared.lock(rt).is_idle() {
+                    return true;
+                }
+            }
+        }
+        false
+    }
+
+    /// Returns once a job is listed or the hub is closed. It looks for one so many times before it sleeps, some half a
+    /// microsecond apart: to wake takes longer than a look.
+    pub fn wait_job<R: Wait>(&self, rt: &R, _seat: &Seat<P, L>, looks: u32) {
+        if self.is_seen(rt, looks) {
+            return;
+        }
         let mut shared = self.shared.lock(rt);
         shared.seat_waits();
         let mut shared = self.listed.wait_while(rt, shared, |s| s.is_idle());
@@ -243,6 +280,7 @@ impl<J: Named, P: Named, L: Naming> Hub<J, P, L> {
             shared,
             listed: _,
             home: _,
+            changes: _,
             seats: count,
             room: _,
             takes,
