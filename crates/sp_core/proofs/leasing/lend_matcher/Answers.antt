@@ -1,6 +1,5 @@
 use Rattle.std.proofs.Common.{Some, ap, ◌∙◌}
 use Rattle.sp_match.specs.public.Matching.{Matching}
-use Rattle.sp_version.specs.declared.version.Version.{Version}
 use Rattle.sp_core.proofs.Written.{same_written}
 use Rattle.sp_core.proofs.leasing.lend_matcher.Goals as goal
 
