@@ -1,7 +1,8 @@
 // Jobs that are like others but for one thing.
-ghost use Rattle.std.specs.Prelude.{◌∷◌, []};
+ghost use Rattle.std.specs.Prelude.{◌≡◌, ◌∷◌, []};
 ghost use Rattle.sp_match.specs.declared.known.Known.TheVariants.{Any};
 ghost use Rattle.sp_piece.specs.Lending.{IsLendable};
+ghost use Rattle.sp_piece.specs.Reading.{consumes};
 
 use sp_match::{Known, Matcher};
 use sp_piece::Job;
@@ -11,7 +12,8 @@ use std::alloc::{AllocError, Global};
 
 // The job with this matcher and one event.
 fn with(alloc: Global, job: &Job, before: Matcher, event: Event) -> Result<Job, AllocError>
-    requires { IsLendable before (event ∷ []) (Any ∷ []) job.now.first }
+    requires lendable { IsLendable before (event ∷ []) (Any ∷ []) job.now.first }
+    requires wants { job.now.wants ≡ consumes before.plan }
 {
     let events = vec![in alloc; event]?;
     let known = vec![in alloc; Known::Any]?;
@@ -25,6 +27,7 @@ fn with(alloc: Global, job: &Job, before: Matcher, event: Event) -> Result<Job, 
         known: Listed::of(known),
         snapshot: job.snapshot.copy(alloc)?,
         closes: job.closes,
+        wants: job.wants,
     })
 }
 
