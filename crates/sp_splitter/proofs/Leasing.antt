@@ -37,8 +37,8 @@ and_true true = refl
 and_true false = refl
 
 -- nothing was leased
-pub lends_itself : (batch : ℕ) (c : Running) → Lends batch [] c c
-lends_itself batch c = record {
+pub lends_itself : (shy : Bool) (batch : ℕ) (c : Running) → Lends shy batch [] c c
+lends_itself shy batch c = record {
   keeps = kept_itself c;
   spread = λ n out spread. spread;
   out = omega arith;
@@ -48,9 +48,9 @@ lends_itself batch c = record {
   are = refl;
 }
 
-leased_more : (batch : ℕ) (ns ms : List ℕ) (c : Running) → leased_all batch (ns ++ ms) c ≡ leased_all batch ms (leased_all batch ns c)
-leased_more batch [] ms c = refl
-leased_more batch (n ∷ ns) ms c = leased_more batch ns ms (after c (s.Lease n (asked batch c n)))
+leased_more : (shy : Bool) (batch : ℕ) (ns ms : List ℕ) (c : Running) → leased_all shy batch (ns ++ ms) c ≡ leased_all shy batch ms (leased_all shy batch ns c)
+leased_more shy batch [] ms c = refl
+leased_more shy batch (n ∷ ns) ms c = leased_more shy batch ns ms (after c (s.Lease n (asked shy batch c n)))
 
 among_filter : (p : ℕ → Bool) (ns : List ℕ) (n : ℕ) → is_among (filter p ns) n ≡ (is_among ns n && p n)
 among_filter p ns n =
@@ -79,10 +79,10 @@ same_either : (m n : ℕ) → (m == n) ≡ (n == m)
 same_either m n = grind (arith, nat_tests)
 
 -- one lease more
-pub lends_more : (batch id : ℕ) (done : List ℕ) (old mid new : Running) → Known mid → Lends batch done old mid → IsDone (s.Lease id (asked batch mid id)) mid new
-    → asked batch mid id ≤ batch → Lends batch (done ++ id ∷ []) old new
-lends_more batch id done old mid new known lends is most =
-    let count = asked batch mid id in
+pub lends_more : (shy : Bool) (batch id : ℕ) (done : List ℕ) (old mid new : Running) → Known mid → Lends shy batch done old mid → IsDone (s.Lease id (asked shy batch mid id)) mid new
+    → asked shy batch mid id ≤ batch → Lends shy batch (done ++ id ∷ []) old new
+lends_more shy batch id done old mid new known lends is most =
+    let count = asked shy batch mid id in
     let keeps = kept_lease id count mid new known is in
     let law = known.lawful.busy.by_lease id count is.0 in
     let ready : ready_numbers new.plan new.bound new.machine ≡ filter (λ other. not (other == id)) (ready_numbers mid.plan mid.bound mid.machine) =
@@ -99,7 +99,7 @@ lends_more batch id done old mid new known lends is most =
       left = λ x. ap (λ (ns : List ℕ). is_among ns x) ready ∙ among_filter (λ other. not (other == id)) (ready_numbers mid.plan mid.bound mid.machine) x
           ∙ (λ i. lends.left x i && not (same_either x id i)) ∙ both_left (is_among (ready_numbers old.plan old.bound old.machine) x) (is_among done x) (id == x)
           ∙ ap (λ (b : Bool). is_among (ready_numbers old.plan old.bound old.machine) x && not b) (sym (among_more done id x));
-      are = is.1 ∙ ap (λ (z : Running). after z (s.Lease id (asked batch z id))) lends.are ∙ sym (leased_more batch done (id ∷ []) old);
+      are = is.1 ∙ ap (λ (z : Running). after z (s.Lease id (asked shy batch z id))) lends.are ∙ sym (leased_more shy batch done (id ∷ []) old);
     }
 
 -- what is among the ready versions is not refused
@@ -146,8 +146,8 @@ fresh ids k d low apart =
     none_counted (take k ids) id (omega arith)
 
 -- the next one is ready still
-pub next_passes : (batch : ℕ) (ids : List ℕ) (k d n : ℕ) (old mid : Running) → k < length ids → AreApart ids
-    → All (λ id. is_among (ready_numbers old.plan old.bound old.machine) id ≡ true) ids → Lends batch (take k ids) old mid
+pub next_passes : {shy : Bool} (batch : ℕ) (ids : List ℕ) (k d n : ℕ) (old mid : Running) → k < length ids → AreApart ids
+    → All (λ id. is_among (ready_numbers old.plan old.bound old.machine) id ≡ true) ids → Lends shy batch (take k ids) old mid
     → refused mid (s.Lease (get_or ids k d) n) ≡ None
 next_passes batch ids k d n old mid low apart all lends =
     let others : is_among (take k ids) (get_or ids k d) ≡ false = fresh ids k d low apart in

@@ -147,8 +147,8 @@ picked_few shares n c ids (tree, is, picked) =
     omega (arith, length-take k picked.order)
 
 -- leases for which there are places went well
-pub went_lends : (n batch : ℕ) (ids : List ℕ) (old new : Running) → IsSpreadOut old.plan old.bound n old.machine → length ids ≤ n + 1 - out_count old.machine
-    → Lends batch ids old new → Went n batch old new
+pub went_lends : {shy : Bool} (n batch : ℕ) (ids : List ℕ) (old new : Running) → IsSpreadOut old.plan old.bound n old.machine → length ids ≤ n + 1 - out_count old.machine
+    → Lends shy batch ids old new → Went n batch old new
 went_lends n batch ids old new out places lends =
     let grown : out_count new.machine ≡ out_count old.machine + length ids = lends.out in
     went_kept n batch old new lends.keeps (λ spreading. lends.spread n out spreading.spread) (λ few. omega arith)
@@ -171,7 +171,7 @@ and_not true = refl
 and_not false = refl
 
 -- once they are leased, all that can be out is out
-pub lent_picked : (shares : ℕ → ℕ → ℕ) (n batch : ℕ) (ids : List ℕ) (old new : Running) → ArePicked shares n old ids → Lends batch ids old new
+pub lent_picked : {shy : Bool} (shares : ℕ → ℕ → ℕ) (n batch : ℕ) (ids : List ℕ) (old new : Running) → ArePicked shares n old ids → Lends shy batch ids old new
     → IsLentOut new.plan new.bound n new.machine
 lent_picked shares n batch ids old new (tree, is, picked) lends = by (below_or k (length picked.order))
   where
@@ -198,16 +198,17 @@ lent_picked shares n batch ids old new (tree, is, picked) lends = by (below_or k
         (none_among (ready_numbers new.plan new.bound new.machine) (all few)))
 
 -- and the journal is spread
-pub goes_lends : (shares : ℕ → ℕ → ℕ) (n batch : ℕ) (ids : List ℕ) (old new : Running) → IsSpreadOut old.plan old.bound n old.machine → ArePicked shares n old ids
-    → Lends batch ids old new → Goes n old new
+pub goes_lends : {shy : Bool} (shares : ℕ → ℕ → ℕ) (n batch : ℕ) (ids : List ℕ) (old new : Running) → IsSpreadOut old.plan old.bound n old.machine → ArePicked shares n old ids
+    → Lends shy batch ids old new → Goes n old new
 goes_lends shares n batch ids old new out picked lends spreading = record {
   spread = lends.spread n out spreading.spread;
   lent = λ _. lent_picked shares n batch ids old new picked lends;
 }
 
-pub leases_picked : (shares : ℕ → ℕ → ℕ) (n batch : ℕ) (ids : List ℕ) (old new : Running) → ArePicked shares n old ids → Lends batch ids old new
+pub leases_picked : {shy : Bool} (shares : ℕ → ℕ → ℕ) (n batch : ℕ) (ids : List ℕ) (old new : Running) → ArePicked shares n old ids → Lends shy batch ids old new
     → Leases shares n batch old new
-leases_picked shares n batch ids old new picked lends = record {
+leases_picked {shy} shares n batch ids old new picked lends = record {
+  shy = shy;
   ids = ids;
   picked = picked;
   are = lends.are;
@@ -224,14 +225,14 @@ picked_here shares n c t ready k out ids tree ready_is k_is out_is picked = (
 )
 
 -- what was leased so far
-abbrev LendsSoFar : ℕ → List ℕ → Running → Running → Type 0
-LendsSoFar batch ids old new = (count : ℕ) × Lends batch (take count ids) old new
+abbrev LendsSoFar : Bool → ℕ → List ℕ → Running → Running → Type 0
+LendsSoFar shy batch ids old new = (count : ℕ) × Lends shy batch (take count ids) old new
 
-pub kept_part : (batch : ℕ) (ids : List ℕ) (old new : Running) → LendsSoFar batch ids old new → KeepsVersions old new
+pub kept_part : {shy : Bool} (batch : ℕ) (ids : List ℕ) (old new : Running) → LendsSoFar shy batch ids old new → KeepsVersions old new
 kept_part batch ids old new (count, lends) = lends.keeps
 
-pub went_part : (n batch : ℕ) (ids : List ℕ) (old new : Running) → IsSpreadOut old.plan old.bound n old.machine → length ids ≤ n + 1 - out_count old.machine
-    → LendsSoFar batch ids old new → Went n batch old new
+pub went_part : {shy : Bool} (n batch : ℕ) (ids : List ℕ) (old new : Running) → IsSpreadOut old.plan old.bound n old.machine → length ids ≤ n + 1 - out_count old.machine
+    → LendsSoFar shy batch ids old new → Went n batch old new
 went_part n batch ids old new out places (count, lends) =
     went_lends n batch (take count ids) old new out (omega (arith, length-take count ids)) lends
 
@@ -241,7 +242,7 @@ both_ok (Ok x) P Q R f p q = f p q
 both_ok (Err e) P Q R f p q = tt
 
 -- as many jobs more are kept as tickets more are out
-pub kept_lends : (batch kept now : ℕ) (ids : List ℕ) (old new : Running) → Lends batch ids old new → now ≡ kept + length ids
+pub kept_lends : {shy : Bool} (batch kept now : ℕ) (ids : List ℕ) (old new : Running) → Lends shy batch ids old new → now ≡ kept + length ids
     → now + out_count old.machine ≡ kept + out_count new.machine
 kept_lends batch kept now ids old new lends more =
     let grown : out_count new.machine ≡ out_count old.machine + length ids = lends.out in

@@ -27,41 +27,51 @@ two q root position =
     record c { machine = record opening { events = events (replicate 60 0); versions = reading 2 (Some 1) position false ∷ root ∷ []; next_id = 3 } }
 
 -- a root asks for a batch
-root_asks : asked 12 (two (overlapping true) (reading 1 None 24 false) 24) 1 ≡ 12
+root_asks : asked false 12 (two (overlapping true) (reading 1 None 24 false) 24) 1 ≡ 12
 root_asks = refl
 
 -- a child that has read fewer than two batches asks for one
-early : asked 12 (two (overlapping true) (reading 1 None 2 false) 23) 2 ≡ 12
+early : asked false 12 (two (overlapping true) (reading 1 None 2 false) 23) 2 ≡ 12
 early = refl
 
 -- the root has read none of what the child reads next: the child asks for eight
-nothing_read_before : asked 12 (two (overlapping true) (reading 1 None 26 false) 24) 2 ≡ 8
+nothing_read_before : asked false 12 (two (overlapping true) (reading 1 None 26 false) 24) 2 ≡ 8
 nothing_read_before = refl
 
 -- it has read ten events more than the child
-ten_read_before : asked 12 (two (overlapping true) (reading 1 None 36 false) 24) 2 ≡ 10
+ten_read_before : asked false 12 (two (overlapping true) (reading 1 None 36 false) 24) 2 ≡ 10
 ten_read_before = refl
 
 -- more than a batch
-many_read_before : asked 12 (two (overlapping true) (reading 1 None 39 false) 24) 2 ≡ 12
+many_read_before : asked false 12 (two (overlapping true) (reading 1 None 39 false) 24) 2 ≡ 12
 many_read_before = refl
 
 -- a batch may be less than eight
-least_batch : asked 1 (two (overlapping true) (reading 1 None 4 false) 2) 2 ≡ 1
+least_batch : asked false 1 (two (overlapping true) (reading 1 None 4 false) 2) 2 ≡ 1
 least_batch = refl
 
 -- a root that is done reads no more
-root_done : asked 12 (two (overlapping true) (reading 1 None 26 true) 24) 2 ≡ 12
+root_done : asked false 12 (two (overlapping true) (reading 1 None 26 true) 24) 2 ≡ 12
 root_done = refl
 
 -- what consumes nothing keeps nothing from a child
-nothing_consumed : asked 12 (two (overlapping false) (reading 1 None 26 false) 24) 2 ≡ 12
+nothing_consumed : asked false 12 (two (overlapping false) (reading 1 None 26 false) 24) 2 ≡ 12
 nothing_consumed = refl
 
 -- a version that is not live
-not_live : asked 12 (two (overlapping true) (reading 1 None 26 false) 24) 3 ≡ 12
+not_live : asked false 12 (two (overlapping true) (reading 1 None 26 false) 24) 3 ≡ 12
 not_live = refl
 
 -- no event of the child's window is one of the root's
-windows_apart : asked 12 (two apart (reading 1 None 20 false) 24) 2 ≡ 12
+windows_apart : asked false 12 (two apart (reading 1 None 20 false) 24) 2 ≡ 12
 windows_apart = refl
+
+-- a child that is shy asks for one event, however much it has read, and a root for a batch
+shy_child : asked true 12 (two (overlapping true) (reading 1 None 36 false) 24) 2 ≡ 1
+shy_child = refl
+
+shy_early : asked true 12 (two (overlapping true) (reading 1 None 2 false) 23) 2 ≡ 1
+shy_early = refl
+
+shy_root : asked true 12 (two (overlapping true) (reading 1 None 24 false) 24) 1 ≡ 12
+shy_root = refl

@@ -1,6 +1,6 @@
 -- What leases leave as it was, and returns of tickets whose versions are gone; and what leases make of the ready versions. No public clause
 -- cites this.
-use Rattle.std.specs.Prelude.{◌≡◌, ℕ, ◌+◌, ◌≤◌, ◌==◌, true, not, ◌&&◌, List, length, None}
+use Rattle.std.specs.Prelude.{◌≡◌, ℕ, ◌+◌, ◌≤◌, ◌==◌, Bool, true, not, ◌&&◌, List, length, None}
 use Rattle.std.specs.List.{All, count_by}
 use Rattle.sp_base.specs.Numbers.{is_among}
 use Rattle.sp_group.specs.Machine.{ticket_at}
@@ -51,7 +51,7 @@ abbrev pub AreReady : Running → List ℕ → Type 0
 AreReady c ids = All (λ id. is_among (ready_numbers c.plan c.bound c.machine) id ≡ true) ids
 
 -- Versions of these ids were leased: so many tickets more are out for live versions, and of the ready ones the others are left.
-pub record Lends (batch : ℕ) (ids : List ℕ) (old new : Running) : Type 0 where
+pub record Lends (shy : Bool) (batch : ℕ) (ids : List ℕ) (old new : Running) : Type 0 where
   pub keeps : KeepsVersions old new
   pub spread : (n : ℕ) → IsSpreadOut old.plan old.bound n old.machine → Spread old.plan old.bound n old.journal → Spread new.plan new.bound n new.journal
   pub out : out_count new.machine ≡ out_count old.machine + length ids
@@ -59,4 +59,4 @@ pub record Lends (batch : ℕ) (ids : List ℕ) (old new : Running) : Type 0 whe
   pub asked : AsksAtMost batch old.journal → AsksAtMost batch new.journal
   pub left : (id : ℕ) → is_among (ready_numbers new.plan new.bound new.machine) id
       ≡ (is_among (ready_numbers old.plan old.bound old.machine) id && not (is_among ids id))
-  pub are : new ≡ leased_all batch ids old
+  pub are : new ≡ leased_all shy batch ids old

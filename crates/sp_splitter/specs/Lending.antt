@@ -37,27 +37,27 @@ is_free batch q events parent v =
     nat_lt v.position (2 * batch) || (parent.done
     || (nat_le (first q events parent.window + size q events parent.window) (next_read q events v) || not (consumes q)))
 
--- How many events a lease of a version asks for: a batch; but where it is not free, no event behind those that its parent has read, and
--- eight at least, or a batch of fewer.
-abbrev pub asked_behind : ℕ → Running → machine.Version → Option machine.Version → ℕ
-asked_behind batch c v None = batch
-asked_behind batch c v (Some parent) =
-    if is_free batch c.plan c.machine.events parent v then batch
+-- How many events a lease of a version asks for: a batch; but a child asks for one where children are shy, and else, where it is not free,
+-- for no event behind those that its parent has read, and eight at least, or a batch of fewer.
+abbrev pub asked_behind : Bool → ℕ → Running → machine.Version → Option machine.Version → ℕ
+asked_behind shy batch c v None = batch
+asked_behind shy batch c v (Some parent) =
+    if shy then 1 else if is_free batch c.plan c.machine.events parent v then batch
     else max (min batch 8) (min (next_read c.plan c.machine.events parent - next_read c.plan c.machine.events v) batch)
 
 -- the same, where the version is there
-abbrev pub asked_of : ℕ → Running → Option machine.Version → ℕ
-asked_of batch c None = batch
-asked_of batch c (Some v) = asked_behind batch c v (parent_in c.machine.versions v.parent)
+abbrev pub asked_of : Bool → ℕ → Running → Option machine.Version → ℕ
+asked_of shy batch c None = batch
+asked_of shy batch c (Some v) = asked_behind shy batch c v (parent_in c.machine.versions v.parent)
 
 -- the same, by the id
-abbrev pub asked : ℕ → Running → ℕ → ℕ
-asked batch c id = asked_of batch c (version_at c.machine.versions id)
+abbrev pub asked : Bool → ℕ → Running → ℕ → ℕ
+asked shy batch c id = asked_of shy batch c (version_at c.machine.versions id)
 
 -- the core after the versions of these ids are leased, one after another, each for the events that it asks for
-abbrev pub leased_all : ℕ → List ℕ → Running → Running
-leased_all batch [] c = c
-leased_all batch (id ∷ ids) c = leased_all batch ids (after c (s.Lease id (asked batch c id)))
+abbrev pub leased_all : Bool → ℕ → List ℕ → Running → Running
+leased_all shy batch [] c = c
+leased_all shy batch (id ∷ ids) c = leased_all shy batch ids (after c (s.Lease id (asked shy batch c id)))
 
 -- the core after tickets of these numbers return with nothing read
 abbrev pub returned_all : List ℕ → Running → Running
@@ -70,11 +70,12 @@ ArePicked shares n c ids =
     (tree : Grown Version) × IsTreeOf c tree
     × IsPicked shares tree.entries (ready_ids c.plan c.bound c.machine) (n + 1 - out_count c.machine) ids
 
--- The versions that are picked are leased.
+-- The versions that are picked are leased, and children are shy for it or not.
 pub record Leases (shares : ℕ → ℕ → ℕ) (n batch : ℕ) (old new : Running) : Type 0 where
+  pub shy : Bool
   pub ids : List ℕ
   pub picked : ArePicked shares n old ids
-  pub are : new ≡ leased_all batch ids old
+  pub are : new ≡ leased_all shy batch ids old
 
 -- The jobs whose versions are gone are given back with nothing read, and no ticket of theirs is out any more; the others are kept.
 pub record DropsStale (old new : Running) (kept left : List Job) : Type 0 where

@@ -7,7 +7,7 @@ ghost use Rattle.sp_splitter.specs.Gathering.{Gathered, IsLearned};
 ghost use Rattle.sp_splitter.specs.Stages.{Collected, Goes, NoneEmitted, ReadOfCollected, Went};
 
 use crate::learning::learn;
-use crate::unheard::Readings;
+use crate::unheard::{Readings, has_children};
 use crate::{Memory, law};
 use sp_chance::Predictor;
 use sp_core::Core;
@@ -72,8 +72,12 @@ pub(crate) fn gather<L: Naming, R: Wait>(
             return Ok(read);
         };
         read.add(&piece);
+        let has_children = has_children(core, &piece);
         learn_from(predictor, core, &piece);
         give_back(alloc, core, piece)?;
+        if has_children {
+            read.add_home(core);
+        }
     }
     Ok(read)
 }

@@ -31,6 +31,15 @@ use std::collections::VecDeque;
 // The least that a lease asks for, or a batch of fewer.
 const LEAST: u32 = 8;
 
+/// For how many events leases ask.
+#[derive(Clone, Copy, Drop)]
+pub(crate) struct Asking {
+    /// A batch, 1 to 1,024.
+    pub(crate) batch: u32,
+    /// Whether children are shy: each asks for one event.
+    pub(crate) shy: bool,
+}
+
 // The ready versions that are picked, as many as there are places for `instances` and one more.
 fn picked(alloc: Global, core: &Core, chances: &Chances, instances: u32) -> Result<Vec<u64>, Memory>
     requires { instances ≤ 16 }
@@ -102,12 +111,13 @@ fn is_free(core: &Core, parent: &Version, held: &Version, batch: u32) -> bool
         || !consumes(core.plan())
 }
 
-// How many events a lease of a version asks for: a batch; but where its parent may keep from it what the parent
-// has yet to read, no event behind those that the parent has read, and eight at least. What the version reads
-// before its parent, and the parent then uses, lets it begin anew: early in its window that costs little.
-fn asked(core: &Core, id: u64, batch: u32) -> u32
+// How many events a lease of a version asks for: a batch; but a child one, where children are shy; and else, where
+// its parent may keep from it what the parent has yet to read, no event behind those that the parent has read, and
+// eight at least. What the version reads before its parent, and the parent then uses, lets it begin anew: early in
+// its window that costs little.
+fn asked(core: &Core, id: u64, batch: u32, shy: bool) -> u32
     requires some { 1 ≤ batch }
-    ensures count { result ≡ definitions.asked batch core.now id }
+    ensures count { result ≡ definitions.asked shy batch core.now id }
     ensures some { 1 ≤ result }
     ensures most { result ≤ batch }
 {
@@ -123,6 +133,9 @@ fn asked(core: &Core, id: u64, batch: u32) -> u32
     let Some(parent) = tree.get(above) else {
         return batch;
     };
+    if shy {
+        return 1;
+    }
     if is_free(core, parent, held, batch) {
         return batch;
     }
@@ -135,44 +148,44 @@ fn lend_all(
     alloc: Global,
     core: &mut Core,
     ids: &[u64],
-    batch: u32,
+    asking: Asking,
     kept: &mut VecDeque<Job>,
 ) -> Result<(), Memory>
-    requires some { 1 ≤ batch }
-    requires most { batch ≤ batch_limit }
+    requires some { 1 ≤ asking.batch }
+    requires most { asking.batch ≤ batch_limit }
     requires ready { AreReady core.old ids.now }
     requires apart { AreApart ids.now }
-    ensures lends { OnOk result (Lends batch ids.now core.old core.new) }
+    ensures lends { OnOk result (Lends asking.shy asking.batch ids.now core.old core.new) }
     ensures kept { OnOk result (length kept.new.items ≡ length kept.old.items + length ids.now) }
-    ensures part { (count : ℕ) × Lends batch (take count ids.now) core.old core.new }
+    ensures part { (count : ℕ) × Lends asking.shy asking.batch (take count ids.now) core.old core.new }
     ensures rising { (last : ℕ) → IsBelowKept last kept.old.items core.old.machine.next_ticket
         → IsBelowKept last kept.new.items core.new.machine.next_ticket }
 {
     for id in ids {
         law::known(core);
-        let count = asked(core, *id, batch);
+        let count = asked(core, *id, asking.batch, asking.shy);
         lend_one(alloc, core, *id, count, kept)?;
     }
     Ok(())
 }
 
 /// Leases the versions that are picked of the ready ones, until `instances + 1` tickets of live versions are out
-/// or none is ready, for `batch` events each or fewer, and keeps their jobs behind the others, one for each
+/// or none is ready, for a batch of events each or fewer, and keeps their jobs behind the others, one for each
 /// ticket.
 pub(crate) fn lend(
     alloc: Global,
     core: &mut Core,
     chances: &Chances,
     instances: u32,
-    batch: u32,
+    asking: Asking,
     kept: &mut VecDeque<Job>,
 ) -> Result<(), Memory>
     requires instances { instances ≤ 16 }
-    requires some { 1 ≤ batch }
-    requires most { batch ≤ batch_limit }
+    requires some { 1 ≤ asking.batch }
+    requires most { asking.batch ≤ batch_limit }
     requires settled { Settled core.old.plan core.old.machine }
     requires spread_out { IsSpreadOut core.old.plan core.old.bound instances core.old.machine }
-    ensures went { Went instances batch core.old core.new }
+    ensures went { Went instances asking.batch core.old core.new }
     ensures goes { OnOk result (Goes instances core.old core.new) }
     ensures emitted { NoneEmitted core.old core.new }
     ensures read { NoneRead core.old core.new }
@@ -185,10 +198,10 @@ pub(crate) fn lend(
     ensures lent { OnOk result (IsLentOut core.new.plan core.new.bound instances core.new.machine) }
     ensures kept { OnOk result (length kept.new.items + out_count core.old.machine
         ≡ length kept.old.items + out_count core.new.machine) }
-    ensures leases { OnOk result (Leases (share_of chances.now) instances batch core.old core.new) }
+    ensures leases { OnOk result (Leases (share_of chances.now) instances asking.batch core.old core.new) }
     ensures rising { (last : ℕ) → IsBelowKept last kept.old.items core.old.machine.next_ticket
         → IsBelowKept last kept.new.items core.new.machine.next_ticket }
 {
     let ids = picked(alloc, core, chances, instances)?;
-    lend_all(alloc, core, &ids, batch, kept)
+    lend_all(alloc, core, &ids, asking, kept)
 }

@@ -10,6 +10,7 @@ ghost use Rattle.sp_splitter.specs.Stages.{Goes, ReadOfCollected, StaysWithin, W
 ghost use Rattle.sp_splitter.specs.Turning.{Turned};
 
 use crate::gathering::gather;
+use crate::lending::Asking;
 use crate::posting::post_kept;
 use crate::turning::{guess_and_send, tidy};
 use crate::unheard::Unheard;
@@ -136,7 +137,8 @@ impl Splitter {
     /// One turn, in this order. Every piece that is home is given back, and learned from. Every version in
     /// conflict is rolled. Windows are finished while the root is done. A root is made where none is live and its
     /// window has begun. Children are made while fewer than `instances + 1` versions are out or ready. Versions
-    /// that are picked of the ready ones are leased, until as many tickets are out, and their jobs posted; a job
+    /// that are picked of the ready ones are leased, until as many tickets are out, and their jobs posted: where of late
+    /// nearly every piece of a root let all its children go, children for one event each; a job
     /// for which the hub has no room is kept, and one whose version is gone is given back. Answers what each
     /// window that was finished emits. The predictor is the same one, by its name. After want of memory the splitter is only to be read or dropped: the steps
     /// that were done stand in the journal, and some of what they emitted may be lost.
@@ -181,12 +183,16 @@ impl Splitter {
         let read = gather(rt, alloc, &mut self.core, predictor, hub, by)?;
         self.unheard.learn(read);
         let finished = tidy(alloc, &mut self.core)?;
+        let asking = Asking {
+            batch: self.batch,
+            shy: self.unheard.are_shy(),
+        };
         self.chances = guess_and_send(
             alloc,
             &mut self.core,
             predictor,
             self.instances,
-            self.batch,
+            asking,
             &mut self.kept,
         )?;
         post_kept(rt, hub, by, &mut self.kept, &mut self.unheard)?;

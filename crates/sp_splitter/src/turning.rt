@@ -15,7 +15,7 @@ use crate::breeding::breed;
 use crate::dropping::drop_stale;
 use crate::finishing::finish_all;
 use crate::guessing::guess;
-use crate::lending::lend;
+use crate::lending::{Asking, lend};
 use crate::planting::plant;
 use crate::rolling::roll_all;
 use sp_chance::{Chances, Predictor};
@@ -47,14 +47,14 @@ fn send_out(
     core: &mut Core,
     chances: &Chances,
     instances: u32,
-    batch: u32,
+    asking: Asking,
     kept: &mut VecDeque<Job>,
 ) -> Result<(), Memory>
     requires instances { instances ≤ 16 }
-    requires some { 1 ≤ batch }
-    requires most { batch ≤ batch_limit }
+    requires some { 1 ≤ asking.batch }
+    requires most { asking.batch ≤ batch_limit }
     requires settled { Settled core.old.plan core.old.machine }
-    ensures went { Went instances batch core.old core.new }
+    ensures went { Went instances asking.batch core.old core.new }
     ensures goes { OnOk result (Goes instances core.old core.new) }
     ensures emitted { NoneEmitted core.old core.new }
     ensures read { NoneRead core.old core.new }
@@ -64,14 +64,14 @@ fn send_out(
         → AreGuessed core.new.plan core.new.machine m (share_of chances.now)) }
     ensures wide { OnOk result (IsWide (share_of chances.now) instances core.new) }
     ensures lent { OnOk result (IsLentOut core.new.plan core.new.bound instances core.new.machine) }
-    ensures sent { OnOk result (SentOut (share_of chances.now) instances batch
+    ensures sent { OnOk result (SentOut (share_of chances.now) instances asking.batch
         core.old core.new kept.old.items kept.new.items) }
     ensures rising { (last : ℕ) → IsBelowKept last kept.old.items core.old.machine.next_ticket
         → IsBelowKept last kept.new.items core.new.machine.next_ticket }
 {
     breed(alloc, core, chances, instances)?;
     drop_stale(alloc, core, kept)?;
-    lend(alloc, core, chances, instances, batch, kept)?;
+    lend(alloc, core, chances, instances, asking, kept)?;
     Ok(())
 }
 
@@ -81,14 +81,14 @@ pub(crate) fn guess_and_send(
     core: &mut Core,
     predictor: &dyn Predictor,
     instances: u32,
-    batch: u32,
+    asking: Asking,
     kept: &mut VecDeque<Job>,
 ) -> Result<Chances, Memory>
     requires instances { instances ≤ 16 }
-    requires some { 1 ≤ batch }
-    requires most { batch ≤ batch_limit }
+    requires some { 1 ≤ asking.batch }
+    requires most { asking.batch ≤ batch_limit }
     requires settled { Settled core.old.plan core.old.machine }
-    ensures went { Went instances batch core.old core.new }
+    ensures went { Went instances asking.batch core.old core.new }
     ensures goes { OnOk result (Goes instances core.old core.new) }
     ensures emitted { NoneEmitted core.old core.new }
     ensures read { NoneRead core.old core.new }
@@ -97,12 +97,12 @@ pub(crate) fn guess_and_send(
         (means predictor.now) (share_of chances)) }
     ensures wide { IfOk result (λ chances. IsWide (share_of chances) instances core.new) }
     ensures lent { OnOk result (IsLentOut core.new.plan core.new.bound instances core.new.machine) }
-    ensures sent { IfOk result (λ chances. SentOut (share_of chances) instances batch
+    ensures sent { IfOk result (λ chances. SentOut (share_of chances) instances asking.batch
         core.old core.new kept.old.items kept.new.items) }
     ensures rising { (last : ℕ) → IsBelowKept last kept.old.items core.old.machine.next_ticket
         → IsBelowKept last kept.new.items core.new.machine.next_ticket }
 {
     let chances = guess(alloc, core, predictor)?;
-    send_out(alloc, core, &chances, instances, batch, kept)?;
+    send_out(alloc, core, &chances, instances, asking, kept)?;
     Ok(chances)
 }

@@ -1,17 +1,28 @@
 // How much work goes by before an instance is woken.
 ghost use Rattle.std.specs.Prelude.{◌≡◌};
 
+use sp_core::Core;
 use sp_piece::{Job, Piece};
 
 // So many visits are worth waking an instance: a visit, of an event at an open run, takes some 50 nanoseconds, so these take
 // twice as long as a thread takes to wake.
 const WORTH_WAKING: u64 = 2_048;
 
-/// How much pieces have read: events, and visits of events at open runs.
+// What a piece of a root counts among those of late, of which each turn in which one came home takes an eighth away: so
+// eight times as much is the most.
+const ONE_HOME: u64 = 256;
+
+// Fewer tell nothing yet.
+const SOME_HOMES: u64 = 4 * ONE_HOME;
+
+/// What came home in a turn: how much was read, in events and in visits of events at open runs; and how many pieces were
+/// a root's that had children, and of these how many let all the children go.
 #[derive(Clone, Copy, Drop)]
 pub(crate) struct Readings {
     events: u64,
     visits: u64,
+    homes: u64,
+    parted: u64,
 }
 
 impl Readings {
@@ -20,6 +31,8 @@ impl Readings {
         Readings {
             events: 0,
             visits: 0,
+            homes: 0,
+            parted: 0,
         }
     }
 
@@ -28,6 +41,14 @@ impl Readings {
         self.events = self.events.saturating_add(piece.read() as u64);
         for entry in piece.moves() {
             self.visits = self.visits.saturating_add(entry.wanted.count());
+        }
+    }
+
+    /// Takes in that a root's piece came home, which had children, and whether it has some still.
+    pub(crate) fn add_home(&mut self, core: &Core) {
+        self.homes = self.homes.saturating_add(ONE_HOME);
+        if core.tree().live() <= 1 {
+            self.parted = self.parted.saturating_add(ONE_HOME);
         }
     }
 
@@ -49,6 +70,16 @@ pub struct Unheard {
     lately: Readings,
 }
 
+/// Whether a piece is a root's that has children.
+pub(crate) fn has_children(core: &Core, piece: &Piece) -> bool {
+    core.tree().live() > 1 && core.tree().root() == Some(piece.job().version)
+}
+
+// What is left of a count once some came home: seven eighths, and all of it where none did.
+fn fading(count: u64, homes: u64) -> u64 {
+    if homes == 0 { count } else { count - count / 8 }
+}
+
 impl Unheard {
     /// As much as is worth waking for: the first job that can be told of is.
     pub fn new() -> Unheard {
@@ -61,13 +92,22 @@ impl Unheard {
 
     /// Takes in what came home in a turn.
     pub(crate) fn learn(&mut self, read: Readings) {
-        if read.events == 0 {
+        if read.events == 0 && read.homes == 0 {
             return;
         }
         self.lately = Readings {
             events: (self.lately.events / 2).saturating_add(read.events),
             visits: (self.lately.visits / 2).saturating_add(read.visits),
+            homes: fading(self.lately.homes, read.homes).saturating_add(read.homes),
+            parted: fading(self.lately.parted, read.homes).saturating_add(read.parted),
         };
+    }
+
+    /// Whether children are to be shy, as `asked` has it: of late nearly every piece of a root let all its children go,
+    /// so that what they read ahead of it is mostly lost.
+    pub(crate) fn are_shy(&self) -> bool {
+        let Readings { homes, parted, .. } = self.lately;
+        homes >= SOME_HOMES && parted >= homes - homes / 8
     }
 
     /// Whether the job that was taken in last is dear.
