@@ -57,7 +57,7 @@ impl<'a, L: Naming, R: Wait> Workplace for Seated<'a, L, R> {
         self.hub.put(self.rt, self.seat, piece);
     }
 
-    fn wait(&self) {
-        self.hub.wait_job(self.rt, self.seat);
+    fn wait(&self, looks: u32) {
+        self.hub.wait_job(self.rt, self.seat, looks);
     }
 }

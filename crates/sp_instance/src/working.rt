@@ -12,6 +12,21 @@ use std::sync::Wait;
 use std::thread;
 use std::thread::Threads;
 
+// So many visits of an event at an open run take about as long as a look for a job, half a microsecond.
+const VISITS_A_LOOK: u64 = 16;
+
+// The most that a seat looks for a job before it sleeps: for a fifth of a millisecond or so.
+const MOST_LOOKS: u64 = 400;
+
+// How often a seat looks for a job before it sleeps: for about as long as the piece took that it read last. A thread
+// takes some fifty microseconds to wake, so a sleep costs more than a cheap job, and looking costs no more than the
+// job did.
+fn looks_after(piece: &Piece) -> u32 {
+    let runs = piece.after().open_runs().len() as u64;
+    let visits = (piece.read() as u64).saturating_mul(runs);
+    (visits / VISITS_A_LOOK).min(MOST_LOOKS) as u32
+}
+
 /// Does the jobs of a place until none will come: each piece that was put is that of a job that was taken,
 /// read whole or given up for want of memory, in the order of taking, and none is left out. Waits where no
 /// job is there.
@@ -21,13 +36,15 @@ pub fn work_at<W: Workplace, G: Gate, R: Wait>(rt: &R, alloc: Global, place: &mu
     ensures over { W.over place.new ≡ true }
     ensures done { Worked (λ jobs pieces. W.did place.old jobs pieces place.new) }
 {
+    let mut looks = 0;
     for _ in rt.forever() {
         match place.take() {
             Taken::Job(job) => {
                 let piece = do_job_at(alloc, place.number(), job, gate);
+                looks = looks_after(&piece);
                 place.put(piece);
             }
-            Taken::Empty => place.wait(),
+            Taken::Empty => place.wait(looks),
             Taken::Closed => return,
         }
     }

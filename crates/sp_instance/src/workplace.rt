@@ -38,6 +38,6 @@ pub trait Workplace {
         ensures did { (from : Self) (jobs : List job.Job) (pieces : List Pieced)
             → did from jobs pieces self.old → did from jobs (pieces ++ piece ∷ []) self.new };
 
-    /// Returns once a job may be there, or none will come.
-    fn wait(&self);
+    /// Returns once a job may be there, or none will come. It may look so many times before it sleeps.
+    fn wait(&self, looks: u32);
 }

@@ -52,7 +52,7 @@ fn guess_version(
         return Ok(());
     };
     let events = coming(core, held);
-    ask_runs(predictor, &held.matcher, id, events, chances)
+    ask_runs(predictor, held.matcher.get(), id, events, chances)
 }
 
 // The chance of each open run of a version that has a group, where so many events may come.

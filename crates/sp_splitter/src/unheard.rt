@@ -137,7 +137,7 @@ impl Unheard {
     // begin many: as many are reckoned with as events met of late.
     fn reckoned(&self, job: &Job) -> u64 {
         let events = job.events.as_slice().len() as u64;
-        let runs = (job.before.open_runs().len() as u64).max(self.lately.runs());
+        let runs = (job.before.get().open_runs().len() as u64).max(self.lately.runs());
         events.saturating_mul(runs.saturating_add(1))
     }
 }

@@ -15,6 +15,9 @@ use std::thread;
 use std::thread::Threads;
 
 // How often one looks whether all who wait have come so far.
+// How often a seat looks for a job before it sleeps.
+const FEW_LOOKS: u32 = 8;
+
 const LOOKS: u32 = 500_000_000;
 
 // How often one looks on, so that they fall asleep meanwhile.
@@ -207,7 +210,7 @@ fn act<L: Naming, R: Wait + Abort>(rt: &R, hub: &Hub<Note, Note, L>, part: &mut 
             hub.close(rt, by);
         }
         Part::Put(seat) => put(rt, hub, seat),
-        Part::WaitJob(seat) => hub.wait_job(rt, seat),
+        Part::WaitJob(seat) => hub.wait_job(rt, seat, FEW_LOOKS),
         Part::WaitHome(by) => {
             assert!(rt; by.waiting() > 0);
             hub.wait_home(rt, by);
