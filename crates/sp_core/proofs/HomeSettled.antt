@@ -19,6 +19,11 @@ pub on_err : {A E : Type 0} (result : Result A E) (X : Type 0) → X → OnErr r
 on_err (Ok a) X x = tt
 on_err (Err e) X x = x
 
+-- of what holds where there is none nothing is asked after an error
+pub on_none : {A E : Type 0} (result : Result A E) (X : Type 0) (e : E) → result ≡ Err e → OnOk result X
+on_none (Ok a) X e is = absurd (cc)
+on_none (Err x) X e is = tt
+
 -- what follows from what holds follows after an error, and after none
 pub over_ok : {A E : Type 0} (result : Result A E) (X Y : Type 0) → (X → Y) → OnOk result X → OnOk result Y
 over_ok (Ok a) X Y f x = f x

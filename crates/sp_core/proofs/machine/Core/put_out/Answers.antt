@@ -1,4 +1,5 @@
 use Rattle.std.proofs.Common.{◌≡◌, ◌++◌, ◌∷◌, [], List, None, map, sym, ap, subst, ◌∙◌, arith, true, if◌then◌else◌}
+use Rattle.std.proofs.lemmas.Result.{err_from_is_err_and}
 use Rattle.std.specs.Result.{is_ok}
 use Rattle.sp_group.specs.declared.step.Step.TheVariants as s
 use Rattle.sp_group.specs.declared.step.Entry.{Entry}
@@ -8,7 +9,7 @@ use Rattle.sp_core.specs.Leasing.{IsLent}
 use Rattle.sp_core.specs.Rooms.{room}
 use Rattle.sp_core.specs.Running.{Running, after, once, refused}
 use Rattle.sp_core.specs.Holding.{holding, machine_of, running}
-use Rattle.sp_core.proofs.HomeSettled.{on_err}
+use Rattle.sp_core.proofs.HomeSettled.{on_err, on_none}
 use Rattle.sp_core.proofs.Leased.{leases, core_leased, running_leased}
 use Rattle.sp_core.proofs.machine.Core.put_out.Goals as goal
 
@@ -53,3 +54,8 @@ returns-in_err-reserve-clause-err c =
     (ap (λ (ts : List Lent). record (running h) { journal = c.make_room.new.journal.items; machine = record (machine_of h) { tickets = map ticket_of ts } }) c.reserve.ensures.items
     ∙ ap (λ (es : List Entry). record (running h) { journal = es }) c.make_room.ensures.items
     ∙ c.self.view_is ∙ c.job.ensures.same)
+
+pub returns-in_err-reserve-clause-ok : goal.returns-in_err-reserve-clause-ok
+returns-in_err-reserve-clause-ok c =
+    let failed = err_from_is_err_and c.from_residual-in_err-reserve.result c.from_residual-in_err-reserve.ensures.1 in
+    on_none _ _ failed.0 failed.1
