@@ -52,7 +52,8 @@ fn guess_version(
         return Ok(());
     };
     let events = coming(core, held);
-    ask_runs(predictor, held.matcher.get(), id, events, chances)
+    let matcher = held.matcher.get();
+    ask_runs(predictor, matcher, id, events, chances)
 }
 
 // The chance of each open run of a version that has a group, where so many events may come.

@@ -1,7 +1,9 @@
-use Rattle.std.proofs.Common.{subst}
+use Rattle.std.proofs.Common.{subst, sym}
 use Rattle.std.proofs.lemmas.Result.{on_ok_weaker}
 use Rattle.sp_plan.specs.Compiled.{IsCompiled}
+use Rattle.sp_match.specs.public.Matching.{Matching}
 use Rattle.sp_chance.specs.Shares.{share_of}
+use Rattle.sp_splitter.specs.Asking.{AreAsked, AreNumbered}
 use Rattle.sp_splitter.proofs.Guessed.{gone_guessed, held_begun, held_numbered, held_guessed}
 use Rattle.sp_splitter.proofs.guessing.guess_version.Goals as goal
 
@@ -14,12 +16,16 @@ coming-events-requires g c = record { begun = held_begun c.args.core.now c.finis
 pub ask_runs-requires : goal.ask_runs-requires
 ask_runs-requires g c =
     record {
-      numbered = held_numbered c.args.core.now (subst IsCompiled c.plan.ensures.plan c.plan.ensures.compiled) c.versions_have_groups.ensures c.tree.result.now c.tree.ensures c.args.id c.in-Some.held.now c.in-Some.ensures;
+      numbered = subst (λ (m : Matching). AreNumbered m.open_runs) (sym c.get-matcher.ensures)
+          (held_numbered c.args.core.now (subst IsCompiled c.plan.ensures.plan c.plan.ensures.compiled) c.versions_have_groups.ensures c.tree.result.now c.tree.ensures c.args.id c.in-Some.held.now c.in-Some.ensures);
     }
 
 pub returns-clause-guessed : goal.returns-clause-guessed
 returns-clause-guessed g c =
+    let means = (goal.Predictor-dyn g c.args.predictor.now).means c.args.predictor.now.1 in
+    let shares = share_of c.ask_runs.new.chances in
     on_ok_weaker c.ask_runs.result
-    (held_guessed c.args.core.now (subst IsCompiled c.plan.ensures.plan c.plan.ensures.compiled) c.versions_have_groups.ensures c.tree.result.now c.tree.ensures c.args.id c.in-Some.held.now c.in-Some.ensures
-    ((goal.Predictor-dyn g c.args.predictor.now).means c.args.predictor.now.1) c.coming-events.result (share_of c.ask_runs.new.chances) c.coming-events.ensures)
+    (λ asked. held_guessed c.args.core.now (subst IsCompiled c.plan.ensures.plan c.plan.ensures.compiled) c.versions_have_groups.ensures c.tree.result.now c.tree.ensures c.args.id c.in-Some.held.now c.in-Some.ensures
+    means c.coming-events.result shares c.coming-events.ensures
+    (subst (λ (m : Matching). AreAsked m means c.coming-events.result (shares c.args.id)) c.get-matcher.ensures asked))
     c.ask_runs.ensures.asked
