@@ -113,7 +113,9 @@ impl Wants {
         ensures err { OnErr result (self.new ≡ self.old) }
         ensures err_other { OnErr result (other.new ≡ other.old) }
     {
-        self.stretches.append(&mut other.stretches)
+        self.stretches.extend_from_slice(&other.stretches)?;
+        other.stretches.clear();
+        Ok(())
     }
 
     /// Adds another list behind this one, so many times. After want of memory all is as before.
