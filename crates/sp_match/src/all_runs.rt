@@ -1,5 +1,5 @@
 // All open runs at once: copied, and compared.
-ghost use Rattle.std.specs.Prelude.{◌≡◌, ◌↔◌, map, IsTrue, IfOk};
+ghost use Rattle.std.specs.Prelude.{◌≡◌, ◌≤◌, ◌↔◌, length, map, IsTrue, IfOk, OnOk};
 ghost use Rattle.std.specs.List.{All};
 ghost use Rattle.sp_plan.specs.declared.plan.Plan.{Plan};
 ghost use Rattle.sp_match.specs.inside.Kept.{kept, all_kept, started};
@@ -7,6 +7,7 @@ ghost use Rattle.sp_match.specs.inside.Good.{Good};
 
 use crate::Memory;
 use crate::run::Run;
+use crate::stock::Stock;
 use std::alloc::Global;
 
 /// The same runs once more.
@@ -18,6 +19,61 @@ pub(crate) fn copies(alloc: Global, runs: &[Run]) -> Result<Vec<Run>, Memory>
         copies.push(run.copy(alloc)?)?;
     }
     Ok(copies)
+}
+
+// Those of the runs that stand at this place or behind it end, and leave their rooms to later ones where there is room
+// for them. Takes no memory.
+fn end_behind(count: usize, runs: &mut Vec<Run>, stock: &mut Stock)
+    ensures { length runs.new.items ≤ count }
+{
+    while runs.len() > count {
+        if let Some(run) = runs.pop() {
+            stock.keep(run);
+        }
+    }
+}
+
+// There are so many runs, whichever they are, where there weren't more: those that are missing have bound no event, and
+// take the rooms of those that ended.
+fn fill_up(
+    alloc: Global,
+    count: usize,
+    runs: &mut Vec<Run>,
+    stock: &mut Stock,
+) -> Result<(), Memory>
+    requires { length runs.old.items ≤ count }
+    ensures { OnOk result (length runs.new.items ≡ count) }
+{
+    while runs.len() < count {
+        runs.push(stock.run(alloc, 0, count))?;
+    }
+    Ok(())
+}
+
+// Each run is the same as the other one at its place.
+fn copy_each(alloc: Global, others: &[Run], runs: &mut [Run]) -> Result<(), Memory>
+    requires { length runs.old ≡ length others.now }
+    ensures { OnOk result (all_kept runs.new ≡ all_kept others.now) }
+{
+    for at in 0..others.len() {
+        runs[at].copy_from(alloc, &others[at])?;
+    }
+    Ok(())
+}
+
+/// The same runs as others, in the rooms of these and of those that ended. What isn't used of these rooms is left to later
+/// runs where there is room for it.
+pub(crate) fn copy_all(
+    alloc: Global,
+    others: &[Run],
+    runs: &mut Vec<Run>,
+    stock: &mut Stock,
+) -> Result<(), Memory>
+    ensures { OnOk result (all_kept runs.new.items ≡ all_kept others.now) }
+{
+    end_behind(others.len(), runs, stock);
+    fill_up(alloc, others.len(), runs, stock)?;
+    copy_each(alloc, others, runs)
 }
 
 // Whether two pairs of a name and a number are equal.

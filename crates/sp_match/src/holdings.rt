@@ -11,7 +11,7 @@ ghost use Rattle.sp_plan.specs.Runs.{bound_events};
 ghost use Rattle.sp_plan.specs.Values.{BoundEvents};
 ghost use Rattle.sp_match.specs.inside.Kept.{Kept, all_kept, kept, pairs};
 ghost use Rattle.sp_match.specs.inside.Good.{Good};
-ghost use Rattle.sp_match.specs.inside.Takers.{AreAlike, AreGrown, AreHeld, GoesOn, IsHeld, columns_under, is_wanted, reads_of, run_in};
+ghost use Rattle.sp_match.specs.inside.Takers.{AreAlike, AreGrown, AreHeld, GoesOn, IsHeld, columns_of, columns_under, is_wanted, masks_of, reads_of, run_in};
 ghost use Rattle.sp_match.specs.inside.Going.{IsIdle};
 ghost use Rattle.sp_match.specs.inside.Offer.{IsOffer};
 ghost use Rattle.sp_match.specs.inside.Takers as takers;
@@ -175,6 +175,24 @@ fn keep_run(
     Ok(())
 }
 
+// What is kept of each name once more, in a room that is used again.
+fn copy_names(alloc: Global, names: &[Holding], copies: &mut Vec<Holding>) -> Result<(), Memory>
+    ensures masks { OnOk result (masks_of copies.new.items ≡ masks_of names.now) }
+    ensures columns { OnOk result (columns_of copies.new.items ≡ columns_of names.now) }
+    ensures reads { OnOk result (reads_of copies.new.items ≡ reads_of names.now) }
+{
+    copies.clear();
+    copies.reserve(names.len())?;
+    for name in names {
+        copies.push_reserved(Holding {
+            wanting: name.wanting,
+            columns: HeldColumn::copies(alloc, &name.columns)?,
+            is_read: name.is_read,
+        });
+    }
+    Ok(())
+}
+
 impl Holdings {
     // Nothing is kept. Takes no memory.
     pub(crate) fn new(alloc: Global) -> Holdings
@@ -216,6 +234,15 @@ impl Holdings {
         ensures { self.new.is_fresh ≡ false }
     {
         self.is_fresh = false;
+    }
+
+    // What is kept is what others keep, where that is fresh: else, and after want of memory, it isn't so any more.
+    pub(crate) fn copy_from(&mut self, alloc: Global, others: &Holdings)
+        ensures { (q : Plan) (rs : List definitions.Run) → IsHeld q rs others.now
+            → IsHeld q rs self.new }
+    {
+        self.is_fresh = others.is_fresh
+            && copy_names(alloc, &others.names, &mut self.names).is_ok();
     }
 
     // An event was handled, when so many runs were open: what is kept stays fresh where all of them stay, and follows

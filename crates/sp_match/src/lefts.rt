@@ -1,6 +1,7 @@
 // What the open runs want, as it is kept from one event to the next.
 ghost use Rattle.std.specs.Prelude.{◌≡◌, ◌≤◌, ◌&&◌, false, List, [], length, take, IsFalse, OnOk};
 ghost use Rattle.std.specs.List.{All};
+ghost use Rattle.sp_plan.specs.declared.plan.Plan.{Plan};
 ghost use Rattle.sp_plan.specs.Compiled.{IsCompiled};
 ghost use Rattle.sp_match.specs.inside.Kept.{Kept, all_kept};
 ghost use Rattle.sp_match.specs.inside.Good.{Good};
@@ -21,6 +22,14 @@ pub(crate) struct Lefts {
     pub(crate) wants: Wants,
 }
 
+// The same as others, in the room of these.
+fn copy_wants(wants: &mut Wants, others: &Wants) -> Result<(), Memory>
+    ensures { OnOk result (wants.new ≡ others.now) }
+{
+    wants.clear();
+    wants.extend_times(others, 1)
+}
+
 impl Lefts {
     // Nothing is kept. Takes no memory.
     pub(crate) fn new(alloc: Global) -> Lefts
@@ -37,6 +46,13 @@ impl Lefts {
         ensures { self.new.is_fresh ≡ false }
     {
         self.is_fresh = false;
+    }
+
+    // What is kept is what another keeps, where that is fresh: else, and after want of memory, it isn't so any more.
+    pub(crate) fn copy_from(&mut self, other: &Lefts)
+        ensures { (q : Plan) (ks : List Kept) → AreLeft q ks other.now → AreLeft q ks self.new }
+    {
+        self.is_fresh = other.is_fresh && copy_wants(&mut self.wants, &other.wants).is_ok();
     }
 
     // What is kept is fresh from now on.

@@ -8,7 +8,7 @@ ghost use Rattle.sp_match.specs.public.Seen.{all_seen, seen_run};
 ghost use Rattle.sp_wants.specs.Stretches.{repeated};
 
 use crate::Memory;
-use crate::all_runs::{copies, same_runs};
+use crate::all_runs::{copies, copy_all, same_runs};
 use crate::handling::handle_all;
 use crate::holdings::Holdings;
 use crate::known::Known;
@@ -186,6 +186,7 @@ impl Matcher {
 
     /// Handles the next visible event, of which this is known, as `offer_into` does, but tells what the runs
     /// want only where that is WANTED. After want of memory the matcher is as before, and there are no moves.
+    #[inline(always)]
     pub fn offer_known<const WANTED: bool>(
         &mut self,
         alloc: Global,
@@ -325,7 +326,7 @@ impl Matcher {
     {
         let mut moves = Moves::new(alloc);
         abandon_all(&self.runs, &mut moves.list)?;
-        self.runs.clear();
+        end_all(&mut self.runs, &mut self.stock);
         self.holdings.forget();
         self.lefts.forget();
         Ok(moves)
@@ -344,6 +345,19 @@ impl Matcher {
             holdings: Holdings::new(alloc),
             takers: Takers::new(alloc),
         })
+    }
+
+    /// The same matcher once more, as `copy` makes it, in the rooms of one that served before, of whatever plan. What
+    /// is left over of the rooms serves later runs.
+    pub fn copy_in(&self, alloc: Global, mut rooms: Matcher) -> Result<Matcher, Memory>
+        ensures { IfOk result (λ m. m ≡ self.now) }
+    {
+        rooms.plan = Arc::try_clone(&self.plan)?;
+        copy_all(alloc, &self.runs, &mut rooms.runs, &mut rooms.stock)?;
+        rooms.count = self.count;
+        rooms.lefts.copy_from(&self.lefts);
+        rooms.holdings.copy_from(alloc, &self.holdings);
+        Ok(rooms)
     }
 
     /// Whether both have the same open runs, with equal events, and as many runs have started. The plans

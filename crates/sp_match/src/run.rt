@@ -9,6 +9,7 @@ ghost use Rattle.sp_match.specs.declared.run.Fate.TheVariants.{Stays};
 
 use crate::Memory;
 use sp_base::Numbers;
+use sp_base::law::rising_same;
 use sp_plan::{Binds, Bound, Element, SharedEvent};
 use std::alloc::Global;
 
@@ -72,6 +73,19 @@ fn make_room(used: &mut Numbers, consumed: bool) -> Result<(), Memory>
     ensures room { OnOk result (IsTrue consumed → 0 < used.new.spare) }
 {
     if consumed { used.reserve(1) } else { Ok(()) }
+}
+
+// The same numbers as others, in the room of these.
+fn copy_numbers(alloc: Global, numbers: &mut Numbers, others: &Numbers) -> Result<(), Memory>
+    ensures { OnOk result (numbers.new.list ≡ others.now.list) }
+{
+    // Lists that rise are equal where they have the same numbers.
+    rising_same();
+    numbers.clear();
+    if others.list().is_empty() {
+        return Ok(());
+    }
+    numbers.union(alloc, others)
 }
 
 impl Run {
@@ -238,15 +252,24 @@ impl Run {
     pub(crate) fn copy(&self, alloc: Global) -> Result<Run, Memory>
         ensures { IfOk result (λ run. kept run ≡ kept self.now) }
     {
-        Ok(Run {
-            number: self.number,
-            bound: self.bound.as_slice().to_vec(alloc)?,
-            used: self.used.copy(alloc)?,
-            events: self.events.copy(alloc)?,
-            names: self.names,
-            bound_names: self.bound_names,
-            ahead: self.ahead,
-            fate: self.fate,
-        })
+        let mut run = Run::new(alloc, self.number);
+        run.copy_from(alloc, self)?;
+        Ok(run)
+    }
+
+    // The same run as another, in the rooms of this one.
+    pub(crate) fn copy_from(&mut self, alloc: Global, other: &Run) -> Result<(), Memory>
+        ensures { OnOk result (kept self.new ≡ kept other.now) }
+    {
+        self.number = other.number;
+        self.bound.clear();
+        self.bound.extend_from_slice(&other.bound)?;
+        copy_numbers(alloc, &mut self.used, &other.used)?;
+        self.events.copy_from(&other.events)?;
+        self.names = other.names;
+        self.bound_names = other.bound_names;
+        self.ahead = other.ahead;
+        self.fate = other.fate;
+        Ok(())
     }
 }

@@ -129,6 +129,15 @@ impl Bound {
         })
     }
 
+    /// The same events as those of another, in the rooms of this one. No event is copied. After want of memory none
+    /// is bound.
+    pub fn copy_from(&mut self, other: &Bound) -> Result<(), Memory>
+        ensures ok { OnOk result (self.new ≡ other.now) }
+        ensures err { OnErr result (self.new ≡ []) }
+    {
+        self.pairs.copy_from(&other.pairs)
+    }
+
     /// Whether the same events are bound to the same names in the same order. Takes no memory.
     pub fn same(&self, other: &Bound) -> bool
         ensures { IsTrue result ↔ (self.now ≡ other.now) }

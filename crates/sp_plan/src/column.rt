@@ -1,5 +1,5 @@
 // What a held side comes to for each of some runs.
-ghost use Rattle.std.specs.Prelude.{◌≡◌, ℕ, ◌<◌, ◌≤◌, length, pos, slice_index_or, int_le, int_lt, vec_len, OnErr, OnOk};
+ghost use Rattle.std.specs.Prelude.{◌≡◌, ℕ, ◌<◌, ◌≤◌, length, pos, slice_index_or, int_le, int_lt, vec_len, IfOk, OnErr, OnOk};
 ghost use Rattle.std.specs.Ordering.{int_eq};
 ghost use Rattle.sp_plan.specs.Held.{IsInside, put};
 ghost use Rattle.sp_plan.specs.Masks.{has};
@@ -7,6 +7,7 @@ ghost use Rattle.sp_plan.specs.Values;
 
 use crate::masks::{below, equal};
 use crate::{Compare, Memory};
+use std::alloc::Global;
 use std::marker::Model;
 
 /// What a held side comes to for each of at most 64 runs, in their order. Contracts see the list. Beside it
@@ -59,6 +60,28 @@ impl HeldColumn {
             least,
             greatest,
         }
+    }
+
+    /// The same columns once more.
+    pub fn copies(alloc: Global, columns: &[HeldColumn]) -> Result<Vec<HeldColumn>, Memory>
+        ensures { IfOk result (λ copies. copies.items ≡ columns.now) }
+    {
+        let mut copies = Vec::with_capacity(alloc, columns.len())?;
+        for column in columns {
+            copies.push_reserved(column.copy(alloc)?);
+        }
+        Ok(copies)
+    }
+
+    // The same column once more.
+    fn copy(&self, alloc: Global) -> Result<HeldColumn, Memory>
+        ensures { IfOk result (λ column. column ≡ self.now) }
+    {
+        Ok(HeldColumn {
+            values: self.values.as_slice().to_vec(alloc)?,
+            least: self.least,
+            greatest: self.greatest,
+        })
     }
 
     // The run at this place has this value from now on; it may be one more run, behind the others. Takes memory for

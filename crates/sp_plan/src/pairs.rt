@@ -59,22 +59,24 @@ impl Page {
     }
 }
 
-// The pages once more.
-fn shared_pages(alloc: Global, pages: &[Page]) -> Result<Vec<Page>, Memory>
-    ensures { IfOk result (λ shared. shared.items ≡ pages.now) }
+// The pages once more, in a room that is used again.
+fn share_pages(shared: &mut Vec<Page>, pages: &[Page]) -> Result<(), Memory>
+    ensures { OnOk result (shared.new.items ≡ pages.now) }
 {
-    let mut shared = Vec::with_capacity(alloc, pages.len())?;
+    shared.clear();
+    shared.reserve(pages.len())?;
     for page in pages {
         shared.push_reserved(page.share()?);
     }
-    Ok(shared)
+    Ok(())
 }
 
-// The pairs once more.
-fn shared_pairs(alloc: Global, pairs: &[Pair]) -> Result<Vec<Pair>, Memory>
-    ensures { IfOk result (λ shared. shared.items ≡ pairs.now) }
+// The pairs once more, in a room that is used again.
+fn share_pairs(shared: &mut Vec<Pair>, pairs: &[Pair]) -> Result<(), Memory>
+    ensures { OnOk result (shared.new.items ≡ pairs.now) }
 {
-    let mut shared = Vec::with_capacity(alloc, pairs.len())?;
+    shared.clear();
+    shared.reserve(pairs.len())?;
     for pair in pairs {
         shared.push_reserved(Pair {
             name: pair.name,
@@ -82,7 +84,7 @@ fn shared_pairs(alloc: Global, pairs: &[Pair]) -> Result<Vec<Pair>, Memory>
             event: pair.event.share()?,
         });
     }
-    Ok(shared)
+    Ok(())
 }
 
 // A list of pairs that grows and shrinks at its end. Its first pairs stand in pages, which its copies
@@ -250,10 +252,26 @@ impl Pairs {
     pub(crate) fn copy(&self, alloc: Global) -> Result<Pairs, Memory>
         ensures { IfOk result (λ pairs. pairs ≡ self.now) }
     {
-        Ok(Pairs {
-            pages: shared_pages(alloc, &self.pages)?,
-            paged: self.paged,
-            tail: shared_pairs(alloc, &self.tail)?,
-        })
+        let mut pairs = Pairs::new(alloc);
+        pairs.copy_from(self)?;
+        Ok(pairs)
+    }
+
+    // The same pairs as those of another list, in the rooms of this one. No page is copied, and no event. After want of
+    // memory there is none.
+    pub(crate) fn copy_from(&mut self, other: &Pairs) -> Result<(), Memory>
+        ensures ok { OnOk result (self.new ≡ other.now) }
+        ensures err { OnErr result (self.new ≡ []) }
+    {
+        if share_pages(&mut self.pages, &other.pages).is_ok()
+            && share_pairs(&mut self.tail, &other.tail).is_ok()
+        {
+            self.paged = other.paged;
+            return Ok(());
+        }
+        self.pages.clear();
+        self.paged = 0;
+        self.tail.clear();
+        Err(AllocError)
     }
 }
