@@ -8,7 +8,7 @@ use crate::news::News;
 use crate::{Lent, Memory};
 use sp_base::Numbers;
 use sp_group::Entry;
-use sp_match::Known;
+use sp_match::{Known, Matcher};
 use sp_plan::{Event, Match, Plan};
 use sp_tree::Tree;
 use sp_version::Version;
@@ -37,6 +37,8 @@ pub struct Core {
     pub(crate) journal: Vec<Entry>,
     // What came home since no version was in conflict.
     pub(crate) news: Vec<News>,
+    // The matcher of a window that is finished, whose rooms the next version uses.
+    pub(crate) worn: Option<Matcher>,
 }
 
 impl Model for Core {
@@ -84,6 +86,7 @@ impl Core {
             next_ticket: 1,
             journal,
             news: Vec::new(alloc),
+            worn: None,
         })
     }
 }

@@ -103,7 +103,8 @@ impl Core {
         };
         let entered = label.copy(alloc)?;
         make_room(&mut self.journal, self.tree.live())?;
-        let version = Version::new(alloc, self.plan.clone()?, window, place.first)?;
+        let plan = self.plan.clone()?;
+        let version = Version::new(alloc, plan, window, place.first, self.worn.take())?;
         let Ok(id) = self.tree.add(alloc, parent, label, version) else {
             return Err(AllocError);
         };

@@ -2,7 +2,6 @@
 use denote.Param.Send.{IsSend, recorded_send, struct_send, sendable}
 use denote.Struct.Declared.{shape}
 use Rattle.std.proofs.Crossing.{crosses}
-use Rattle.std.proofs.option.Option.TheSendSync as option
 use Rattle.sp_base.proofs.numbers.Numbers.TheSendSync as numbers
 use Rattle.sp_plan.proofs.event.Event.TheSendSync as event
 use Rattle.sp_plan.proofs.Listed.TheSendSync as listed
@@ -10,6 +9,7 @@ use Rattle.sp_match.proofs.known.Known.TheSendSync as known
 use Rattle.sp_match.proofs.moves.Moves.TheSendSync as moves
 use Rattle.sp_share.proofs.Crossing.{matcher_sent, shared_sent}
 use Rattle.sp_piece.specs.contracts.job.Job as job
+use Rattle.sp_piece.specs.contracts.own.Own as own
 use Rattle.sp_piece.specs.contracts.piece.Piece as piece
 use Rattle.sp_piece.specs.contracts.piece.Piece.TheInside as inside
 
@@ -19,10 +19,13 @@ job_kept = search (shared_sent, listed.the_send, event.the_send, known.the_field
 pub job_sent : IsSend job.the_row
 job_sent = search (shared_sent, listed.the_send, event.the_send, known.the_field_send, numbers.the_send, sendable, crosses) depth 30
 
+own_kept : IsSend own.the_field.row
+own_kept = search (matcher_sent, sendable, crosses) depth 30
+
 inside_sent : IsSend inside.the_row
 inside_sent =
     recorded_send _ _ _ inside.the_type.to_one (struct_send (shape inside.the_type)
-    (job_kept, (option.the_field_send _ matcher_sent, (search (moves.the_send, sendable, crosses) depth 30, (search sendable, (search sendable, (search sendable, tt)))))))
+    (job_kept, (own_kept, (search (moves.the_send, sendable, crosses) depth 30, (search sendable, (search sendable, (search sendable, tt)))))))
 
 pub piece_sent : IsSend piece.the_row
 piece_sent = search (inside_sent, sendable) depth 30

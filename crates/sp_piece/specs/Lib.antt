@@ -2,4 +2,5 @@ pub mod Lending
 pub mod Reading
 pub mod Pieced
 pub mod Keeping
+pub mod Begun
 pub mod Alike

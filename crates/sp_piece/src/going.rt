@@ -1,5 +1,5 @@
 // How a matcher and what is told of it go on.
-ghost use Rattle.std.specs.Prelude.{◌≡◌, ◌+◌, [], ◌++◌, true, Some, OnOk, OnErr, IsTrue, IsFalse, map};
+ghost use Rattle.std.specs.Prelude.{◌≡◌, ◌+◌, [], ◌++◌, true, OnOk, OnErr, IsTrue, IsFalse, map};
 ghost use Rattle.sp_plan.specs.Events.{fits};
 ghost use Rattle.sp_match.specs.public.Known.{IsKnown};
 ghost use Rattle.sp_match.specs.public.Laws.{Below};
@@ -9,6 +9,7 @@ ghost use Rattle.sp_piece.specs.Keeping.{ClosedOff, HandledOn, TellsOn, TellsSam
 ghost use Rattle.sp_wants.specs.Stretches.{repeated};
 
 use crate::Memory;
+use crate::own::{Own, Place};
 use crate::telling::Telling;
 use sp_match::{Known, Matcher, Moves};
 use sp_plan::Event;
@@ -23,27 +24,6 @@ pub(crate) struct Next<'a> {
     pub(crate) known: Known,
     /// Whether what the open runs want is told.
     pub(crate) wants: bool,
-}
-
-/// The matcher that goes on: the one before until there is another.
-pub(crate) fn led<'a>(matcher: &'a Option<Matcher>, before: &'a Matcher) -> &'a Matcher
-    ensures { result.now ≡ current matcher.now before.now }
-{
-    match matcher {
-        Some(matcher) => matcher,
-        None => before,
-    }
-}
-
-// Sees to it that there is a matcher that goes on: where there is none, a copy of the one before.
-fn begin(alloc: Global, matcher: &mut Option<Matcher>, before: &Matcher) -> Result<(), Memory>
-    ensures there { OnOk result (matcher.new ≡ Some (current matcher.old before.now)) }
-    ensures err { OnErr result (matcher.new ≡ matcher.old) }
-{
-    if matcher.is_none() {
-        *matcher = Some(before.copy(alloc)?);
-    }
-    Ok(())
 }
 
 /// What the open runs want where so many events change nothing comes behind what the last entry tells, where that is
@@ -100,7 +80,7 @@ fn offer(alloc: Global, led: &mut Matcher, room: &mut Moves, next: &Next) -> Res
 // it stands for what it did.
 fn offer_event(
     alloc: Global,
-    matcher: &mut Option<Matcher>,
+    matcher: &mut Own,
     telling: &mut Telling,
     before: &Matcher,
     next: &Next,
@@ -118,8 +98,10 @@ fn offer_event(
 {
     telling.begin(alloc)?;
     telling.entries.reserve(1)?;
-    begin(alloc, matcher, before)?;
-    let Some(led) = matcher else { unreachable!() };
+    matcher.begin(alloc, before)?;
+    let Place::Begun(led) = &mut matcher.place else {
+        unreachable!()
+    };
     offer(alloc, led, &mut telling.room, next)?;
     telling.take_in(alloc);
     Ok(())
@@ -130,7 +112,7 @@ fn offer_event(
 /// did, and no more is told than before.
 pub(crate) fn handle_event(
     alloc: Global,
-    matcher: &mut Option<Matcher>,
+    matcher: &mut Own,
     telling: &mut Telling,
     before: &Matcher,
     next: &Next,
@@ -146,7 +128,7 @@ pub(crate) fn handle_event(
     ensures err_moves { OnErr result
         (TellsSame telling.old.entries.items telling.new.entries.items) }
 {
-    let so_far = led(matcher, before);
+    let so_far = matcher.led(before);
     if so_far.ignores(next.known) {
         return add_wanted(alloc, so_far, next.wants, 1, telling);
     }
@@ -157,7 +139,7 @@ pub(crate) fn handle_event(
 /// nothing is. After want of memory the matcher stands for what it did, and no more is told than before.
 pub(crate) fn handle_closing(
     alloc: Global,
-    matcher: &mut Option<Matcher>,
+    matcher: &mut Own,
     telling: &mut Telling,
     before: &Matcher,
 ) -> Result<(), Memory>
@@ -167,12 +149,14 @@ pub(crate) fn handle_closing(
     ensures err_moves { OnErr result
         (TellsSame telling.old.entries.items telling.new.entries.items) }
 {
-    if led(matcher, before).open_runs().is_empty() {
+    if matcher.led(before).open_runs().is_empty() {
         return Ok(());
     }
     telling.entries.reserve(1)?;
-    begin(alloc, matcher, before)?;
-    let Some(led) = matcher else { unreachable!() };
+    matcher.begin(alloc, before)?;
+    let Place::Begun(led) = &mut matcher.place else {
+        unreachable!()
+    };
     let told = led.close(alloc)?;
     telling.entries.push_reserved(told);
     Ok(())

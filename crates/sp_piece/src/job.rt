@@ -5,7 +5,7 @@ ghost use Rattle.sp_piece.specs.Reading as reading;
 
 use sp_base::Numbers;
 use sp_hub::Named;
-use sp_match::Known;
+use sp_match::{Known, Matcher};
 use sp_plan::{Event, Listed, Plan};
 use sp_share::Shared;
 
@@ -45,11 +45,23 @@ pub struct Job {
 }
 
 impl Job {
-    // The same, without the matcher that served its own before.
-    pub(crate) fn shed(self) -> Job
-        ensures { result ≡ self }
+    // The same, and the matcher that served its own before, which is taken out of it.
+    pub(crate) fn shed(self) -> (Job, Option<Matcher>)
+        ensures { result.0 ≡ self }
     {
         let Job {
+            ticket,
+            version,
+            first,
+            mut before,
+            events,
+            known,
+            snapshot,
+            closes,
+            wants,
+        } = self;
+        let worn = before.take_worn();
+        let job = Job {
             ticket,
             version,
             first,
@@ -59,18 +71,8 @@ impl Job {
             snapshot,
             closes,
             wants,
-        } = self;
-        Job {
-            ticket,
-            version,
-            first,
-            before: before.shed(),
-            events,
-            known,
-            snapshot,
-            closes,
-            wants,
-        }
+        };
+        (job, worn)
     }
 }
 

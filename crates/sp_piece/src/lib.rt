@@ -6,6 +6,7 @@
 mod going;
 mod job;
 pub mod law;
+mod own;
 mod piece;
 mod reading;
 mod stepped;

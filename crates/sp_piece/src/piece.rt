@@ -5,7 +5,8 @@ ghost use Rattle.sp_piece.specs.Pieced.{LedTo, StepsLead, Tells, after_step, ans
 ghost use Rattle.sp_piece.specs.Keeping.{HasReadOn};
 ghost use Rattle.sp_piece.specs.declared.stepped.Stepped.TheVariants as s;
 
-use crate::going::{handle_closing, led};
+use crate::going::handle_closing;
+use crate::own::Own;
 use crate::reading::{read_all, read_next};
 use crate::telling::Telling;
 use crate::{Job, Memory, Stepped};
@@ -20,8 +21,8 @@ use std::marker::Model;
 #[derive(Drop)]
 pub struct Piece {
     job: Job,
-    // where the reading has led to; None until the first event is handled
-    matcher: Option<Matcher>,
+    // where the reading has led to; none until the first event is handled that may change something
+    matcher: Own,
     telling: Telling,
     read: u32,
     closed: bool,
@@ -48,13 +49,15 @@ impl Model for Piece {
 }
 
 impl Piece {
-    /// A piece that has read nothing. Takes no memory. What served the job's matcher before is let go.
+    /// A piece that has read nothing. Takes no memory. In the rooms of what served the job's matcher before it makes its
+    /// own.
     pub fn start(alloc: Global, job: Job) -> Piece
         ensures { result ≡ begun job }
     {
+        let (job, rooms) = job.shed();
         Piece {
-            job: job.shed(),
-            matcher: None,
+            job,
+            matcher: Own::new(rooms),
             telling: Telling::new(alloc),
             read: 0,
             closed: false,
@@ -86,6 +89,19 @@ impl Piece {
     /// closing, where the job lends it; where the piece was given up, nothing. The piece is what steps lead to.
     /// After want of memory it stands for what it has read, and can be read on.
     pub fn read_whole(&mut self, alloc: Global) -> Result<(), Memory>
+        ensures steps { StepsLead self.old self.new }
+        ensures whole { OnOk result (self.new ≡ read_whole self.old) }
+        ensures end { OnOk result (answer self.new ≡ s.Finished) }
+        ensures job { self.new.job ≡ self.old.job }
+    {
+        let read = self.read_left(alloc);
+        // Rooms that weren't needed are let go where there is time for it.
+        self.matcher.shed();
+        read
+    }
+
+    // Reads all that is left, as `read_whole` does.
+    fn read_left(&mut self, alloc: Global) -> Result<(), Memory>
         ensures steps { StepsLead self.old self.new }
         ensures whole { OnOk result (self.new ≡ read_whole self.old) }
         ensures end { OnOk result (answer self.new ≡ s.Finished) }
@@ -187,7 +203,7 @@ impl Piece {
     pub fn after(&self) -> &Matcher
         ensures led { LedTo self.now result.now }
     {
-        led(&self.matcher, self.job.before.get())
+        self.matcher.led(self.job.before.get())
     }
 
     /// Gives the piece up, since memory was refused: no step reads any more of it.
@@ -227,7 +243,7 @@ impl Piece {
             closed: _,
             short: _,
         } = self;
-        match matcher {
+        match matcher.into_matcher() {
             Some(matcher) => Held::led(matcher, job.before),
             None => Held::of(job.before),
         }

@@ -6,7 +6,8 @@ ghost use Rattle.sp_piece.specs.Reading.{skips};
 ghost use Rattle.sp_piece.specs.Pieced.{loan};
 ghost use Rattle.sp_piece.specs.Keeping.{IsKept, IsPast, NoneSkipped, PassesBy, going};
 
-use crate::going::{Next, add_wanted, handle_event, led};
+use crate::going::{Next, add_wanted, handle_event};
+use crate::own::Own;
 use crate::telling::Telling;
 use crate::{Job, Memory};
 use sp_match::{Known, Matcher};
@@ -34,7 +35,7 @@ pub(crate) fn read_next(
     alloc: Global,
     job: &Job,
     read: &mut u32,
-    matcher: &mut Option<Matcher>,
+    matcher: &mut Own,
     telling: &mut Telling,
 ) -> Result<(), Memory>
     requires kept { IsKept (going job.now read.old) matcher.old telling.old.entries.items }
@@ -63,7 +64,7 @@ fn read_some(
     job: &Job,
     end: u32,
     read: &mut u32,
-    matcher: &mut Option<Matcher>,
+    matcher: &mut Own,
     telling: &mut Telling,
 ) -> Result<(), Memory>
     requires kept { IsKept (going job.now read.old) matcher.old telling.old.entries.items }
@@ -75,7 +76,7 @@ fn read_some(
     ensures within { read.new ≤ end }
     ensures ok { OnOk result (read.old < read.new) }
 {
-    let so_far = led(matcher, job.before.get());
+    let so_far = matcher.led(job.before.get());
     let quiet = quiet_to(so_far, job.known.as_slice(), *read, end);
     if quiet == *read {
         return read_next(alloc, job, read, matcher, telling);
@@ -92,7 +93,7 @@ fn read_to(
     job: &Job,
     end: u32,
     read: &mut u32,
-    matcher: &mut Option<Matcher>,
+    matcher: &mut Own,
     telling: &mut Telling,
 ) -> Result<(), Memory>
     requires kept { IsKept (going job.now read.old) matcher.old telling.old.entries.items }
@@ -116,7 +117,7 @@ fn pass_over(
     job: &Job,
     number: u32,
     read: &mut u32,
-    matcher: &mut Option<Matcher>,
+    matcher: &mut Own,
     telling: &mut Telling,
 ) -> Result<(), Memory>
     requires kept { IsKept (going job.now read.old) matcher.old telling.old.entries.items }
@@ -142,7 +143,7 @@ pub(crate) fn read_all(
     alloc: Global,
     job: &Job,
     read: &mut u32,
-    matcher: &mut Option<Matcher>,
+    matcher: &mut Own,
     telling: &mut Telling,
 ) -> Result<(), Memory>
     requires kept { IsKept (going job.now read.old) matcher.old telling.old.entries.items }

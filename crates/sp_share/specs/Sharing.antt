@@ -15,7 +15,6 @@ abbrev pub held : {Z : Type 0} → Matching → Option (Arc Matching Z) → Matc
 held m None = m
 held m (Some handle) = arc_value handle
 
--- What is kept beside a matcher has read nothing, and neither has the matcher where another one is lent.
-pub record IsHolding {Z : Type 0} (m : Matching) (fresh : Option Matching) (lent : Option (Arc Matching Z)) : Type 0 where
-  pub beside : IfSome fresh (λ f. IsFresh f m)
-  pub behind : IfSome lent (λ handle. IsFresh m (arc_value handle))
+-- What stands beside a handle is of the plan of the matcher that is lent by it, and has read nothing.
+abbrev pub IsBeside : {Z : Type 0} → Matching → Option (Arc Matching Z) → Type 0
+IsBeside m lent = IfSome lent (λ handle. IsFresh m (arc_value handle))

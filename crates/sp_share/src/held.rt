@@ -1,6 +1,8 @@
-ghost use Rattle.std.specs.Prelude.{◌≡◌, [], IfOk, IfSome, None};
+ghost use Rattle.std.specs.Prelude.{◌≡◌, [], IfOk};
+ghost use Rattle.std.specs.Arc.{arc_value};
 ghost use Rattle.sp_share.specs.Sharing.{IsFresh};
 
+use crate::rooms::{Rooms, empty_rooms, new_rooms, rooms_with};
 use crate::{Memory, Shared};
 use sp_match::Matcher;
 use std::alloc::{AllocError, AllocFailed, Global};
@@ -8,19 +10,19 @@ use std::marker::Model;
 use std::mem;
 use std::sync::Arc;
 
-/// The matcher of a version: its own, or lent. Contracts see the matcher.
+/// The matcher of a version: its own, or lent by a handle. Contracts see the matcher.
 #[derive(Drop)]
 pub struct Held {
-    // its own; where it is lent, one of the same plan that has read nothing, which is what it becomes by clearing
+    // its own; where it is lent by a handle, one of the same plan that has read nothing, which is what it becomes by
+    // clearing
     matcher: Matcher,
-    // one of the same plan that has read nothing
-    fresh: Option<Matcher>,
-    lent: Option<Arc<Matcher>>,
-    // one that served before, which the next one to whom it is lent lets go
-    worn: Option<Matcher>,
+    handle: Option<Arc<Matcher>>,
+    // what is at hand for lending it next, with a matcher of the same plan
+    rooms: Option<Box<Rooms>>,
 }
 
 impl Model for Held {
+    ghost use Rattle.std.specs.Prelude.{◌≡◌, IfSome};
     ghost use Rattle.sp_match.specs.public.Matching.{Matching};
 
     ghost Value = { Matching };
@@ -31,29 +33,18 @@ impl Model for Held {
 
     ghost coded = { Prim.hlevel (codes, expr.the_row.coded, pred.the_row.coded) };
 
-    ghost use Rattle.sp_share.specs.Sharing.{IsHolding, held};
+    ghost use Rattle.sp_share.specs.Sharing.{IsBeside, held};
 
-    ghost view = { λ h. held h.matcher h.lent };
+    ghost view = { λ h. held h.matcher h.handle };
 
-    ghost invariant = { λ h. IsHolding h.matcher h.fresh h.lent };
+    ghost invariant = { λ h. IsBeside h.matcher h.handle
+        × IfSome h.rooms (λ rooms. rooms.value.matcher.plan ≡ h.matcher.plan) };
 }
 
-// One that has read nothing: the one at hand, or one of the same plan as the matcher. The one at hand is gone then.
-fn take_fresh(
-    alloc: Global,
-    fresh: &mut Option<Matcher>,
-    matcher: &Matcher,
-) -> Result<Matcher, Memory>
-    requires fresh { IfSome fresh.old (λ f. IsFresh f matcher.now) }
-    ensures fresh { IfOk result (λ f. IsFresh f matcher.now) }
-    ensures gone { fresh.new ≡ None }
-{
-    if let Some(fresh) = fresh.take() {
-        return Ok(fresh);
-    }
-    let mut fresh = matcher.copy(alloc)?;
-    fresh.clear();
-    Ok(fresh)
+// Whether a copy costs less than a handle does, as measured: where few runs are open, with few events each.
+fn is_small(matcher: &Matcher) -> bool {
+    let runs = matcher.open_runs();
+    runs.len() <= 2 && runs.iter().all(|run| run.bound.len() <= 32)
 }
 
 impl Held {
@@ -63,9 +54,8 @@ impl Held {
     {
         Held {
             matcher,
-            fresh: None,
-            lent: None,
-            worn: None,
+            handle: None,
+            rooms: None,
         }
     }
 
@@ -73,35 +63,29 @@ impl Held {
     pub fn of(shared: Shared) -> Held
         ensures { result ≡ shared }
     {
-        let Shared {
-            handle,
-            fresh,
-            worn,
-        } = shared;
+        let Shared { handle, rooms } = shared;
+        let Rooms { matcher, worn: _ } = Box::into_inner(rooms);
         Held {
-            matcher: fresh,
-            fresh: None,
-            lent: Some(handle),
-            worn,
+            matcher,
+            handle,
+            rooms: None,
         }
     }
 
-    /// What a reading led to from what was lent; the empty matcher of that serves again, and its runs are let go by
-    /// whoever is lent this one next, if nobody else holds them. Takes no memory.
+    /// What a reading led to from what was lent. What went along with that serves again, and so does what was lent, if
+    /// nobody else holds it: it goes along when this one is lent next. Takes no memory.
     pub fn led(matcher: Matcher, before: Shared) -> Held
         requires { matcher.plan ≡ before.plan }
         ensures { result ≡ matcher }
     {
-        let Shared {
-            handle,
-            fresh,
-            worn: _,
-        } = before;
+        let Shared { handle, mut rooms } = before;
+        if let Some(handle) = handle {
+            rooms.worn = Arc::into_inner(handle);
+        }
         Held {
             matcher,
-            fresh: Some(fresh),
-            lent: None,
-            worn: Arc::into_inner(handle),
+            handle: None,
+            rooms: Some(rooms),
         }
     }
 
@@ -109,7 +93,7 @@ impl Held {
     pub fn get(&self) -> &Matcher
         ensures { result.now ≡ self.now }
     {
-        match &self.lent {
+        match &self.handle {
             Some(handle) => handle,
             None => &self.matcher,
         }
@@ -121,37 +105,85 @@ impl Held {
         ensures none { self.new.open_runs ≡ [] }
         ensures count { self.new.started ≡ 0 }
     {
-        self.lent = None;
+        self.handle = None;
         self.matcher.clear();
     }
 
-    /// Lends it: a handle of it, and no copy of its runs. After want of memory it is as before.
+    /// A matcher that served elsewhere goes along when this one is lent next, for its rooms. Where memory is wanting
+    /// for that it is let go.
+    pub fn furnish(&mut self, alloc: Global, worn: Matcher)
+        ensures { self.new ≡ self.old }
+    {
+        if let Some(rooms) = &mut self.rooms {
+            rooms.worn = Some(worn);
+            return;
+        }
+        if let Ok(mut rooms) = new_rooms(alloc, &self.matcher) {
+            rooms.worn = Some(worn);
+            self.rooms = Some(rooms);
+        }
+    }
+
+    /// Gives its own matcher away, whose rooms another may use: none where it is lent by a handle. What is held then
+    /// has read nothing. Takes no memory.
+    pub fn retire(&mut self, alloc: Global) -> Option<Matcher>
+        ensures plan { self.new.plan ≡ self.old.plan }
+        ensures none { self.new.open_runs ≡ [] }
+        ensures count { self.new.started ≡ 0 }
+    {
+        let is_own = self.handle.is_none();
+        self.clear();
+        if !is_own {
+            return None;
+        }
+        match self.matcher.copy(alloc) {
+            Ok(fresh) => Some(mem::replace(&mut self.matcher, fresh)),
+            Err(_) => None,
+        }
+    }
+
+    /// Lends it: by a handle of it, and no copy of its runs, or by a copy where it is small. After want of memory it is
+    /// as before.
     pub fn lend(&mut self, alloc: Global) -> Result<Shared, Memory>
         ensures same { self.new ≡ self.old }
         ensures lent { IfOk result (λ shared. shared ≡ self.old) }
     {
-        let shared = self.share(alloc)?;
-        Ok(shared.with(self.worn.take()))
+        if self.handle.is_none() && is_small(&self.matcher) {
+            // It keeps the copy, which is let go when a piece comes home, and the rooms of its own go around.
+            let copy = self.matcher.copy(alloc)?;
+            let own = mem::replace(&mut self.matcher, copy);
+            return Ok(Shared {
+                handle: None,
+                rooms: rooms_with(alloc, self.rooms.take(), own)?,
+            });
+        }
+        let rooms = empty_rooms(alloc, self.rooms.take(), &self.matcher)?;
+        let handle = self.share(alloc, &rooms.matcher)?;
+        Ok(Shared {
+            handle: Some(handle),
+            rooms,
+        })
     }
 
-    // Lends it, with none that served before.
-    fn share(&mut self, alloc: Global) -> Result<Shared, Memory>
+    // A handle of it; a copy of the fresh one is what it becomes by clearing.
+    fn share(&mut self, alloc: Global, fresh: &Matcher) -> Result<Arc<Matcher>, Memory>
+        requires { IsFresh fresh.now self.old }
         ensures same { self.new ≡ self.old }
-        ensures lent { IfOk result (λ shared. shared ≡ self.old) }
+        ensures lent { IfOk result (λ handle. arc_value handle ≡ self.old) }
     {
-        if let Some(handle) = &self.lent {
-            return Shared::of(alloc, handle, &self.matcher);
+        if let Some(handle) = &self.handle {
+            return Arc::try_clone(handle);
         }
-        let fresh = take_fresh(alloc, &mut self.fresh, &self.matcher)?;
-        let matcher = mem::replace(&mut self.matcher, fresh);
-        match Arc::new(alloc, matcher) {
+        let fresh = fresh.copy(alloc)?;
+        let own = mem::replace(&mut self.matcher, fresh);
+        match Arc::new(alloc, own) {
             Ok(handle) => {
-                let shared = Shared::of(alloc, &handle, &self.matcher);
-                self.lent = Some(handle);
-                shared
+                let lent = Arc::try_clone(&handle);
+                self.handle = Some(handle);
+                lent
             }
             Err(AllocFailed { value }) => {
-                self.fresh = Some(mem::replace(&mut self.matcher, value));
+                self.matcher = value;
                 Err(AllocError)
             }
         }

@@ -1,8 +1,9 @@
 //! Matchers that several hold. What reads on from a matcher holds a handle of it, and none copies its runs until an
-//! event changes one. Contracts see the matcher.
+//! event changes one; a small one is copied. Contracts see the matcher.
 #![tactic(auto)]
 
 mod held;
+mod rooms;
 mod shared;
 
 pub use held::Held;

@@ -39,8 +39,15 @@ pub struct Version {
 impl Version {
     ghost use Rattle.sp_version.specs.Reads.{conflict};
 
-    /// A version that has read nothing.
-    pub fn new(alloc: Global, plan: Arc<Plan>, window: u32, first: u32) -> Result<Version, Memory>
+    /// A version that has read nothing. A matcher that served before may be given for its rooms: it goes along with
+    /// the first lease, and whoever reads uses them.
+    pub fn new(
+        alloc: Global,
+        plan: Arc<Plan>,
+        window: u32,
+        first: u32,
+        worn: Option<Matcher>,
+    ) -> Result<Version, Memory>
         requires { IsCompiled (arc_value plan) }
         ensures window { IfOk result (λ v. v.window ≡ window) }
         ensures first { IfOk result (λ v. v.first ≡ first) }
@@ -55,12 +62,16 @@ impl Version {
         ensures done { IfOk result (λ v. v.done ≡ false) }
         ensures out { IfOk result (λ v. v.out ≡ None) }
     {
+        let mut matcher = Held::new(Matcher::new(alloc, plan)?);
+        if let Some(worn) = worn {
+            matcher.furnish(alloc, worn);
+        }
         Ok(Version {
             window,
             first,
             position: 0,
             skipped: Numbers::new(alloc),
-            matcher: Held::new(Matcher::new(alloc, plan)?),
+            matcher,
             matches: Vec::new(alloc),
             copies: Vec::new(alloc),
             used: Numbers::new(alloc),

@@ -15,4 +15,4 @@ returns c =
     let wants_prop : IsProp (job.wants ≡ consumes job.before.plan) = Prim.hlevel props in
     let here : (can : IsLendable job.before job.events job.known job.first) (wants : job.wants ≡ consumes job.before.plan) → with job.before can wants ≡ job =
     λ can wants i. with job.before (can_prop can job.lendable i) (wants_prop wants job.wanting i) in
-    subst (λ (m : Matching). (can : IsLendable m job.events job.known job.first) (wants : job.wants ≡ consumes m.plan) → with m can wants ≡ job) (sym c.shed.ensures) here _ _
+    subst (λ (m : Matching). (can : IsLendable m job.events job.known job.first) (wants : job.wants ≡ consumes m.plan) → with m can wants ≡ job) (sym c.take_worn-worn.ensures) here _ _
