@@ -1,0 +1,4 @@
+pub mod Crossing
+pub mod Entering
+pub mod StaysLent
+pub mod TrueAfter

@@ -1,0 +1,12 @@
+use Rattle.std.proofs.Common.{[], ◌∷◌, ◌++◌, sym, subst}
+use Rattle.sp_group.specs.declared.step.Step.TheVariants as s
+use Rattle.sp_plan.specs.WindowNumbers.{Good}
+use Rattle.sp_core.specs.Running.{Running}
+use Rattle.sp_lend.specs.Truth.{StaysTrue}
+use Rattle.sp_lend.proofs.TrueAfter.{true_after}
+use Rattle.sp_lend.proofs.lender.Lender.feed.Goals as goal
+
+pub invariant_of-self : goal.invariant_of-self
+invariant_of-self g c =
+    let stays = subst StaysTrue (sym c.self.view_is) c.stays.ensures in
+    (c.self.invariant.0, true_after c.self.inside.core c.feed.new.self c.self.inside.front stays c.self.invariant.1 (s.Feed c.args.event) (λ passes. subst (λ (r : Running). Good r.plan (r.machine.events ++ c.args.event ∷ [])) (sym c.self.view_is) c.requires.good) c.feed.result c.feed.ensures.done c.feed.ensures.err)

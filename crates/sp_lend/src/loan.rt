@@ -1,0 +1,58 @@
+// A job with its receipt.
+ghost use Rattle.std.specs.Prelude.{◌≡◌};
+
+use crate::front::Front;
+use crate::register::Lending;
+use sp_hub::Named;
+use sp_piece::Job;
+use std::marker::Model;
+
+/// That a job is entered in the register, at a place, from 0. It has but eight bytes beside a count of as many.
+#[derive(Drop)]
+pub(crate) struct Receipt<L: Lending> {
+    pub(crate) front: Front<L>,
+    pub(crate) place: u64,
+}
+
+/// A job that was lent. Contracts see the job.
+#[derive(Drop)]
+pub struct Loan<L: Lending> {
+    pub(crate) job: Job,
+    // None where the register had no more room
+    pub(crate) receipt: Option<Receipt<L>>,
+}
+
+impl<L: Lending> Model for Loan<L> {
+    ghost use Rattle.sp_piece.specs.declared.job.Job.{Job};
+    ghost use Rattle.sp_plan.specs.contracts.plan.Expr as expr;
+    ghost use Rattle.sp_plan.specs.contracts.plan.Pred as pred;
+    ghost use Rattle.std.specs.Coded.{codes};
+    ghost use Rattle.sp_piece.specs.Lending.{coded_all_known};
+    ghost use Rattle.sp_lend.specs.Truth.{Vouches};
+
+    ghost Value = { Job };
+
+    ghost coded = { Prim.hlevel (codes, expr.the_row.coded, pred.the_row.coded, coded_all_known) };
+
+    ghost view = { λ l. l.job };
+
+    ghost invariant = { λ l. Vouches l.receipt l.job };
+}
+
+impl<L: Lending> Loan<L> {
+    /// The job.
+    pub fn job(&self) -> &Job
+        ensures { result.now ≡ self.now }
+    {
+        &self.job
+    }
+}
+
+impl<L: Lending> Named for Loan<L> {
+    ghost ticket_of = { λ job. job.ticket };
+
+    /// The ticket's number.
+    fn ticket(&self) -> u64 {
+        self.job.ticket
+    }
+}

@@ -1,0 +1,84 @@
+// A piece with the receipt of its job.
+ghost use Rattle.std.specs.Prelude.{◌≡◌, OnOk};
+ghost use Rattle.sp_piece.specs.Pieced.{StepsLead, answer, begun, read_whole, refused};
+ghost use Rattle.sp_piece.specs.declared.stepped.Stepped.TheVariants as s;
+
+use crate::Memory;
+use crate::loan::{Loan, Receipt};
+use crate::register::Lending;
+use sp_hub::Named;
+use sp_piece::Piece;
+use std::alloc::Global;
+use std::marker::Model;
+
+/// A reading of what was lent. Contracts see the piece.
+#[derive(Drop)]
+pub struct Reading<L: Lending> {
+    pub(crate) piece: Piece,
+    // None where the register had no more room for its job
+    pub(crate) receipt: Option<Receipt<L>>,
+}
+
+impl<L: Lending> Model for Reading<L> {
+    ghost use Rattle.sp_piece.specs.Pieced.{Pieced};
+    ghost use Rattle.sp_plan.specs.contracts.plan.Expr as expr;
+    ghost use Rattle.sp_plan.specs.contracts.plan.Pred as pred;
+    ghost use Rattle.std.specs.Coded.{codes};
+    ghost use Rattle.sp_piece.specs.Lending.{coded_all_known};
+    ghost use Rattle.sp_lend.specs.Truth.{Vouches};
+
+    ghost Value = { Pieced };
+
+    ghost coded = { Prim.hlevel (codes, expr.the_row.coded, pred.the_row.coded, coded_all_known) };
+
+    ghost view = { λ r. r.piece };
+
+    ghost invariant = { λ r. Vouches r.receipt r.piece.job };
+}
+
+impl<L: Lending> Reading<L> {
+    /// A piece that has read nothing. Takes no memory.
+    pub fn start(alloc: Global, loan: Loan<L>) -> Reading<L>
+        ensures { result ≡ begun loan }
+    {
+        let Loan { job, receipt } = loan;
+        Reading {
+            piece: Piece::start(alloc, job),
+            receipt,
+        }
+    }
+
+    /// Reads all that is left, as `Piece::read_whole` does. After want of memory it stands for what it has read, and
+    /// can be read on.
+    pub fn read_whole(&mut self, alloc: Global) -> Result<(), Memory>
+        ensures steps { StepsLead self.old self.new }
+        ensures whole { OnOk result (self.new ≡ read_whole self.old) }
+        ensures end { OnOk result (answer self.new ≡ s.Finished) }
+        ensures job { self.new.job ≡ self.old.job }
+    {
+        self.piece.read_whole(alloc)
+    }
+
+    /// Gives the piece up, since memory was refused: no step reads any more of it.
+    pub fn give_up(&mut self)
+        ensures { self.new ≡ refused self.old }
+    {
+        self.piece.give_up();
+    }
+
+    /// The piece.
+    pub fn piece(&self) -> &Piece
+        ensures { result.now ≡ self.now }
+    {
+        &self.piece
+    }
+}
+
+impl<L: Lending> Named for Reading<L> {
+    ghost ticket_of = { λ piece. piece.job.ticket };
+
+    /// The ticket of its job.
+    fn ticket(&self) -> u64 {
+        self.piece.job().ticket
+    }
+}
