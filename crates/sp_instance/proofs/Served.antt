@@ -8,8 +8,8 @@ use Rattle.sp_hub.specs.declared.taken.Taken.TheVariants as taken
 use Rattle.std.proofs.lemmas.List.Elements.{All-nil, All-cons, All-append}
 use Rattle.sp_piece.specs.declared.job.Job.{Job}
 use Rattle.sp_piece.specs.Pieced.{Pieced}
-use Rattle.sp_instance.specs.Doing.{given_by, ticket_given, IsDone, Worked, WorkedSome}
-use Rattle.sp_instance.specs.Seats.{Counts, CountsLent, PutAll}
+use Rattle.sp_instance.specs.Doing.{given_by, IsDone, Worked, WorkedSome}
+use Rattle.sp_instance.specs.Seats.{Counts, PutAll}
 
 -- before the first job nothing was done
 pub none_yet : (did : List Job → List Pieced → Type 0) → did [] [] → Worked did
@@ -42,24 +42,27 @@ one_some did more job piece goes same done count w = record {
 }
 
 -- no job was there
-pub none_given : (answer : Taken Job) → ((job : Job) → answer ≡ taken.Job job → ⊥) → (given_by answer ≡ []) × (ticket_given answer ≡ None)
-none_given (taken.Job job) none = absurd (none job refl)
-none_given taken.Empty none = (refl, refl)
-none_given taken.Closed none = (refl, refl)
+pub none_taken : (mid new : Sitting) (answer : Taken Job) → ((job : Job) → answer ≡ taken.Job job → ⊥) → new ≡ takes (λ (job : Job). job.ticket) mid answer → mid.holding ≡ None
+    → (given_by answer ≡ []) × (new.holding ≡ None)
+none_taken mid new (taken.Job job) none is free = absurd (none job refl)
+none_taken mid new taken.Empty none is free = (refl, ap (λ (s : Sitting). s.holding) is ∙ free)
+none_taken mid new taken.Closed none is free = (refl, ap (λ (s : Sitting). s.holding) is ∙ free)
 
 -- which leaves what was done
-pub as_it_was : (did more : List Job → List Pieced → Type 0) (count : ℕ) (given : List Job) → given ≡ [] → ((jobs : List Job) (pieces : List Pieced) → did jobs pieces → more (jobs ++ given) pieces)
-    → WorkedSome did count → WorkedSome more count
-as_it_was did more count given none goes w = record {
-  worked = record {
-    jobs = w.worked.jobs;
-    pieces = w.worked.pieces;
-    were = subst (λ (l : List Job). more l w.worked.pieces) (ap (λ (l : List Job). w.worked.jobs ++ l) none ∙ append-nil w.worked.jobs) (goes w.worked.jobs w.worked.pieces w.worked.were);
-    theirs = w.worked.theirs;
-    done = w.worked.done;
-  };
-  counted = w.counted;
+pub as_it_was : (did more : List Job → List Pieced → Type 0) (given : List Job) → given ≡ [] → ((jobs : List Job) (pieces : List Pieced) → did jobs pieces → more (jobs ++ given) pieces)
+    → Worked did → Worked more
+as_it_was did more given none goes w = record {
+  jobs = w.jobs;
+  pieces = w.pieces;
+  were = subst (λ (l : List Job). more l w.pieces) (ap (λ (l : List Job). w.jobs ++ l) none ∙ append-nil w.jobs) (goes w.jobs w.pieces w.were);
+  theirs = w.theirs;
+  done = w.done;
 }
+
+pub some_as_it_was : (did more : List Job → List Pieced → Type 0) (count : ℕ) (given : List Job) → given ≡ [] → ((jobs : List Job) (pieces : List Pieced) → did jobs pieces → more (jobs ++ given) pieces)
+    → WorkedSome did count → WorkedSome more count
+unfolding as_it_was
+some_as_it_was did more count given none goes w = record { worked = as_it_was did more given none goes w.worked; counted = w.counted }
 
 -- a seat that was given a job more, or none
 pub counts_given : (old mid new : Sitting) (jobs : List Job) (pieces : List Pieced) (answer : Taken Job) → Counts old jobs pieces mid → new ≡ takes (λ (job : Job). job.ticket) mid answer → Counts old (jobs ++ given_by answer) pieces new
@@ -95,10 +98,10 @@ counts_put old mid new jobs pieces piece was is =
     }
 
 -- a seat that counts jobs and their pieces put a ticket for each job
-pub put_all : (old_name new_name : ℕ) (old new : Sitting) → Worked (λ jobs pieces. CountsLent old_name new_name old jobs pieces new) → PutAll old new
-put_all old_name new_name old new w =
+pub put_all : (old new : Sitting) → Worked (λ jobs pieces. Counts old jobs pieces new) → PutAll old new
+put_all old new w =
     let as_many : length w.pieces ≡ length w.jobs = sym (length-map w.pieces (λ (p : Pieced). p.job)) ∙ ap length w.theirs in
     let tickets = map (λ (p : Pieced). p.job.ticket) w.pieces in
-    let calls = w.were.counts.calls in
+    let calls = w.were.calls in
     let many : length tickets ≡ length w.pieces = length-map w.pieces (λ (p : Pieced). p.job.ticket) in
-    record { tickets = tickets; number = w.were.counts.number; calls = omega (arith, calls, as_many, many); put = w.were.counts.put }
+    record { tickets = tickets; number = w.were.number; calls = omega (arith, calls, as_many, many); put = w.were.put }

@@ -1,5 +1,5 @@
 -- What doing a job comes to, and what an instance did with the jobs that it took.
-use Rattle.std.specs.Prelude.{◌≡◌, ℕ, Bool, true, false, List, [], ◌∷◌, Option, Some, None, length, map}
+use Rattle.std.specs.Prelude.{◌≡◌, ℕ, false, List, [], ◌∷◌, length, map}
 use Rattle.std.specs.List.{All}
 use Rattle.sp_hub.specs.declared.taken.Taken.{Taken}
 use Rattle.sp_hub.specs.declared.taken.Taken.TheVariants as taken
@@ -11,18 +11,6 @@ abbrev pub given_by : Taken Job → List Job
 given_by (taken.Job job) = job ∷ []
 given_by taken.Empty = []
 given_by taken.Closed = []
-
--- its ticket
-abbrev pub ticket_given : Taken Job → Option ℕ
-ticket_given (taken.Job job) = Some job.ticket
-ticket_given taken.Empty = None
-ticket_given taken.Closed = None
-
--- whether it says that no job will come
-abbrev pub is_closed : Taken Job → Bool
-is_closed (taken.Job job) = false
-is_closed taken.Empty = false
-is_closed taken.Closed = true
 
 -- all that the job lends is read: each event, and the closing exactly where it is lent
 pub record IsWhole (p : Pieced) : Type 0 where

@@ -15,14 +15,6 @@ pub record Counts (old : Sitting) (jobs : List Job) (pieces : List Pieced) (new 
 pub counts_none : (seat : Sitting) → Counts seat [] [] seat
 counts_none seat = record { number = refl; calls = omega arith; put = sym (append-nil seat.put) }
 
--- the same of a seat that is lent, and it is still the one that was lent: these are the names of the references
-pub record CountsLent (old_name new_name : ℕ) (old : Sitting) (jobs : List Job) (pieces : List Pieced) (new : Sitting) : Type 0 where
-  pub lent : new_name ≡ old_name
-  pub counts : Counts old jobs pieces new
-
-pub lent_none : (name : ℕ) (seat : Sitting) → CountsLent name name seat [] [] seat
-lent_none name seat = record { lent = refl; counts = counts_none seat }
-
 -- as many tickets were put as jobs were taken, and its number stays
 pub record PutAll (old new : Sitting) : Type 0 where
   pub tickets : List ℕ

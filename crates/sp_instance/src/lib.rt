@@ -4,12 +4,8 @@
 
 mod doing;
 mod gate;
-mod seated;
 mod working;
-mod workplace;
 
 pub use doing::do_job;
 pub use gate::{Gate, OpenGate};
-pub use seated::Seated;
-pub use working::{work, work_all, work_at, work_some, work_some_at};
-pub use workplace::Workplace;
+pub use working::{work, work_all, work_some};

@@ -1,12 +1,13 @@
 ghost use Rattle.std.specs.Prelude.{◌≡◌, ◌≤◌, ◌+◌, true, None, map, vec_len, vec_capacity};
 ghost use Rattle.std.specs.List.{All};
 ghost use Rattle.sp_instance.specs.Doing.{Worked, WorkedSome};
-ghost use Rattle.sp_instance.specs.Seats.{PutAll};
+ghost use Rattle.sp_instance.specs.Seats.{Counts, PutAll};
 
+use crate::Gate;
 use crate::doing::do_job_at;
-use crate::{Gate, Seated, Workplace};
 use sp_hub::{Hub, Naming, Seat, Taken};
-use sp_piece::{Job, Piece};
+use sp_lend::{Lending, Loan, Reading};
+use sp_piece::Piece;
 use std::alloc::Global;
 use std::sync::Wait;
 use std::thread;
@@ -27,104 +28,73 @@ fn looks_after(piece: &Piece) -> u32 {
     (visits / VISITS_A_LOOK).min(MOST_LOOKS) as u32
 }
 
-/// Does the jobs of a place until none will come: each piece that was put is that of a job that was taken,
-/// read whole or given up for want of memory, in the order of taking, and none is left out. Waits where no
-/// job is there.
-pub fn work_at<W: Workplace, G: Gate, R: Wait>(rt: &R, alloc: Global, place: &mut W, gate: &G)
-    requires { W.holding place.old ≡ None }
-    ensures free { W.holding place.new ≡ None }
-    ensures over { W.over place.new ≡ true }
-    ensures done { Worked (λ jobs pieces. W.did place.old jobs pieces place.new) }
+/// Does the jobs of a hub at a seat until it is answered that the hub is closed and empty: each piece that was put is
+/// that of a job that was taken, read whole or given up for want of memory, in the order of taking, and none is left out.
+/// Waits where no job is there.
+pub fn work<B: Lending + Send, L: Naming, G: Gate, R: Wait>(
+    rt: &R,
+    alloc: Global,
+    hub: &Hub<Loan<B>, Reading<B>, L>,
+    seat: &mut Seat<Reading<B>, L>,
+    gate: &G,
+)
+    requires { seat.old.holding ≡ None }
+    ensures free { seat.new.holding ≡ None }
+    ensures over { seat.new.over ≡ true }
+    ensures done { Worked (λ jobs pieces. Counts seat.old jobs pieces seat.new) }
+    ensures all { PutAll seat.old seat.new }
 {
     let mut looks = 0;
     for _ in rt.forever() {
-        match place.take() {
+        match hub.take(rt, seat) {
             Taken::Job(job) => {
-                let piece = do_job_at(alloc, place.number(), job, gate);
-                looks = looks_after(&piece);
-                place.put(piece);
+                let piece = do_job_at(alloc, seat.number(), job, gate);
+                looks = looks_after(piece.piece());
+                hub.put(rt, seat, piece);
             }
-            Taken::Empty => place.wait(looks),
+            Taken::Empty => hub.wait_job(rt, seat, looks),
             Taken::Closed => return,
         }
     }
     unreachable!()
 }
 
-/// Does the jobs of a hub at a seat until it is answered that the hub is closed and empty.
-pub fn work<L: Naming, G: Gate, R: Wait>(
+/// Does jobs that are listed at a hub, at a seat, one after another, at most so many, and waits for none: each piece that
+/// was put is that of a job that was taken, read whole or given up for want of memory, in the order of taking. It leaves
+/// to the seats that were woken for a job what they come for. Answers how many.
+pub fn work_some<B: Lending + Send, L: Naming, G: Gate, R: Wait>(
     rt: &R,
     alloc: Global,
-    hub: &Hub<Job, Piece, L>,
-    seat: &mut Seat<Piece, L>,
-    gate: &G,
-)
-    requires { seat.old.holding ≡ None }
-    ensures free { seat.new.holding ≡ None }
-    ensures over { seat.new.over ≡ true }
-    ensures all { PutAll seat.old seat.new }
-{
-    let mut place = Seated {
-        rt,
-        hub,
-        seat,
-        spares: false,
-    };
-    work_at(rt, alloc, &mut place, gate);
-}
-
-/// Does the jobs that a place has now, one after another, at most so many, and waits for none: each piece that was
-/// put is that of a job that was taken, read whole or given up for want of memory, in the order of taking. Answers
-/// how many.
-pub fn work_some_at<W: Workplace, G: Gate>(alloc: Global, place: &mut W, gate: &G, most: u32) -> u32
-    requires { W.holding place.old ≡ None }
-    ensures free { W.holding place.new ≡ None }
-    ensures done { WorkedSome (λ jobs pieces. W.did place.old jobs pieces place.new) result }
-    ensures few { result ≤ most }
-{
-    for done in 0..most {
-        let Taken::Job(job) = place.take() else {
-            return done;
-        };
-        let piece = do_job_at(alloc, place.number(), job, gate);
-        place.put(piece);
-    }
-    most
-}
-
-/// Does jobs that are listed at a hub, at a seat, one after another, at most so many, and waits for none. It leaves to
-/// the seats that were woken for a job what they come for. Answers how many.
-pub fn work_some<L: Naming, G: Gate, R: Wait>(
-    rt: &R,
-    alloc: Global,
-    hub: &Hub<Job, Piece, L>,
-    seat: &mut Seat<Piece, L>,
+    hub: &Hub<Loan<B>, Reading<B>, L>,
+    seat: &mut Seat<Reading<B>, L>,
     gate: &G,
     most: u32,
 ) -> u32
     requires { seat.old.holding ≡ None }
     ensures free { seat.new.holding ≡ None }
+    ensures done { WorkedSome (λ jobs pieces. Counts seat.old jobs pieces seat.new) result }
     ensures all { PutAll seat.old seat.new }
     ensures count { seat.new.calls ≡ seat.old.calls + result }
     ensures few { result ≤ most }
 {
-    let mut place = Seated {
-        rt,
-        hub,
-        seat,
-        spares: true,
-    };
-    work_some_at(alloc, &mut place, gate, most)
+    for done in 0..most {
+        let Taken::Job(job) = hub.take_spare(rt, seat) else {
+            return done;
+        };
+        let piece = do_job_at(alloc, seat.number(), job, gate);
+        hub.put(rt, seat, piece);
+    }
+    most
 }
 
 /// An instance for each seat, each on a thread of its own where one can be made, else one after another, until
 /// each is answered that the hub is closed and empty; where there is no seat, nothing is done. No seat is lost,
 /// whatever memory is refused, and each stands where it stood.
-pub fn work_all<L: Naming + Send + Sync, G: Gate, R: Threads + Wait + Sync>(
+pub fn work_all<B: Lending + Send, L: Naming + Send + Sync, G: Gate, R: Threads + Wait + Sync>(
     rt: &R,
     alloc: Global,
-    hub: &Hub<Job, Piece, L>,
-    seats: &mut Vec<Seat<Piece, L>>,
+    hub: &Hub<Loan<B>, Reading<B>, L>,
+    seats: &mut Vec<Seat<Reading<B>, L>>,
     gate: &G,
 )
     requires free { All (λ s. s.holding ≡ None) seats.old.items }
@@ -142,7 +112,7 @@ pub fn work_all<L: Naming + Send + Sync, G: Gate, R: Threads + Wait + Sync>(
         rt,
         seats,
         count,
-        &|_: usize, seat: &mut Seat<Piece, L>|
+        &|_: usize, seat: &mut Seat<Reading<B>, L>|
             requires { seat.old.holding ≡ None }
             ensures { (seat.new.holding ≡ None) × (seat.new.over ≡ true)
                 × (seat.new.number ≡ seat.old.number) }

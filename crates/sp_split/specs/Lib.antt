@@ -9,3 +9,4 @@ pub mod Seatings
 pub mod Going
 pub mod Prompt
 pub mod Stretches
+pub mod Working

@@ -1,14 +1,15 @@
 // A core on one thread: events are fed, and the root is read, window after window.
-ghost use Rattle.std.specs.Prelude.{◌≡◌, ◌≤◌, IfOk, OnOk, OnErr, Some};
+ghost use Rattle.std.specs.Prelude.{◌≡◌, ◌≤◌, [], IfOk, OnOk, OnErr, Some};
 ghost use Rattle.sp_base.specs.Limits.{batch_limit};
 ghost use Rattle.sp_core.specs.Running.{begun};
 ghost use Rattle.sp_spread.specs.Journaled.{MakesNoChild};
 ghost use Rattle.sp_spread.specs.Limiting.{AsksAtMost};
+ghost use Rattle.sp_splitter.specs.Stages.{matches_of};
 ghost use Rattle.sp_split.specs.Driving.{Drove, FellShort};
 ghost use Rattle.sp_split.specs.Prompt.{IsPrompt};
 ghost use Rattle.sp_split.specs.Relay.{Relayed};
 ghost use Rattle.sp_split.specs.Relieving.{AreDue, Relieved};
-ghost use Rattle.sp_split.specs.Stages.{CameAlone};
+ghost use Rattle.sp_split.specs.Stages.{Advanced, CameAlone, IsAdvanced, IsAlone};
 ghost use Rattle.sp_split.specs.Stopping.{IsThrough};
 
 use crate::driver::Driver;
@@ -17,7 +18,7 @@ use crate::relay::Team;
 use crate::running::round;
 use crate::working::work_off;
 use crate::{Crew, Memory, Went, Why};
-use sp_core::{Core, CoreFault, Emitted};
+use sp_core::{Core, CoreFault};
 use sp_plan::Event;
 use sp_ports::{Intake, Outlet};
 use std::alloc::{AllocError, Global};
@@ -73,10 +74,6 @@ impl Driver for Lone {
             unreachable!()
         }
     }
-
-    fn work(&mut self, alloc: Global) -> Result<Vec<Emitted>, Memory> {
-        work_off(alloc, &mut self.core, &mut self.team)
-    }
 }
 
 // Round after round, until the run is over; answers why it is.
@@ -112,7 +109,19 @@ fn run_alone<I: Intake, O: Outlet>(
     let mut fed = Fed::More;
     // An intake ends long before so many rounds.
     for _ in 0..u64::MAX {
-        let round = round(alloc, lone, fed, intake, outlet)?;
+        let work = |lone: &mut Lone, alloc: Global|
+            requires ready { IsAlone lone.old.core }
+            requires due { AreDue lone.old.team.relay lone.old.core.machine.finished }
+            ensures done { IfOk result
+                (λ finished. Advanced lone.old.core lone.new.core (matches_of finished.items)) }
+            ensures short { OnErr result (IsAdvanced lone.old.core lone.new.core) }
+            ensures ready { OnOk result (IsAlone lone.new.core
+                × AreDue lone.new.team.relay lone.new.core.machine.finished) }
+            ensures came { CameAlone lone.new.core }
+            ensures relieved { Relieved (λ one. named one) lone.old.team lone.new.team }
+            ensures batch { lone.new.batch ≡ lone.old.batch }
+        { work_off(alloc, &mut lone.core, &mut lone.team) };
+        let round = round(alloc, lone, work, fed, intake, outlet)?;
         if let Some(why) = round.over {
             return Ok(why);
         }

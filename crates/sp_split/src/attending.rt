@@ -5,7 +5,7 @@ ghost use Rattle.std.specs.List.{All};
 use crate::office::Office;
 use sp_hub::{Hub, Naming, Seat};
 use sp_instance::{Gate, work, work_all};
-use sp_piece::{Job, Piece};
+use sp_lend::{Lending, Loan, Reading};
 use std::alloc::Global;
 use std::marker::Model;
 use std::sync::Wait;
@@ -13,11 +13,11 @@ use std::thread::Threads;
 
 /// The seats of instances. Contracts see them, and how many there is room for.
 #[derive(Drop)]
-pub(crate) struct Seating<L: Naming> {
-    seats: Vec<Seat<Piece, L>>,
+pub(crate) struct Seating<B: Lending, L: Naming> {
+    seats: Vec<Seat<Reading<B>, L>>,
 }
 
-impl<L: Naming> Model for Seating<L> {
+impl<B: Lending, L: Naming> Model for Seating<B, L> {
     ghost use Rattle.std.specs.Prelude.{vec_capacity};
     ghost use Rattle.sp_split.specs.Seatings.{Seated};
 
@@ -26,14 +26,14 @@ impl<L: Naming> Model for Seating<L> {
     ghost view = { λ c. record { seats = c.seats.items; room = vec_capacity c.seats } };
 }
 
-impl<L: Naming> Seating<L> {
-    pub(crate) fn of(seats: Vec<Seat<Piece, L>>) -> Seating<L>
+impl<B: Lending, L: Naming> Seating<B, L> {
+    pub(crate) fn of(seats: Vec<Seat<Reading<B>, L>>) -> Seating<B, L>
         ensures { result ≡ record { seats = seats.items; room = vec_capacity seats } }
     {
         Seating { seats }
     }
 
-    pub(crate) fn into_seats(self) -> Vec<Seat<Piece, L>>
+    pub(crate) fn into_seats(self) -> Vec<Seat<Reading<B>, L>>
         ensures seats { result.items ≡ self.seats }
         ensures room { vec_capacity result ≡ self.room }
     {
@@ -45,13 +45,12 @@ impl<L: Naming> Seating<L> {
 /// An instance for each of the seats, each on a thread of its own where one can be made, else one after another,
 /// until each is answered that the hub is closed and empty; without a seat nothing is done. No seat is lost,
 /// whatever memory is refused, and each stands where it stood.
-pub(crate) fn attend_all<L: Naming + Send + Sync, G: Gate, R: Threads + Wait + Sync>(
-    rt: &R,
-    alloc: Global,
-    hub: &Hub<Job, Piece, L>,
-    gate: &G,
-    seating: &mut Seating<L>,
-)
+pub(crate) fn attend_all<
+    B: Lending + Send,
+    L: Naming + Send + Sync,
+    G: Gate,
+    R: Threads + Wait + Sync,
+>(rt: &R, alloc: Global, hub: &Hub<Loan<B>, Reading<B>, L>, gate: &G, seating: &mut Seating<B, L>)
     requires free { All (λ s. s.holding ≡ None) seating.old.seats }
     ensures len { length seating.new.seats ≡ length seating.old.seats }
     ensures room { seating.new.room ≡ seating.old.room }
@@ -63,9 +62,9 @@ pub(crate) fn attend_all<L: Naming + Send + Sync, G: Gate, R: Threads + Wait + S
 
 /// Has each of the seats answered that the hub is closed and empty, one after another and on this thread: what is still
 /// listed is done first. No seat is lost, and each stands where it stood.
-pub(crate) fn dismiss<L: Naming, G: Gate, R: Wait>(
-    office: &Office<'_, L, G, R>,
-    seating: &mut Seating<L>,
+pub(crate) fn dismiss<B: Lending + Send, L: Naming, G: Gate, R: Wait>(
+    office: &Office<'_, B, L, G, R>,
+    seating: &mut Seating<B, L>,
 )
     requires free { All (λ s. s.holding ≡ None) seating.old.seats }
     ensures len { length seating.new.seats ≡ length seating.old.seats }

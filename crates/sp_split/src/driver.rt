@@ -1,16 +1,15 @@
-// What holds a core and takes its steps, between an intake and an outlet.
-ghost use Rattle.std.specs.Prelude.{◌≡◌, ℕ, false, true, [], ◌∷◌, ◌++◌, IfOk, OnOk, OnErr};
+// What holds a core and is fed for it, between an intake and an outlet.
+ghost use Rattle.std.specs.Prelude.{◌≡◌, ℕ, false, true, [], ◌∷◌, ◌++◌, OnOk, OnErr};
 ghost use Rattle.sp_ports.specs.Giving.{AreGood};
 ghost use Rattle.sp_core.specs.Running.{Running};
-ghost use Rattle.sp_splitter.specs.Stages.{matches_of};
-ghost use Rattle.sp_split.specs.Stages.{Advanced, FedOn, IsAdvanced};
+ghost use Rattle.sp_split.specs.Stages.{FedOn};
 
 use crate::Memory;
-use sp_core::{Core, Emitted};
+use sp_core::Core;
 use sp_plan::Event;
 use std::alloc::Global;
 
-/// Holds a core, which it is fed for, and works on.
+/// Holds a core, which it is fed for. How it works is a function that a round is given.
 pub(crate) trait Driver {
     /// The core.
     ghost core: { Self → Running };
@@ -73,17 +72,4 @@ pub(crate) trait Driver {
         ensures ready { ready self.new }
         ensures same { (instances self.new ≡ instances self.old)
             × (batch self.new ≡ batch self.old) × (team self.new ≡ team self.old) };
-
-    /// Works on what was fed, as far as can be done by now; answers what each window that is finished emits, in order.
-    /// After want of memory it is only to be looked at, and some of what was emitted may be lost.
-    fn work(&mut self, alloc: Global) -> Result<Vec<Emitted>, Memory>
-        requires ready { ready self.old }
-        ensures relieved { relieved (team self.old) (team self.new) }
-        ensures done { IfOk result (λ finished.
-            Advanced (core self.old) (core self.new) (matches_of finished.items)) }
-        ensures short { OnErr result (IsAdvanced (core self.old) (core self.new)) }
-        ensures ready { OnOk result (ready self.new) }
-        ensures came { came self.new }
-        ensures same { (instances self.new ≡ instances self.old)
-            × (batch self.new ≡ batch self.old) };
 }

@@ -6,21 +6,19 @@ ghost use Rattle.sp_spread.specs.Limiting.{AsksAtMost};
 ghost use Rattle.sp_split.specs.Driving.{CameAbout, Drove, FellShort, most_asked};
 ghost use Rattle.sp_split.specs.Prompt.{IsPrompt};
 ghost use Rattle.sp_split.specs.Relay.{Relayed};
-ghost use Rattle.sp_split.specs.Relieving.{crew_of};
 ghost use Rattle.sp_split.specs.Serving.{Ends};
 
 use crate::alone::drive_alone;
-use crate::joining::{Ways, under};
+use crate::fitting::{Outfit, with_register};
+use crate::joining::Ways;
 use crate::lent::{LentIntake, LentOutlet};
-use crate::relay::Relay;
-use crate::serving::Crewed;
 use crate::{Crew, Ended, Memory};
 use sp_base::Listed;
 use sp_core::Core;
-use sp_hub::{History, Opened};
+use sp_hub::History;
 use sp_instance::Gate;
+use sp_lend::Register;
 use sp_ports::{Intake, Outlet};
-use sp_splitter::Splitter;
 use std::alloc::Global;
 use std::marker::Brand;
 use std::sync::Wait;
@@ -83,15 +81,13 @@ pub fn drive<I: Intake, O: Outlet, G: Gate, R: Threads + Wait + Sync>(
     if instances == 0 {
         return drive_lone(alloc, core, batch, crew, intake, outlet);
     }
-    let Crew { first, rest, every } = crew;
-    let splitter = Splitter::new(alloc, core, instances, batch, first)?;
-    let relay = Relay {
-        rest,
-        every,
-        gone: 0,
+    let outfit = Outfit {
+        core,
+        instances,
+        batch,
+        crew,
     };
-    let crewed = Crewed { splitter, relay };
-    drive_shared(rt, alloc, crewed, intake, outlet, gate)
+    drive_shared(rt, alloc, outfit, intake, outlet, gate)
 }
 
 // Without an instance there is no hub.
@@ -147,40 +143,35 @@ fn no_history(alloc: Global) -> History
 fn drive_shared<I: Intake, O: Outlet, G: Gate, R: Threads + Wait + Sync>(
     rt: &R,
     alloc: Global,
-    crewed: Crewed,
+    outfit: Outfit,
     intake: &mut I,
     outlet: &mut O,
     gate: &G,
 ) -> Result<Ended, Memory>
-    requires fresh { crewed.splitter.core
-        ≡ begun crewed.splitter.core.plan crewed.splitter.core.bound }
-    requires instances { (0 < crewed.splitter.instances) × (crewed.splitter.instances ≤ 16) }
-    requires batch { (1 ≤ crewed.splitter.batch) × (crewed.splitter.batch ≤ batch_limit) }
-    requires kept { crewed.splitter.kept.items ≡ [] }
-    requires none { crewed.relay.gone ≡ 0 }
-    requires intake_plan { I.plan intake.old ≡ crewed.splitter.core.plan }
-    requires outlet_plan { O.plan outlet.old ≡ crewed.splitter.core.plan }
+    requires fresh { outfit.core ≡ begun outfit.core.plan outfit.core.bound }
+    requires instances { (0 < outfit.instances) × (outfit.instances ≤ 16) }
+    requires batch { (1 ≤ outfit.batch) × (outfit.batch ≤ batch_limit) }
+    requires intake_plan { I.plan intake.old ≡ outfit.core.plan }
+    requires outlet_plan { O.plan outlet.old ≡ outfit.core.plan }
     ensures ends { Ends (λ events. I.gave intake.old events intake.new) (I.ended intake.new)
         (I.stops intake.old) (I.stops intake.new) (I.cause intake.new)
-        crewed.splitter.instances crewed.splitter.batch crewed.splitter.core
+        outfit.instances outfit.batch outfit.core
         (O.state outlet.old) (O.state outlet.new) result }
-    ensures crew { IfOk result (λ end. Relayed (λ one. named one)
-        (crew_of (record { first = crewed.splitter.predictor; relay = crewed.relay })) end.crew
-        end.why end.core.machine.finished) }
-    ensures prompt { IsPrompt (I.asked intake.old) intake.new crewed.splitter.core.plan
+    ensures crew { IfOk result (λ end. Relayed (λ one. named one) outfit.crew end.crew end.why
+        end.core.machine.finished) }
+    ensures prompt { IsPrompt (I.asked intake.old) intake.new outfit.core.plan
         (O.state outlet.old) (O.state outlet.new) }
     ensures same { (I.plan intake.new ≡ I.plan intake.old)
         × (I.token intake.new ≡ I.token intake.old) }
     ensures same_out { (O.plan outlet.new ≡ O.plan outlet.old)
         × (O.token outlet.new ≡ O.token outlet.old) }
 {
-    let places = crewed.splitter.instances + 1;
-    let opened = Opened::new(alloc, places, places)?;
+    let register = Register::new();
     let lent = Ways {
         intake: LentIntake { inner: intake },
         outlet: LentOutlet { inner: outlet },
     };
-    let (ended, back) = under::<Brand, _, _, _, _>(rt, alloc, opened, crewed, gate, lent);
+    let (ended, back) = with_register::<Brand, _, _, _, _>(rt, alloc, register, outfit, gate, lent);
     // The references that come back are used, which ties them to those that were lent.
     let (_intake, _outlet) = (back.intake.inner, back.outlet.inner);
     ended

@@ -19,7 +19,7 @@ use crate::serving::{Crewed, Desk, Served, Serving, leave, serve, serve_on};
 use crate::{Crew, Ended, Memory, Went, law};
 use sp_hub::{History, Hub, Naming, Opened, Poster, Seat};
 use sp_instance::Gate;
-use sp_piece::{Job, Piece};
+use sp_lend::{Lending, Loan, Reading};
 use sp_ports::{Intake, Outlet};
 use std::alloc::{AllocError, Global};
 use std::sync::Wait;
@@ -34,7 +34,9 @@ pub(crate) struct Ways<I: Intake, O: Outlet> {
 }
 
 // The splitter's own seat, and those of its instances.
-fn part<L: Naming>(seats: Vec<Seat<Piece, L>>) -> (Seat<Piece, L>, Vec<Seat<Piece, L>>)
+fn part<B: Lending, L: Naming>(
+    seats: Vec<Seat<Reading<B>, L>>,
+) -> (Seat<Reading<B>, L>, Vec<Seat<Reading<B>, L>>)
     requires some { 0 < vec_len seats }
     requires free { All (λ s. s.holding ≡ None) seats.items }
     ensures mine { result.0.holding ≡ None }
@@ -49,12 +51,19 @@ fn part<L: Naming>(seats: Vec<Seat<Piece, L>>) -> (Seat<Piece, L>, Vec<Seat<Piec
 }
 
 // Runs the instances on threads of their own, and goes on with the splitter on this one, until it closes the hub.
-fn beside<L: Naming + Send + Sync, I: Intake, O: Outlet, G: Gate, R: Threads + Wait + Sync>(
-    office: &Office<'_, L, G, R>,
-    seating: Seating<L>,
-    serving: Serving<'_, L, R>,
+fn beside<
+    B: Lending + Send,
+    L: Naming + Send + Sync,
+    I: Intake,
+    O: Outlet,
+    G: Gate,
+    R: Threads + Wait + Sync,
+>(
+    office: &Office<'_, B, L, G, R>,
+    seating: Seating<B, L>,
+    serving: Serving<'_, B, L, R>,
     ways: Ways<I, O>,
-) -> (Seating<L>, Served<L>, Ways<I, O>)
+) -> (Seating<B, L>, Served<B, L>, Ways<I, O>)
     requires free { All (λ s. s.holding ≡ None) seating.seats }
     requires ready { IsServing serving.desk.splitter.instances serving.desk.splitter.batch
         serving.desk.splitter.kept.items serving.desk.splitter.core
@@ -93,7 +102,7 @@ fn beside<L: Naming + Send + Sync, I: Intake, O: Outlet, G: Gate, R: Threads + W
     // instances would wait for jobs, and the splitter would never go on.
     let (seating, (served, ways)) = thread::join(
         rt,
-        || -> Seating<L>
+        || -> Seating<B, L>
             requires { IsSync R.row × All (λ s. s.holding ≡ None) seating.seats }
             ensures { (length result.seats ≡ length seating.seats) × (result.room ≡ seating.room)
                 × (map (λ s. s.number) result.seats ≡ map (λ s. s.number) seating.seats)
@@ -103,7 +112,7 @@ fn beside<L: Naming + Send + Sync, I: Intake, O: Outlet, G: Gate, R: Threads + W
             attend_all(rt, alloc, hub, gate, &mut seating);
             seating
         },
-        || -> (Served<L>, Ways<I, O>)
+        || -> (Served<B, L>, Ways<I, O>)
             requires { IsServing serving.desk.splitter.instances serving.desk.splitter.batch
                 serving.desk.splitter.kept.items serving.desk.splitter.core
                 serving.desk.by serving.desk.seat
@@ -139,12 +148,19 @@ fn beside<L: Naming + Send + Sync, I: Intake, O: Outlet, G: Gate, R: Threads + W
 
 // Serves alone at first, with each job done on this thread, and beside the instances from where one of them is wanted: a
 // run that is over before starts no thread. Either way each of the instances' seats is told that no job will come.
-fn with_instances<L: Naming + Send + Sync, I: Intake, O: Outlet, G: Gate, R: Threads + Wait + Sync>(
-    office: &Office<'_, L, G, R>,
-    seating: Seating<L>,
-    serving: Serving<'_, L, R>,
+fn with_instances<
+    B: Lending + Send,
+    L: Naming + Send + Sync,
+    I: Intake,
+    O: Outlet,
+    G: Gate,
+    R: Threads + Wait + Sync,
+>(
+    office: &Office<'_, B, L, G, R>,
+    seating: Seating<B, L>,
+    serving: Serving<'_, B, L, R>,
     ways: Ways<I, O>,
-) -> (Seating<L>, Served<L>, Ways<I, O>)
+) -> (Seating<B, L>, Served<B, L>, Ways<I, O>)
     requires free { All (λ s. s.holding ≡ None) seating.seats }
     requires may { MayServe serving.desk.splitter.core serving.desk.splitter.instances
         serving.desk.splitter.batch serving.desk.splitter.kept.items serving.desk.by
@@ -190,11 +206,11 @@ fn with_instances<L: Naming + Send + Sync, I: Intake, O: Outlet, G: Gate, R: Thr
 }
 
 // What the hub did, once it is closed and all its seats are back, those of the instances and the splitter's own.
-fn wind_up<L: Naming>(
-    hub: Hub<Job, Piece, L>,
-    by: Poster<Piece, L>,
-    others: Vec<Seat<Piece, L>>,
-    mine: Seat<Piece, L>,
+fn wind_up<B: Lending + Send, L: Naming>(
+    hub: Hub<Loan<B>, Reading<B>, L>,
+    by: Poster<Reading<B>, L>,
+    others: Vec<Seat<Reading<B>, L>>,
+    mine: Seat<Reading<B>, L>,
 ) -> History
     requires closed { by.closed ≡ true }
     requires whole { vec_len others + 1 ≡ hub.seats }
@@ -214,6 +230,7 @@ fn wind_up<L: Naming>(
 /// Runs a splitter whose core has done no step, and its instances, at a hub that is opened for them; the ways in
 /// and out come back as they stand then.
 pub(crate) fn under<
+    B: Lending + Send,
     L: Naming + Send + Sync,
     I: Intake,
     O: Outlet,
@@ -222,8 +239,8 @@ pub(crate) fn under<
 >(
     rt: &R,
     alloc: Global,
-    opened: Opened<Piece>,
-    crewed: Crewed,
+    opened: Opened<Reading<B>>,
+    crewed: Crewed<B>,
     gate: &G,
     ways: Ways<I, O>,
 ) -> (Result<Ended, Memory>, Ways<I, O>)
@@ -255,7 +272,7 @@ pub(crate) fn under<
         × (O.token result.1.outlet ≡ O.token ways.outlet) }
 {
     law::returns_follow_readings();
-    let (hub, by, seats) = match Hub::<Job, Piece, L>::new(alloc, opened) {
+    let (hub, by, seats) = match Hub::<Loan<B>, Reading<B>, L>::new(alloc, opened) {
         Ok(made) => made,
         Err(AllocError) => return (Err(AllocError), ways),
     };

@@ -8,6 +8,7 @@ mod driver;
 mod driving;
 mod ended;
 mod feeding;
+mod fitting;
 mod handing;
 mod joining;
 mod law;

@@ -9,23 +9,31 @@ ghost use Rattle.sp_split.specs.Going.{IsGoing};
 ghost use Rattle.sp_split.specs.Prompt.{IsPrompt};
 ghost use Rattle.sp_split.specs.Stages.{AdvancedWith};
 ghost use Rattle.sp_split.specs.Stopping.{IsThrough};
+ghost use Rattle.sp_split.specs.Working.{HasWorked};
 
 use crate::driver::Driver;
 use crate::feeding::{Fed, all_finished, feed};
 use crate::handing::put_windows;
 use crate::stopping::why_over;
 use crate::{Memory, Why, law};
+use sp_core::Emitted;
 use sp_ports::{Intake, OutFault, Outlet};
 use std::alloc::{AllocError, Global};
 
 // Has the driver work, and puts the matches of the windows that it finished, up to the first one that the outlet doesn't
 // take.
-fn work_and_put<D: Driver, O: Outlet>(
+fn work_and_put<D: Driver, W: FnOnce(&mut D, Global) -> Result<Vec<Emitted>, Memory>, O: Outlet>(
     alloc: Global,
     driver: &mut D,
+    work: W,
     outlet: &mut O,
 ) -> Result<(), OutFault>
     requires ready { D.ready driver.old }
+    requires may { (it : _) → D.ready it.now → W.pre work it alloc }
+    requires works { (it : _) (answer : _) (left : _) → D.ready it.now
+        → W.post work it alloc answer left
+        → HasWorked D.core D.instances D.batch D.team D.relieved D.ready D.came
+        it.now left.now answer }
     requires plan { O.plan outlet.old ≡ (D.core driver.old).plan }
     ensures done { OnOk result (AdvancedWith (D.core driver.old) (D.core driver.new)
         (λ matches. Took (O.plan outlet.old) matches (O.state outlet.old) (O.state outlet.new))) }
@@ -49,7 +57,7 @@ fn work_and_put<D: Driver, O: Outlet>(
     ensures same { (O.plan outlet.new ≡ O.plan outlet.old)
         × (O.token outlet.new ≡ O.token outlet.old) }
 {
-    match driver.work(alloc) {
+    match work(driver, alloc) {
         Ok(finished) => put_windows(alloc, &finished, outlet),
         Err(AllocError) => Err(OutFault::Memory),
     }
@@ -64,18 +72,29 @@ pub(crate) struct RoundEnd {
     pub(crate) over: Option<Why>,
 }
 
-/// A round: the next events are fed, up to a batch, where the last round's feeding told that there may be more; they are
-/// worked on, and the matches of the windows that are finished are put. The intake is asked for an event only where every
-/// closed window is finished, and so where all their matches were put. The run is over behind it where the intake gives
-/// no more and every closed window is finished, or a match was refused, or memory ran out.
-pub(crate) fn round<D: Driver, I: Intake, O: Outlet>(
+/// A round: the next events are fed, up to a batch, where the last round's feeding told that there may be more; `work` has
+/// the driver work on them, and the matches of the windows that are finished are put. The intake is asked for an event only
+/// where every closed window is finished, and so where all their matches were put. The run is over behind it where the
+/// intake gives no more and every closed window is finished, or a match was refused, or memory ran out.
+pub(crate) fn round<
+    D: Driver,
+    W: FnOnce(&mut D, Global) -> Result<Vec<Emitted>, Memory>,
+    I: Intake,
+    O: Outlet,
+>(
     alloc: Global,
     driver: &mut D,
+    work: W,
     last: Fed,
     intake: &mut I,
     outlet: &mut O,
 ) -> Result<RoundEnd, Memory>
     requires ready { D.ready driver.old }
+    requires may { (it : _) → D.ready it.now → W.pre work it alloc }
+    requires works { (it : _) (answer : _) (left : _) → D.ready it.now
+        → W.post work it alloc answer left
+        → HasWorked D.core D.instances D.batch D.team D.relieved D.ready D.came
+        it.now left.now answer }
     requires going { (from : I) × (first : Running) × (old : OutletState)
         × (I.plan from ≡ first.plan)
         × IsGoing I.gave I.asked I.ended I.stops I.cause from intake.old first
@@ -119,7 +138,7 @@ pub(crate) fn round<D: Driver, I: Intake, O: Outlet>(
     law::steps_lead_to(driver.core());
     law::finished_windows_stay();
     let fed = feed(alloc, driver, last, intake)?;
-    let put = work_and_put(alloc, driver, outlet);
+    let put = work_and_put(alloc, driver, work, outlet);
     let all = all_finished(driver.core());
     let over = why_over(fed, put, all);
     Ok(RoundEnd { fed, over })

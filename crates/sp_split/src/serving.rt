@@ -4,6 +4,8 @@ ghost use Rattle.sp_ports.specs.Giving.{AreGood};
 ghost use Rattle.sp_split.specs.Relieving.{AreDue, AreWithin, Relieved};
 ghost use Rattle.sp_split.specs.Stopping.{IsThrough};
 ghost use Rattle.sp_split.specs.Stretches.{IsUnderWay, ServesOn, Stretched};
+ghost use Rattle.sp_split.specs.Stages.{Advanced, IsAdvanced};
+ghost use Rattle.sp_splitter.specs.Stages.{matches_of};
 ghost use Rattle.sp_instance.specs.Seats.{PutAll};
 ghost use Rattle.sp_split.specs.Serving.{CameServing, Filled, IsServing, IsToWait, went_by};
 
@@ -16,7 +18,7 @@ use crate::{Memory, Went, Why};
 use sp_core::{Core, CoreFault, Emitted};
 use sp_hub::{Hub, Naming, Poster, Seat};
 use sp_instance::{Gate, work_some};
-use sp_piece::{Job, Piece};
+use sp_lend::{Lending, Loan, Reading};
 use sp_plan::Event;
 use sp_ports::{Intake, Outlet};
 use sp_splitter::Splitter;
@@ -25,25 +27,25 @@ use std::sync::Wait;
 
 /// A splitter, and the predictors that are to take the place of its own.
 #[derive(Drop)]
-pub(crate) struct Crewed {
-    pub(crate) splitter: Splitter,
+pub(crate) struct Crewed<B: Lending> {
+    pub(crate) splitter: Splitter<B>,
     pub(crate) relay: Relay,
 }
 
 /// A splitter with what it has at its hub: the poster, and a seat of its own.
 #[derive(Drop)]
-pub(crate) struct Desk<L: Naming> {
-    pub(crate) splitter: Splitter,
-    pub(crate) by: Poster<Piece, L>,
-    pub(crate) seat: Seat<Piece, L>,
+pub(crate) struct Desk<B: Lending, L: Naming> {
+    pub(crate) splitter: Splitter<B>,
+    pub(crate) by: Poster<Reading<B>, L>,
+    pub(crate) seat: Seat<Reading<B>, L>,
 }
 
 /// What a splitter has left behind.
 #[derive(Drop)]
-pub(crate) struct Served<L: Naming> {
+pub(crate) struct Served<B: Lending, L: Naming> {
     /// The poster, which has closed the hub.
-    pub(crate) by: Poster<Piece, L>,
-    pub(crate) seat: Seat<Piece, L>,
+    pub(crate) by: Poster<Reading<B>, L>,
+    pub(crate) seat: Seat<Reading<B>, L>,
     /// The predictors that are left.
     pub(crate) team: Team,
     /// How it ended. `Err` is want of memory while the core was fed: an event may be lost.
@@ -61,10 +63,10 @@ fn waits(helped: u32, waiting: u32, room: u32, must_wait: bool) -> bool
 // Does jobs that are listed, for which no instance is on its way, at most as many as may be out, and where jobs are dear one
 // alone: each is read, and its piece put. Then waits for a piece where there is nothing else to do. That it stops where none
 // is listed, and waits, no clause says: neither leaves anything at the seat.
-fn help<L: Naming, G: Gate, R: Wait>(
-    office: &Office<'_, L, G, R>,
-    by: &Poster<Piece, L>,
-    seat: &mut Seat<Piece, L>,
+fn help<B: Lending + Send, L: Naming, G: Gate, R: Wait>(
+    office: &Office<'_, B, L, G, R>,
+    by: &Poster<Reading<B>, L>,
+    seat: &mut Seat<Reading<B>, L>,
     must_wait: bool,
     dear: bool,
 )
@@ -82,7 +84,7 @@ fn help<L: Naming, G: Gate, R: Wait>(
 }
 
 // Feeds a splitter the next event.
-fn fill(alloc: Global, splitter: &mut Splitter, event: Event) -> Result<(), Memory>
+fn fill<B: Lending>(alloc: Global, splitter: &mut Splitter<B>, event: Event) -> Result<(), Memory>
     requires unended { splitter.old.core.machine.ended ≡ false }
     requires good { AreGood splitter.old.core.plan
         (splitter.old.core.machine.events ++ event ∷ []) }
@@ -102,7 +104,7 @@ fn fill(alloc: Global, splitter: &mut Splitter, event: Event) -> Result<(), Memo
 }
 
 // Tells a splitter that input has ended.
-fn tell_end(splitter: &mut Splitter)
+fn tell_end<B: Lending>(splitter: &mut Splitter<B>)
     requires unended { splitter.old.core.machine.ended ≡ false }
     ensures filled { Filled splitter.old.core splitter.new.core }
     ensures events { splitter.new.core.machine.events ≡ splitter.old.core.machine.events }
@@ -116,7 +118,7 @@ fn tell_end(splitter: &mut Splitter)
 
 // Puts those to work that are due, one after another: a turn may have finished several windows. The ones that worked are
 // dropped.
-fn relieve(splitter: &mut Splitter, relay: &mut Relay)
+fn relieve<B: Lending>(splitter: &mut Splitter<B>, relay: &mut Relay)
     requires { AreWithin relay.old splitter.old.core.machine.finished }
     ensures relieved { Relieved (λ one. named one)
         (record { first = splitter.old.predictor; relay = relay.old })
@@ -131,16 +133,16 @@ fn relieve(splitter: &mut Splitter, relay: &mut Relay)
 
 /// A splitter that works at its desk, with instances at the same hub, and the predictors that follow its own.
 #[derive(Drop)]
-pub(crate) struct Serving<'a, L: Naming, R: Wait> {
+pub(crate) struct Serving<'a, B: Lending, L: Naming, R: Wait> {
     pub(crate) rt: &'a R,
-    pub(crate) hub: &'a Hub<Job, Piece, L>,
-    pub(crate) desk: Desk<L>,
+    pub(crate) hub: &'a Hub<Loan<B>, Reading<B>, L>,
+    pub(crate) desk: Desk<B, L>,
     pub(crate) relay: Relay,
     /// How feeding ended last.
     pub(crate) fed: Fed,
 }
 
-impl<'a, L: Naming, R: Wait> Driver for Serving<'a, L, R> {
+impl<'a, B: Lending, L: Naming, R: Wait> Driver for Serving<'a, B, L, R> {
     ghost use Rattle.sp_split.specs.Relieving.{AreDue, Relieved};
     ghost use Rattle.sp_split.specs.Serving.{IsServing, CameServing, serving_came};
 
@@ -178,8 +180,31 @@ impl<'a, L: Naming, R: Wait> Driver for Serving<'a, L, R> {
     fn end(&mut self) {
         tell_end(&mut self.desk.splitter)
     }
+}
 
-    fn work(&mut self, alloc: Global) -> Result<Vec<Emitted>, Memory> {
+impl<'a, B: Lending + Send, L: Naming, R: Wait> Serving<'a, B, L, R> {
+    // A turn, behind which predictors that are due go to work.
+    fn work(&mut self, alloc: Global) -> Result<Vec<Emitted>, Memory>
+        requires ready { IsServing self.old.desk.splitter.instances self.old.desk.splitter.batch
+            self.old.desk.splitter.kept.items self.old.desk.splitter.core
+            self.old.desk.by self.old.desk.seat }
+        requires due { AreDue self.old.relay self.old.desk.splitter.core.machine.finished }
+        ensures relieved { Relieved (λ one. named one)
+            (record { first = self.old.desk.splitter.predictor; relay = self.old.relay })
+            (record { first = self.new.desk.splitter.predictor; relay = self.new.relay }) }
+        ensures done { IfOk result (λ finished. Advanced self.old.desk.splitter.core
+            self.new.desk.splitter.core (matches_of finished.items)) }
+        ensures short { OnErr result (IsAdvanced self.old.desk.splitter.core
+            self.new.desk.splitter.core) }
+        ensures ready { OnOk result (IsServing self.new.desk.splitter.instances
+            self.new.desk.splitter.batch self.new.desk.splitter.kept.items
+            self.new.desk.splitter.core self.new.desk.by self.new.desk.seat
+            × AreDue self.new.relay self.new.desk.splitter.core.machine.finished) }
+        ensures came { CameServing self.new.desk.splitter.instances
+            self.new.desk.splitter.batch self.new.desk.splitter.core self.new.desk.by }
+        ensures terms { (self.new.desk.splitter.instances ≡ self.old.desk.splitter.instances)
+            × (self.new.desk.splitter.batch ≡ self.old.desk.splitter.batch) }
+    {
         let desk = &mut self.desk;
         let finished = desk.splitter.turn(self.rt, alloc, self.hub, &mut desk.by)?;
         relieve(&mut desk.splitter, &mut self.relay);
@@ -189,7 +214,7 @@ impl<'a, L: Naming, R: Wait> Driver for Serving<'a, L, R> {
 
 // Whether the last turn listed a job for which an instance is to be woken, where none was woken yet: any but its first one,
 // which the splitter does itself, and each that is dear. Nothing but the time of a run rests on it.
-fn wants_instance<L: Naming>(desk: &Desk<L>) -> bool {
+fn wants_instance<B: Lending + Send, L: Naming>(desk: &Desk<B, L>) -> bool {
     desk.by.waiting() > 1 || desk.splitter.unheard.is_dear()
 }
 
@@ -197,9 +222,9 @@ fn wants_instance<L: Naming>(desk: &Desk<L>) -> bool {
 /// which no instance is on its way. A splitter that is alone yet also stops behind a round that wants an instance, and
 /// answers nothing: what that round listed is left to be done. It never waits for a piece before, since it does each job
 /// itself.
-pub(crate) fn serve_on<I: Intake, O: Outlet, L: Naming, G: Gate, R: Wait>(
-    office: &Office<'_, L, G, R>,
-    serving: &mut Serving<'_, L, R>,
+pub(crate) fn serve_on<I: Intake, O: Outlet, B: Lending + Send, L: Naming, G: Gate, R: Wait>(
+    office: &Office<'_, B, L, G, R>,
+    serving: &mut Serving<'_, B, L, R>,
     alone: bool,
     intake: &mut I,
     outlet: &mut O,
@@ -244,7 +269,37 @@ pub(crate) fn serve_on<I: Intake, O: Outlet, L: Naming, G: Gate, R: Wait>(
         let dear = desk.splitter.unheard.is_dear();
         help(office, &desk.by, &mut desk.seat, must_wait, dear);
         let last = serving.fed;
-        let round = match round(office.alloc, serving, last, intake, outlet) {
+        let work = |serving: &mut Serving<'_, B, L, R>, alloc: Global|
+            requires ready { IsServing serving.old.desk.splitter.instances
+                serving.old.desk.splitter.batch serving.old.desk.splitter.kept.items
+                serving.old.desk.splitter.core serving.old.desk.by serving.old.desk.seat }
+            requires due { AreDue serving.old.relay
+                serving.old.desk.splitter.core.machine.finished }
+            ensures done { IfOk result (λ finished. Advanced serving.old.desk.splitter.core
+                serving.new.desk.splitter.core (matches_of finished.items)) }
+            ensures short { OnErr result (IsAdvanced serving.old.desk.splitter.core
+                serving.new.desk.splitter.core) }
+            ensures ready { OnOk result (IsServing serving.new.desk.splitter.instances
+                serving.new.desk.splitter.batch serving.new.desk.splitter.kept.items
+                serving.new.desk.splitter.core serving.new.desk.by serving.new.desk.seat
+                × AreDue serving.new.relay serving.new.desk.splitter.core.machine.finished) }
+            ensures came { CameServing serving.new.desk.splitter.instances
+                serving.new.desk.splitter.batch serving.new.desk.splitter.core
+                serving.new.desk.by }
+            ensures relieved { Relieved (λ one. named one)
+                (record {
+                  first = serving.old.desk.splitter.predictor;
+                  relay = serving.old.relay;
+                })
+                (record {
+                  first = serving.new.desk.splitter.predictor;
+                  relay = serving.new.relay;
+                }) }
+            ensures instances { serving.new.desk.splitter.instances
+                ≡ serving.old.desk.splitter.instances }
+            ensures batch { serving.new.desk.splitter.batch ≡ serving.old.desk.splitter.batch }
+        { serving.work(alloc) };
+        let round = match round(office.alloc, serving, work, last, intake, outlet) {
             Ok(round) => round,
             Err(AllocError) => return Some(Err(AllocError)),
         };
@@ -260,7 +315,10 @@ pub(crate) fn serve_on<I: Intake, O: Outlet, L: Naming, G: Gate, R: Wait>(
 }
 
 // Closes the hub: no job is listed there any more.
-fn shut<L: Naming, G: Gate, R: Wait>(office: &Office<'_, L, G, R>, desk: &mut Desk<L>)
+fn shut<B: Lending + Send, L: Naming, G: Gate, R: Wait>(
+    office: &Office<'_, B, L, G, R>,
+    desk: &mut Desk<B, L>,
+)
     requires open { desk.old.by.closed ≡ false }
     ensures closed { desk.new.by.closed ≡ true }
     ensures got { desk.new.by.got ≡ desk.old.by.got }
@@ -271,11 +329,11 @@ fn shut<L: Naming, G: Gate, R: Wait>(office: &Office<'_, L, G, R>, desk: &mut De
 }
 
 /// Behind the last round of a run that ended so the splitter closes its hub, and leaves what it has.
-pub(crate) fn leave<L: Naming, G: Gate, R: Wait>(
-    office: &Office<'_, L, G, R>,
-    serving: Serving<'_, L, R>,
+pub(crate) fn leave<B: Lending + Send, L: Naming, G: Gate, R: Wait>(
+    office: &Office<'_, B, L, G, R>,
+    serving: Serving<'_, B, L, R>,
     end: Result<Why, Memory>,
-) -> Served<L>
+) -> Served<B, L>
     requires open { serving.desk.by.closed ≡ false }
     ensures closed { result.by.closed ≡ true }
     ensures got { result.by.got ≡ serving.entry.desk.by.got }
@@ -300,7 +358,10 @@ pub(crate) fn leave<L: Naming, G: Gate, R: Wait>(
         relay,
     };
     let end = match end {
-        Ok(why) => Ok(Went { core, why }),
+        Ok(why) => Ok(Went {
+            core: core.into_core(),
+            why,
+        }),
         Err(AllocError) => Err(AllocError),
     };
     Served {
@@ -315,12 +376,12 @@ pub(crate) fn leave<L: Naming, G: Gate, R: Wait>(
 /// is refused, or memory runs out. Turn after turn events are fed, a turn is taken, predictors that are due go to work, the
 /// matches of the windows that it finished are put, and then the splitter does jobs that are still listed. Behind the last
 /// turn it closes its hub.
-pub(crate) fn serve<I: Intake, O: Outlet, L: Naming, G: Gate, R: Wait>(
-    office: &Office<'_, L, G, R>,
-    serving: Serving<'_, L, R>,
+pub(crate) fn serve<I: Intake, O: Outlet, B: Lending + Send, L: Naming, G: Gate, R: Wait>(
+    office: &Office<'_, B, L, G, R>,
+    serving: Serving<'_, B, L, R>,
     intake: &mut I,
     outlet: &mut O,
-) -> Served<L>
+) -> Served<B, L>
     requires ready { IsServing serving.desk.splitter.instances serving.desk.splitter.batch
         serving.desk.splitter.kept.items serving.desk.splitter.core
         serving.desk.by serving.desk.seat }

@@ -224,6 +224,10 @@ picked_here shares n c t ready k out ids tree ready_is k_is out_is picked = (
       (subst (λ (z : List ℕ). IsPicked shares t.entries z k ids) ready_is picked),
 )
 
+-- what is picked of a core is picked of that very core under another name
+pub picked_told : (shares : ℕ → ℕ → ℕ) (n : ℕ) (told c : Running) (ids all : List ℕ) → told ≡ c → all ≡ ids → ArePicked shares n told ids → ArePicked shares n c all
+picked_told shares n told c ids all same is picked = subst (λ (z : Running). ArePicked shares n z all) same (subst (ArePicked shares n told) (sym is) picked)
+
 -- what was leased so far
 abbrev LendsSoFar : Bool → ℕ → List ℕ → Running → Running → Type 0
 LendsSoFar shy batch ids old new = (count : ℕ) × Lends shy batch (take count ids) old new

@@ -16,6 +16,7 @@ use sp_base::Share;
 use sp_chance::Chances;
 use sp_core::{Core, CoreFault};
 use sp_group::Label;
+use sp_lend::{Lender, Lending};
 use sp_pick::{next_label, survival_with};
 use sp_tree::Tree;
 use sp_version::Version;
@@ -34,9 +35,9 @@ pub(crate) struct Born {
 
 /// Makes children, each the one of the greatest survival, ties by window and then by parent, while fewer than
 /// `instances + 1` versions are out or ready, fewer are live than may be, and a child could be made.
-pub(crate) fn breed(
+pub(crate) fn breed<B: Lending>(
     alloc: Global,
-    core: &mut Core,
+    core: &mut Lender<B>,
     chances: &Chances,
     instances: u32,
 ) -> Result<(), Memory>
@@ -54,7 +55,7 @@ pub(crate) fn breed(
     ensures spread_out { OnOk result
         (IsSpreadOut core.new.plan core.new.bound instances core.new.machine) }
 {
-    let mut busy = count_busy(alloc, core)?;
+    let mut busy = count_busy(alloc, core.core())?;
     law::known(core);
     while busy <= instances as usize {
         if !bear_best(alloc, core, chances)? {
@@ -68,17 +69,21 @@ pub(crate) fn breed(
 
 // Makes the best child, where one more version may be live and a child could be made. Answers whether it
 // did.
-fn bear_best(alloc: Global, core: &mut Core, chances: &Chances) -> Result<bool, Memory>
+fn bear_best<B: Lending>(
+    alloc: Global,
+    core: &mut Lender<B>,
+    chances: &Chances,
+) -> Result<bool, Memory>
     ensures born { IfOk result (λ born. MatchBool born
         (HasBorn (share_of chances.now) core.old core.new)
         (IsBarren (share_of chances.now) core.old core.new)) }
     ensures err { OnErr result (core.new ≡ core.old) }
 {
-    let tree = core.tree();
+    let tree = core.core().tree();
     if tree.live() == tree.bound() {
         return Ok(false);
     }
-    let Some(child) = best_child(alloc, core, tree, chances)? else {
+    let Some(child) = best_child(alloc, core.core(), tree, chances)? else {
         return Ok(false);
     };
     // It tells what a label is.

@@ -11,7 +11,7 @@ use std::alloc::Global;
 pub(crate) fn count_out(alloc: Global, core: &Core) -> Result<u32, Memory>
     ensures { IfOk result (λ out. out ≡ out_count core.now.machine) }
 {
-    law::known(core);
+    law::known_of(core);
     let tree = core.tree();
     tree.live();
     let mut out = 0u32;
@@ -32,7 +32,7 @@ pub(crate) fn count_busy(alloc: Global, core: &Core) -> Result<usize, Memory>
         busy ≡ busy_count core.now.plan core.now.bound core.now.machine) }
 {
     // They tell that a version is out or ready, never both, and that few are live.
-    law::known(core);
+    law::known_of(core);
     core.tree().live();
     let out = count_out(alloc, core)? as usize;
     let ready = core.ready(alloc)?.len();

@@ -11,14 +11,18 @@ ghost use Rattle.sp_splitter.specs.Splitting.{IsBelowKept};
 ghost use Rattle.sp_splitter.specs.Stages.{Goes, NoneEmitted, NoneRead, Went};
 
 use crate::{Memory, law};
-use sp_core::{Core, Given};
-use sp_piece::{Job, Piece};
+use sp_core::Given;
+use sp_lend::{Lender, Lending, Loan, Reading};
 use std::alloc::{AllocError, Global};
 use std::collections::VecDeque;
 
 // Gives back, unread, a job whose version is gone.
 #[tactic(auto, using(crate::proofs::Stepping::went_none))]
-fn give_back_unread(alloc: Global, core: &mut Core, job: Job) -> Result<(), Memory>
+fn give_back_unread<B: Lending>(
+    alloc: Global,
+    core: &mut Lender<B>,
+    job: Loan<B>,
+) -> Result<(), Memory>
     requires gone { version_at core.old.machine.versions job.version ≡ None }
     ensures went { (n batch : ℕ) → Went n batch core.old core.new }
     ensures emitted { NoneEmitted core.old core.new }
@@ -28,7 +32,7 @@ fn give_back_unread(alloc: Global, core: &mut Core, job: Job) -> Result<(), Memo
     ensures ended { OnOk result (ticket_at core.new.machine.tickets job.ticket ≡ None) }
 {
     law::known(core);
-    match core.give_back(alloc, Piece::start(alloc, job)) {
+    match core.give_back(alloc, Reading::start(alloc, job)) {
         Ok(Given::Stale { .. }) => Ok(()),
         Ok(Given::NotOut { .. }) => Ok(()),
         // A job carries the version of its ticket, so none that is not live can come home.
@@ -40,10 +44,10 @@ fn give_back_unread(alloc: Global, core: &mut Core, job: Job) -> Result<(), Memo
 }
 
 /// Gives back, unread, each kept job whose version is gone.
-pub(crate) fn drop_stale(
+pub(crate) fn drop_stale<B: Lending>(
     alloc: Global,
-    core: &mut Core,
-    kept: &mut VecDeque<Job>,
+    core: &mut Lender<B>,
+    kept: &mut VecDeque<Loan<B>>,
 ) -> Result<(), Memory>
     requires settled { Settled core.old.plan core.old.machine }
     ensures went { (n batch : ℕ) → Went n batch core.old core.new }
@@ -65,7 +69,7 @@ pub(crate) fn drop_stale(
 {
     let mut place = 0;
     while let Some(job) = kept.get(place) {
-        if core.tree().get(job.version).is_some() {
+        if core.core().tree().get(job.job().version).is_some() {
             place += 1;
         } else if let Some(job) = kept.remove(place) {
             give_back_unread(alloc, core, job)?;

@@ -8,6 +8,7 @@ ghost use Rattle.sp_splitter.specs.Stages.{Goes, NoneRead, Went, matches_of};
 
 use crate::{Memory, law};
 use sp_core::{Core, Emitted};
+use sp_lend::{Lender, Lending};
 use std::alloc::{AllocError, Global};
 
 // Whether there is a root that is done.
@@ -25,7 +26,7 @@ fn is_root_done(core: &Core) -> bool
 }
 
 // Finishes the root, which is done.
-fn finish_root(core: &mut Core) -> Emitted
+fn finish_root<B: Lending>(core: &mut Lender<B>) -> Emitted
     requires calm { AreCalm core.old.plan core.old.machine }
     requires done { refused core.old s.Finish ≡ None }
     ensures { FinishedOne core.old core.new result }
@@ -38,7 +39,10 @@ fn finish_root(core: &mut Core) -> Emitted
 }
 
 /// Finishes windows while the root is done, and answers what each of them emits.
-pub(crate) fn finish_all(alloc: Global, core: &mut Core) -> Result<Vec<Emitted>, Memory>
+pub(crate) fn finish_all<B: Lending>(
+    alloc: Global,
+    core: &mut Lender<B>,
+) -> Result<Vec<Emitted>, Memory>
     requires calm { AreCalm core.old.plan core.old.machine }
     ensures went { (n batch : ℕ) → Went n batch core.old core.new }
     ensures goes { OnOk result ((n : ℕ) → Goes n core.old core.new) }
@@ -51,7 +55,7 @@ pub(crate) fn finish_all(alloc: Global, core: &mut Core) -> Result<Vec<Emitted>,
 {
     let mut all = Vec::new(alloc);
     for _ in 0..u64::MAX {
-        if !is_root_done(core) {
+        if !is_root_done(core.core()) {
             return Ok(all);
         }
         // Room is made before the window is finished, so that its matches are not lost.

@@ -12,7 +12,8 @@ use crate::{Memory, law};
 use sp_chance::Predictor;
 use sp_core::Core;
 use sp_hub::{Hub, Naming, Poster};
-use sp_piece::{Job, Piece};
+use sp_lend::{Lender, Lending, Loan, Reading};
+use sp_piece::Piece;
 use std::alloc::{AllocError, Global};
 use std::sync::Wait;
 
@@ -30,7 +31,11 @@ fn learn_from(predictor: &mut dyn Predictor, core: &Core, piece: &Piece)
 // Gives a piece back. One whose ticket is not out, and one that is not what was lent, are let go as one whose
 // version is gone: nothing is known of pieces at home.
 #[tactic(auto, using(crate::proofs::Stepping::went_none))]
-fn give_back(alloc: Global, core: &mut Core, piece: Piece) -> Result<(), Memory>
+fn give_back<B: Lending>(
+    alloc: Global,
+    core: &mut Lender<B>,
+    piece: Reading<B>,
+) -> Result<(), Memory>
     ensures went { (n batch : ℕ) → Went n batch core.old core.new }
     ensures goes { (n : ℕ) → Goes n core.old core.new }
     ensures emitted { NoneEmitted core.old core.new }
@@ -39,7 +44,7 @@ fn give_back(alloc: Global, core: &mut Core, piece: Piece) -> Result<(), Memory>
     ensures given { OnOk result ((given : home.Given) × IsGiven core.old core.new piece given) }
 {
     law::known(core);
-    let short = piece.short();
+    let short = piece.piece().short();
     match core.give_back(alloc, piece) {
         Ok(_) if short => Err(AllocError),
         Ok(_) => Ok(()),
@@ -49,13 +54,13 @@ fn give_back(alloc: Global, core: &mut Core, piece: Piece) -> Result<(), Memory>
 
 /// Collects every piece that is home and gives it back. What came home is learned from, in its order. Answers how much
 /// it has read. A piece that was given up for want of memory is answered as such, once it is given back.
-pub(crate) fn gather<L: Naming, R: Wait>(
+pub(crate) fn gather<B: Lending + Send, L: Naming, R: Wait>(
     rt: &R,
     alloc: Global,
-    core: &mut Core,
+    core: &mut Lender<B>,
     predictor: &mut dyn Predictor,
-    hub: &Hub<Job, Piece, L>,
-    by: &mut Poster<Piece, L>,
+    hub: &Hub<Loan<B>, Reading<B>, L>,
+    by: &mut Poster<Reading<B>, L>,
 ) -> Result<Readings, Memory>
     ensures went { (n batch : ℕ) → Went n batch core.old core.new }
     ensures goes { OnOk result ((n : ℕ) → Goes n core.old core.new) }
@@ -71,12 +76,12 @@ pub(crate) fn gather<L: Naming, R: Wait>(
         let Some(piece) = hub.collect(rt, by) else {
             return Ok(read);
         };
-        read.add(&piece);
-        let has_children = has_children(core, &piece);
-        learn_from(predictor, core, &piece);
+        read.add(piece.piece());
+        let has_children = has_children(core.core(), piece.piece());
+        learn_from(predictor, core.core(), piece.piece());
         give_back(alloc, core, piece)?;
         if has_children {
-            read.add_home(core);
+            read.add_home(core.core());
         }
     }
     Ok(read)

@@ -21,8 +21,8 @@ use crate::counting::count_out;
 use crate::{Memory, law};
 use sp_chance::Chances;
 use sp_core::{Core, CoreFault};
+use sp_lend::{Lender, Lending, Loan};
 use sp_pick::pick;
-use sp_piece::Job;
 use sp_plan::Plan;
 use sp_version::Version;
 use std::alloc::{AllocError, Global};
@@ -54,12 +54,12 @@ fn picked(alloc: Global, core: &Core, chances: &Chances, instances: u32) -> Resu
 }
 
 // Leases a version, and keeps its job behind the others.
-fn lend_one(
+fn lend_one<B: Lending>(
     alloc: Global,
-    core: &mut Core,
+    core: &mut Lender<B>,
     id: u64,
     batch: u32,
-    kept: &mut VecDeque<Job>,
+    kept: &mut VecDeque<Loan<B>>,
 ) -> Result<(), Memory>
     requires some { 1 ≤ batch }
     requires most { batch ≤ batch_limit }
@@ -144,12 +144,12 @@ fn asked(core: &Core, id: u64, batch: u32, shy: bool) -> u32
 }
 
 // Leases the versions of these ids, one after another, each for the events that it asks for.
-fn lend_all(
+fn lend_all<B: Lending>(
     alloc: Global,
-    core: &mut Core,
+    core: &mut Lender<B>,
     ids: &[u64],
     asking: Asking,
-    kept: &mut VecDeque<Job>,
+    kept: &mut VecDeque<Loan<B>>,
 ) -> Result<(), Memory>
     requires some { 1 ≤ asking.batch }
     requires most { asking.batch ≤ batch_limit }
@@ -163,7 +163,7 @@ fn lend_all(
 {
     for id in ids {
         law::known(core);
-        let count = asked(core, *id, asking.batch, asking.shy);
+        let count = asked(core.core(), *id, asking.batch, asking.shy);
         lend_one(alloc, core, *id, count, kept)?;
     }
     Ok(())
@@ -172,13 +172,13 @@ fn lend_all(
 /// Leases the versions that are picked of the ready ones, until `instances + 1` tickets of live versions are out
 /// or none is ready, for a batch of events each or fewer, and keeps their jobs behind the others, one for each
 /// ticket.
-pub(crate) fn lend(
+pub(crate) fn lend<B: Lending>(
     alloc: Global,
-    core: &mut Core,
+    core: &mut Lender<B>,
     chances: &Chances,
     instances: u32,
     asking: Asking,
-    kept: &mut VecDeque<Job>,
+    kept: &mut VecDeque<Loan<B>>,
 ) -> Result<(), Memory>
     requires instances { instances ≤ 16 }
     requires some { 1 ≤ asking.batch }
@@ -202,6 +202,6 @@ pub(crate) fn lend(
     ensures rising { (last : ℕ) → IsBelowKept last kept.old.items core.old.machine.next_ticket
         → IsBelowKept last kept.new.items core.new.machine.next_ticket }
 {
-    let ids = picked(alloc, core, chances, instances)?;
+    let ids = picked(alloc, core.core(), chances, instances)?;
     lend_all(alloc, core, &ids, asking, kept)
 }

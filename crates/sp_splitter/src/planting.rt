@@ -5,13 +5,14 @@ ghost use Rattle.sp_splitter.specs.Planting.{Plants};
 ghost use Rattle.sp_splitter.specs.Stages.{Goes, NoneEmitted, NoneRead, Went};
 
 use crate::{Memory, law};
-use sp_core::{Core, CoreFault};
+use sp_core::CoreFault;
 use sp_group::Label;
+use sp_lend::{Lender, Lending};
 use std::alloc::{AllocError, Global};
 
 /// Makes the root of the next window where none is live and that window has begun.
 #[tactic(auto, using(crate::proofs::Stepping::went_none))]
-pub(crate) fn plant(alloc: Global, core: &mut Core) -> Result<(), Memory>
+pub(crate) fn plant<B: Lending>(alloc: Global, core: &mut Lender<B>) -> Result<(), Memory>
     requires calm { AreCalm core.old.plan core.old.machine }
     requires undone { NoneDone core.old.machine }
     ensures went { (n batch : ℕ) → Went n batch core.old core.new }

@@ -6,19 +6,19 @@ ghost use Rattle.sp_splitter.specs.Splitting.{IsBelowKept};
 use crate::Memory;
 use crate::unheard::Unheard;
 use sp_hub::{Hub, Naming, Poster};
-use sp_piece::{Job, Piece};
+use sp_lend::{Lending, Loan, Reading};
 use std::alloc::AllocError;
 use std::collections::VecDeque;
 use std::sync::Wait;
 
 // Posts a job, and wakes an instance for it or not.
-fn post_one<L: Naming, R: Wait>(
+fn post_one<B: Lending + Send, L: Naming, R: Wait>(
     rt: &R,
-    hub: &Hub<Job, Piece, L>,
-    by: &mut Poster<Piece, L>,
-    job: Job,
+    hub: &Hub<Loan<B>, Reading<B>, L>,
+    by: &mut Poster<Reading<B>, L>,
+    job: Loan<B>,
     wakes: bool,
-) -> Result<(), Job>
+) -> Result<(), Loan<B>>
     requires ticket { by.old.last < job.ticket }
     requires room { by.old.waiting < by.old.room }
     requires open { by.old.closed ≡ false }
@@ -35,11 +35,11 @@ fn post_one<L: Naming, R: Wait>(
 /// Posts kept jobs, the oldest first, while the poster has room for them: a call for each job
 /// that is kept no more. An instance is woken for each that is dear; of those that aren't, the first one the splitter is
 /// to do itself, and for the others one is woken as their work adds up.
-pub(crate) fn post_kept<L: Naming, R: Wait>(
+pub(crate) fn post_kept<B: Lending + Send, L: Naming, R: Wait>(
     rt: &R,
-    hub: &Hub<Job, Piece, L>,
-    by: &mut Poster<Piece, L>,
-    kept: &mut VecDeque<Job>,
+    hub: &Hub<Loan<B>, Reading<B>, L>,
+    by: &mut Poster<Reading<B>, L>,
+    kept: &mut VecDeque<Loan<B>>,
     unheard: &mut Unheard,
 ) -> Result<(), Memory>
     requires open { by.old.closed ≡ false }
@@ -59,7 +59,7 @@ pub(crate) fn post_kept<L: Naming, R: Wait>(
         let Some(job) = kept.pop_front() else {
             return Ok(());
         };
-        let wakes = unheard.is_worth_waking(&job, first);
+        let wakes = unheard.is_worth_waking(job.job(), first);
         first = false;
         if let Err(job) = post_one(rt, hub, by, job, wakes) {
             // There is room where it was.

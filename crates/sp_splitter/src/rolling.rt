@@ -7,6 +7,7 @@ ghost use Rattle.sp_splitter.specs.Stages.{Goes, NoneEmitted, NoneRead, Went};
 
 use crate::{Memory, law};
 use sp_core::Core;
+use sp_lend::{Lender, Lending};
 use std::alloc::Global;
 
 // The window of a version that is live and in conflict.
@@ -41,7 +42,7 @@ fn in_conflict(alloc: Global, core: &Core) -> Result<Vec<(u32, u64)>, Memory>
 }
 
 // Rolls a version where it is live and in conflict.
-fn roll_one(core: &mut Core, id: u64)
+fn roll_one<B: Lending>(core: &mut Lender<B>, id: u64)
     ensures quiet { Quiet core.old core.new }
     ensures loses { LosesConflict core.old.plan core.old.machine core.new.machine id }
     ensures one { RollsOne id core.old core.new }
@@ -53,7 +54,7 @@ fn roll_one(core: &mut Core, id: u64)
 }
 
 // Rolls versions in the order in which they are listed.
-fn roll_listed(core: &mut Core, found: &[(u32, u64)])
+fn roll_listed<B: Lending>(core: &mut Lender<B>, found: &[(u32, u64)])
     requires listed { AreListed core.old.plan core.old.machine found.now }
     requires sorted { IsSorted place_cmp found.now }
     ensures quiet { Quiet core.old core.new }
@@ -66,7 +67,7 @@ fn roll_listed(core: &mut Core, found: &[(u32, u64)])
 }
 
 /// Rolls every version that is in conflict, by window and then id.
-pub(crate) fn roll_all(alloc: Global, core: &mut Core) -> Result<(), Memory>
+pub(crate) fn roll_all<B: Lending>(alloc: Global, core: &mut Lender<B>) -> Result<(), Memory>
     ensures went { (n batch : ℕ) → Went n batch core.old core.new }
     ensures goes { OnOk result ((n : ℕ) → Goes n core.old core.new) }
     ensures emitted { NoneEmitted core.old core.new }
@@ -74,7 +75,7 @@ pub(crate) fn roll_all(alloc: Global, core: &mut Core) -> Result<(), Memory>
     ensures calm { OnOk result (AreCalm core.new.plan core.new.machine) }
     ensures rolls { OnOk result (Rolls core.old core.new) }
 {
-    let mut found = in_conflict(alloc, core)?;
+    let mut found = in_conflict(alloc, core.core())?;
     // By window, and then by id.
     found.sort_unstable();
     roll_listed(core, &found);

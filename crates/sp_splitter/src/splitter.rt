@@ -19,7 +19,7 @@ use sp_chance::{Chances, Predictor};
 use sp_core::{Core, CoreFault, Emitted};
 use sp_group::Refusal;
 use sp_hub::{Hub, Naming, Poster};
-use sp_piece::{Job, Piece};
+use sp_lend::{Lender, Lending, Loan, Reading};
 use sp_plan::Event;
 use std::alloc::Global;
 use std::collections::VecDeque;
@@ -29,9 +29,9 @@ use std::sync::Wait;
 /// Owns a core, and takes all its steps but the readings, which instances do. Contracts see its fields, since
 /// what a predictor means is a function, of which no model can be made.
 #[derive(Drop)]
-pub struct Splitter {
+pub struct Splitter<B: Lending> {
     /// The machine. No ticket was out when the splitter was made.
-    pub core: Core,
+    pub core: Lender<B>,
     /// How many instances work for it, at most 16. One place more is the splitter's own.
     pub instances: u32,
     /// How many events a lease asks for at most, 1 to 1,024.
@@ -41,20 +41,20 @@ pub struct Splitter {
     /// The chances of the last turn.
     pub chances: Chances,
     /// The jobs that were leased and not posted, since there was no room for them, the oldest first.
-    pub kept: VecDeque<Job>,
+    pub kept: VecDeque<Loan<B>>,
     /// What was posted since an instance was last woken.
     pub unheard: Unheard,
 }
 
-impl Splitter {
+impl<B: Lending> Splitter<B> {
     /// A splitter for a core of which no ticket is out. Takes no memory.
     pub fn new(
         alloc: Global,
-        core: Core,
+        core: Lender<B>,
         instances: u32,
         batch: u32,
         predictor: Box<dyn Predictor>,
-    ) -> Result<Splitter, Memory>
+    ) -> Result<Splitter<B>, Memory>
         requires instances { instances ≤ 16 }
         requires some { 1 ≤ batch }
         requires most { batch ≤ batch_limit }
@@ -115,7 +115,7 @@ impl Splitter {
     pub fn core(&self) -> &Core
         ensures { result.now ≡ self.now.core }
     {
-        &self.core
+        self.core.core()
     }
 
     /// The chances of the last turn, none before the first one.
@@ -133,7 +133,9 @@ impl Splitter {
     {
         mem::replace(&mut self.predictor, predictor)
     }
+}
 
+impl<B: Lending + Send> Splitter<B> {
     /// One turn, in this order. Every piece that is home is given back, and learned from. Every version in
     /// conflict is rolled. Windows are finished while the root is done. A root is made where none is live and its
     /// window has begun. Children are made while fewer than `instances + 1` versions are out or ready. Versions
@@ -146,8 +148,8 @@ impl Splitter {
         &mut self,
         rt: &R,
         alloc: Global,
-        hub: &Hub<Job, Piece, L>,
-        by: &mut Poster<Piece, L>,
+        hub: &Hub<Loan<B>, Reading<B>, L>,
+        by: &mut Poster<Reading<B>, L>,
     ) -> Result<Vec<Emitted>, Memory>
         requires instances { self.old.instances ≤ 16 }
         requires some { 1 ≤ self.old.batch }
@@ -185,7 +187,7 @@ impl Splitter {
         let finished = tidy(alloc, &mut self.core)?;
         let asking = Asking {
             batch: self.batch,
-            shy: self.unheard.are_shy(),
+            shy: self.unheard.are_shy(self.batch),
         };
         self.chances = guess_and_send(
             alloc,

@@ -19,14 +19,14 @@ use crate::lending::{Asking, lend};
 use crate::planting::plant;
 use crate::rolling::roll_all;
 use sp_chance::{Chances, Predictor};
-use sp_core::{Core, Emitted};
-use sp_piece::Job;
+use sp_core::Emitted;
+use sp_lend::{Lender, Lending, Loan};
 use std::alloc::Global;
 use std::collections::VecDeque;
 
 /// Rolls versions in conflict, finishes windows, and makes a root where none is live. Answers what each window
 /// emits.
-pub(crate) fn tidy(alloc: Global, core: &mut Core) -> Result<Vec<Emitted>, Memory>
+pub(crate) fn tidy<B: Lending>(alloc: Global, core: &mut Lender<B>) -> Result<Vec<Emitted>, Memory>
     ensures went { (n batch : ℕ) → Went n batch core.old core.new }
     ensures goes { OnOk result ((n : ℕ) → Goes n core.old core.new) }
     ensures emitted { IfOk result (λ all. core.new.machine.emitted
@@ -42,13 +42,13 @@ pub(crate) fn tidy(alloc: Global, core: &mut Core) -> Result<Vec<Emitted>, Memor
 }
 
 // Makes children, gives back jobs whose versions are gone, and leases what is ready.
-fn send_out(
+fn send_out<B: Lending>(
     alloc: Global,
-    core: &mut Core,
+    core: &mut Lender<B>,
     chances: &Chances,
     instances: u32,
     asking: Asking,
-    kept: &mut VecDeque<Job>,
+    kept: &mut VecDeque<Loan<B>>,
 ) -> Result<(), Memory>
     requires instances { instances ≤ 16 }
     requires some { 1 ≤ asking.batch }
@@ -76,13 +76,13 @@ fn send_out(
 }
 
 /// Asks the predictor for the chances of open groups, and sends work out by them. Answers the chances.
-pub(crate) fn guess_and_send(
+pub(crate) fn guess_and_send<B: Lending>(
     alloc: Global,
-    core: &mut Core,
+    core: &mut Lender<B>,
     predictor: &dyn Predictor,
     instances: u32,
     asking: Asking,
-    kept: &mut VecDeque<Job>,
+    kept: &mut VecDeque<Loan<B>>,
 ) -> Result<Chances, Memory>
     requires instances { instances ≤ 16 }
     requires some { 1 ≤ asking.batch }
@@ -102,7 +102,7 @@ pub(crate) fn guess_and_send(
     ensures rising { (last : ℕ) → IsBelowKept last kept.old.items core.old.machine.next_ticket
         → IsBelowKept last kept.new.items core.new.machine.next_ticket }
 {
-    let chances = guess(alloc, core, predictor)?;
+    let chances = guess(alloc, core.core(), predictor)?;
     send_out(alloc, core, &chances, instances, asking, kept)?;
     Ok(chances)
 }

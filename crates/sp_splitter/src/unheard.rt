@@ -104,10 +104,12 @@ impl Unheard {
     }
 
     /// Whether children are to be shy, as `asked` has it: of late nearly every piece of a root let all its children go,
-    /// so that what they read ahead of it is mostly lost.
-    pub(crate) fn are_shy(&self) -> bool {
+    /// so that what they read ahead of it is mostly lost, and a batch of events takes no longer to read than an instance
+    /// takes to wake. Where it takes longer, instances would have nothing to do meanwhile.
+    pub(crate) fn are_shy(&self, batch: u32) -> bool {
         let Readings { homes, parted, .. } = self.lately;
-        homes >= SOME_HOMES && parted >= homes - homes / 8
+        let batch_visits = self.lately.runs().saturating_mul(batch as u64);
+        homes >= SOME_HOMES && parted >= homes - homes / 8 && batch_visits < WORTH_WAKING
     }
 
     /// Whether the job that was taken in last is dear.

@@ -7,6 +7,7 @@ use sp_chance::Predictor;
 use sp_core::Core;
 use sp_intake::{EventReader, Input};
 use sp_io::{MemFiles, MemSource, Source};
+use sp_lend::{Lender, Lending, Register};
 use sp_load::{Place, plan_at};
 use sp_plan::Plan;
 use sp_ports::{Intake, Next};
@@ -36,9 +37,9 @@ fn plan_of(alloc: Global, query: &str) -> Result<Arc<Plan>, Fail>
 }
 
 // Feeds the next event; answers whether there was one.
-fn feed_next<I: Intake>(
+fn feed_next<B: Lending, I: Intake>(
     alloc: Global,
-    splitter: &mut Splitter,
+    splitter: &mut Splitter<B>,
     intake: &mut I,
 ) -> Result<bool, Fail>
     requires given { (from : I) × (I.plan from ≡ splitter.old.core.plan)
@@ -60,7 +61,11 @@ fn feed_next<I: Intake>(
 }
 
 // Feeds all events that the intake gives.
-fn feed_all<I: Intake>(alloc: Global, splitter: &mut Splitter, intake: &mut I) -> Result<(), Fail>
+fn feed_all<B: Lending, I: Intake>(
+    alloc: Global,
+    splitter: &mut Splitter<B>,
+    intake: &mut I,
+) -> Result<(), Fail>
     requires none { splitter.old.core.machine.events ≡ [] }
     requires plan { I.plan intake.old ≡ splitter.old.core.plan }
     ensures next { splitter.new.core.machine.next_ticket ≡ splitter.old.core.machine.next_ticket }
@@ -75,9 +80,9 @@ fn feed_all<I: Intake>(alloc: Global, splitter: &mut Splitter, intake: &mut I) -
 }
 
 // Feeds all events of the source's rows.
-fn feed_rows<S: Source>(
+fn feed_rows<B: Lending, S: Source>(
     alloc: Global,
-    splitter: &mut Splitter,
+    splitter: &mut Splitter<B>,
     plan: &Arc<Plan>,
     source: &mut S,
 ) -> Result<(), Fail>
@@ -93,14 +98,16 @@ fn feed_rows<S: Source>(
 }
 
 /// A splitter for the query, to which the events of the rows were fed, and which has taken no turn.
-pub(crate) fn fed(
+pub(crate) fn fed<B: Lending>(
     alloc: Global,
+    register: Register,
     query: &str,
     rows: &[u8],
     instances: u32,
     predictor: Box<dyn Predictor>,
-) -> Result<Splitter, Fail>
-    requires { instances ≤ 16 }
+) -> Result<Splitter<B>, Fail>
+    requires book { register.seen.book ≡ B.book }
+    requires few { instances ≤ 16 }
     ensures batch { IfOk result (λ splitter. splitter.batch ≡ 64) }
     ensures instances { IfOk result (λ splitter. splitter.instances ≡ instances) }
     ensures kept { IfOk result (λ splitter. splitter.kept.items ≡ []) }
@@ -108,7 +115,8 @@ pub(crate) fn fed(
 {
     let plan = plan_of(alloc, query)?;
     let core = Core::new(alloc, plan.clone()?, LIVE)?;
-    let mut splitter = Splitter::new(alloc, core, instances, BATCH, predictor)?;
+    let lender = Lender::<B>::new(core, register);
+    let mut splitter = Splitter::new(alloc, lender, instances, BATCH, predictor)?;
     let mut source = MemSource::new(rows.to_vec(alloc)?, 4_096, None);
     feed_rows(alloc, &mut splitter, &plan, &mut source)?;
     Ok(splitter)

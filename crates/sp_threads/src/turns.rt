@@ -9,7 +9,7 @@ use crate::meeting::Meeting;
 use sp_chance::Even;
 use sp_hub::{Hub, Naming, Opened, Poster, Seat, Taken};
 use sp_instance::{OpenGate, do_job, work_all};
-use sp_piece::{Job, Piece};
+use sp_lend::{Lending, Loan, Reading, Register};
 use sp_splitter::Splitter;
 use std::alloc::Global;
 use std::marker::Brand;
@@ -31,21 +31,34 @@ const ONE_SHORT: &str = "EVENT (at INT, k TEXT) TIME at PATTERN (A B C) \
 
 #[test]
 fn a_turn_leases_what_it_made(rt: HostRuntime) -> Result<(), Fail> {
-    leases_what_it_made::<Brand, _>(&rt, rt.alloc(), Opened::new(rt.alloc(), 3, 3)?)
+    leases_by::<Brand, _>(&rt, rt.alloc(), Register::new())
 }
 
-fn leases_what_it_made<L: Naming + Send + Sync, R: Threads + Wait + Abort + Sync>(
+// The register has its name before the hub is opened.
+fn leases_by<B: Lending + Send, R: Threads + Wait + Abort + Sync>(
     rt: &R,
     alloc: Global,
-    opened: Opened<Piece>,
+    register: Register,
 ) -> Result<(), Fail>
+    requires { register.seen.book ≡ B.book }
+{
+    leases_what_it_made::<B, Brand, _>(rt, alloc, register, Opened::new(alloc, 3, 3)?)
+}
+
+fn leases_what_it_made<
+    B: Lending + Send,
+    L: Naming + Send + Sync,
+    R: Threads + Wait + Abort + Sync,
+>(rt: &R, alloc: Global, register: Register, opened: Opened<Reading<B>>) -> Result<(), Fail>
     requires named { (opened.name ≡ L.name) × (opened.parts ≡ L.parts)
         × (opened.table ≡ L.table) }
+    requires book { register.seen.book ≡ B.book }
     requires three { (opened.seats ≡ 3) × (opened.room ≡ 3) }
 {
     let even = Box::new(alloc, Even::new())?;
-    let mut splitter = fed(alloc, TWO_WINDOWS, b"at,k\n1,a\n2,b\n3,a\n4,b\n", 2, even)?;
-    let (hub, mut by, seats) = Hub::<Job, Piece, L>::new(alloc, opened)?;
+    let rows = b"at,k\n1,a\n2,b\n3,a\n4,b\n";
+    let mut splitter = fed::<B>(alloc, register, TWO_WINDOWS, rows, 2, even)?;
+    let (hub, mut by, seats) = Hub::<Loan<B>, Reading<B>, L>::new(alloc, opened)?;
     turn(rt, alloc, &mut splitter, &hub, &mut by)?;
     assert!(rt; by.waiting() == 2);
     assert!(rt; is_out(&splitter, 1) && is_out(&splitter, 2));
@@ -53,7 +66,7 @@ fn leases_what_it_made<L: Naming + Send + Sync, R: Threads + Wait + Abort + Sync
 }
 
 // Whether a version is live and out.
-fn is_out(splitter: &Splitter, id: u64) -> bool {
+fn is_out<B: Lending>(splitter: &Splitter<B>, id: u64) -> bool {
     match splitter.core().tree().get(id) {
         Some(version) => version.out.is_some(),
         None => false,
@@ -62,12 +75,12 @@ fn is_out(splitter: &Splitter, id: u64) -> bool {
 
 // Closes the hub, on which two jobs are listed, and lets three instances do them, each on a thread of its own: two are
 // at work at once.
-fn do_both<L: Naming + Send + Sync, R: Threads + Wait + Abort + Sync>(
+fn do_both<B: Lending + Send, L: Naming + Send + Sync, R: Threads + Wait + Abort + Sync>(
     rt: &R,
     alloc: Global,
-    hub: Hub<Job, Piece, L>,
-    by: Poster<Piece, L>,
-    seats: Vec<Seat<Piece, L>>,
+    hub: Hub<Loan<B>, Reading<B>, L>,
+    by: Poster<Reading<B>, L>,
+    seats: Vec<Seat<Reading<B>, L>>,
 ) -> Result<(), Fail>
     requires open { by.closed ≡ false }
     requires free { All (λ s. s.holding ≡ None) seats.items }
@@ -84,23 +97,23 @@ fn do_both<L: Naming + Send + Sync, R: Threads + Wait + Abort + Sync>(
 }
 
 // Whether another piece is home, read whole.
-fn is_home<L: Naming, R: Wait>(
+fn is_home<B: Lending + Send, L: Naming, R: Wait>(
     rt: &R,
-    hub: &Hub<Job, Piece, L>,
-    by: &mut Poster<Piece, L>,
+    hub: &Hub<Loan<B>, Reading<B>, L>,
+    by: &mut Poster<Reading<B>, L>,
 ) -> bool {
     match hub.collect(rt, by) {
-        Some(piece) => !piece.short(),
+        Some(reading) => !reading.piece().short(),
         None => false,
     }
 }
 
 // Two jobs have two entries each, and the closing has one; each seat put what it took.
-fn were_done<L: Naming, R: Abort>(
+fn were_done<B: Lending + Send, L: Naming, R: Abort>(
     rt: &R,
-    hub: Hub<Job, Piece, L>,
-    by: Poster<Piece, L>,
-    seats: Vec<Seat<Piece, L>>,
+    hub: Hub<Loan<B>, Reading<B>, L>,
+    by: Poster<Reading<B>, L>,
+    seats: Vec<Seat<Reading<B>, L>>,
 ) -> Result<(), Fail> {
     let Ok(history) = hub.finish(by, seats) else {
         return Err("all seats".into());
@@ -112,21 +125,33 @@ fn were_done<L: Naming, R: Abort>(
 
 #[test]
 fn a_turn_lets_the_predictor_learn(rt: HostRuntime) -> Result<(), Fail> {
-    lets_the_predictor_learn::<Brand, _>(&rt, rt.alloc(), Opened::new(rt.alloc(), 1, 2)?)
+    learns_by::<Brand, _>(&rt, rt.alloc(), Register::new())
+}
+
+fn learns_by<B: Lending + Send, R: Wait + Abort>(
+    rt: &R,
+    alloc: Global,
+    register: Register,
+) -> Result<(), Fail>
+    requires { register.seen.book ≡ B.book }
+{
+    lets_the_predictor_learn::<B, Brand, _>(rt, alloc, register, Opened::new(alloc, 1, 2)?)
 }
 
 // Two turns, between which the one job is done: a pair is learned then, and held for worth a thousand.
-fn lets_the_predictor_learn<L: Naming, R: Wait + Abort>(
+fn lets_the_predictor_learn<B: Lending + Send, L: Naming, R: Wait + Abort>(
     rt: &R,
     alloc: Global,
-    opened: Opened<Piece>,
+    register: Register,
+    opened: Opened<Reading<B>>,
 ) -> Result<(), Fail>
     requires named { (opened.name ≡ L.name) × (opened.parts ≡ L.parts)
         × (opened.table ≡ L.table) }
+    requires book { register.seen.book ≡ B.book }
     requires one { (opened.seats ≡ 1) × (opened.room ≡ 2) }
 {
-    let mut splitter = one_short(alloc)?;
-    let (hub, mut by, mut seats) = Hub::<Job, Piece, L>::new(alloc, opened)?;
+    let mut splitter = one_short::<B>(alloc, register)?;
+    let (hub, mut by, mut seats) = Hub::<Loan<B>, Reading<B>, L>::new(alloc, opened)?;
     let seat = seats.pop().ok_or("a seat")?;
     turn(rt, alloc, &mut splitter, &hub, &mut by)?;
     assert!(rt; chance_of(&splitter) == 0);
@@ -137,7 +162,8 @@ fn lets_the_predictor_learn<L: Naming, R: Wait + Abort>(
 }
 
 // A splitter with one instance, and a predictor that has learned nothing yet.
-fn one_short(alloc: Global) -> Result<Splitter, Fail>
+fn one_short<B: Lending>(alloc: Global, register: Register) -> Result<Splitter<B>, Fail>
+    requires { register.seen.book ≡ B.book }
     ensures batch { IfOk result (λ splitter. splitter.batch ≡ 64) }
     ensures instances { IfOk result (λ splitter. splitter.instances ≡ 1) }
     ensures kept { IfOk result (λ splitter. splitter.kept.items ≡ []) }
@@ -149,8 +175,9 @@ fn one_short(alloc: Global) -> Result<Splitter, Fail>
         weight: 1,
         calls: Arc::new(alloc, AtomicU64::new(0))?,
     };
-    fed(
+    fed::<B>(
         alloc,
+        register,
         ONE_SHORT,
         b"at,k\n1,a\n2,b\n",
         1,
@@ -159,12 +186,12 @@ fn one_short(alloc: Global) -> Result<Splitter, Fail>
 }
 
 // One turn. What it finished is let go; of what `turn` says stands here what a next one asks for.
-fn turn<L: Naming, R: Wait>(
+fn turn<B: Lending + Send, L: Naming, R: Wait>(
     rt: &R,
     alloc: Global,
-    splitter: &mut Splitter,
-    hub: &Hub<Job, Piece, L>,
-    by: &mut Poster<Piece, L>,
+    splitter: &mut Splitter<B>,
+    hub: &Hub<Loan<B>, Reading<B>, L>,
+    by: &mut Poster<Reading<B>, L>,
 ) -> Result<(), Fail>
     requires instances { splitter.old.instances ≤ 16 }
     requires some { 1 ≤ splitter.old.batch }
@@ -185,16 +212,16 @@ fn turn<L: Naming, R: Wait>(
 }
 
 // How likely the first run of the first version is held to complete.
-fn chance_of(splitter: &Splitter) -> u32 {
+fn chance_of<B: Lending>(splitter: &Splitter<B>) -> u32 {
     splitter.chances().get(1, 1).get()
 }
 
 // Does the job that is there, at a seat.
-fn do_one<L: Naming, R: Wait>(
+fn do_one<B: Lending + Send, L: Naming, R: Wait>(
     rt: &R,
     alloc: Global,
-    hub: &Hub<Job, Piece, L>,
-    seat: Seat<Piece, L>,
+    hub: &Hub<Loan<B>, Reading<B>, L>,
+    seat: Seat<Reading<B>, L>,
 ) -> Result<(), Fail>
     requires { seat.holding ≡ None }
 {

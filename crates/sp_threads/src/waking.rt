@@ -14,10 +14,10 @@ use std::test::*;
 use std::thread;
 use std::thread::Threads;
 
-// How often one looks whether all who wait have come so far.
 // How often a seat looks for a job before it sleeps.
 const FEW_LOOKS: u32 = 8;
 
+// How often one looks whether all who wait have come so far.
 const LOOKS: u32 = 500_000_000;
 
 // How often one looks on, so that they fall asleep meanwhile.

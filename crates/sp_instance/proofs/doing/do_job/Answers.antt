@@ -1,6 +1,6 @@
 use denote.Param.Send.{sendable}
-use Rattle.sp_piece.proofs.Crossing.{piece_sent}
+use Rattle.sp_lend.proofs.Crossing.{reading_sent}
 use Rattle.sp_instance.proofs.doing.do_job.Goals as goal
 
 pub number-requires-send-P : goal.number-requires-send-P
-number-requires-send-P g c κs within = search (piece_sent, sendable) depth 20
+number-requires-send-P g c κs within = search (reading_sent, sendable) depth 20

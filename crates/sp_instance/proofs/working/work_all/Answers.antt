@@ -1,6 +1,6 @@
 -- The closure that each instance runs captures four references; the hub may be shared since its jobs and pieces may cross.
 use denote.Exit.{no}
-use denote.Param.Send.{IsSync, arg_send, param_send}
+use denote.Param.Send.{arg_send, param_send}
 use denote.Param.{param}
 use Rattle.std.proofs.Common.{◌≡◌, ◌∙◌, ℕ, ◌<◌, ◌++◌, List, length, get_or, take, drop, map, ap, rules}
 use Rattle.std.proofs.lemmas.List.{take_at}
@@ -9,17 +9,20 @@ use Rattle.sp_hub.proofs.Told.{same_numbers}
 use Rattle.std.proofs.alloc.Global.TheSendSync as global
 use Rattle.sp_hub.proofs.exchange.Hub.TheSendSync as hub
 use Rattle.sp_hub.proofs.seat.Seat.TheSendSync as seat
-use Rattle.sp_hub.specs.contracts.exchange.Hub as hub_row
-use Rattle.sp_piece.specs.contracts.job.Job as job
-use Rattle.sp_piece.specs.contracts.piece.Piece as piece
-use Rattle.sp_piece.specs.contracts.job.JobNamed.TheImpl as job_named
-use Rattle.sp_piece.specs.contracts.piece.PieceNamed.TheImpl as piece_named
-use Rattle.sp_piece.proofs.Crossing.{job_sent, piece_sent}
+use Rattle.sp_lend.specs.contracts.loan.Loan as loan
+use Rattle.sp_lend.specs.contracts.loan.LoanNamed.TheImpl as loan_named
+use Rattle.sp_lend.specs.contracts.reading.Reading as reading
+use Rattle.sp_lend.specs.contracts.reading.ReadingNamed.TheImpl as reading_named
+use Rattle.sp_lend.proofs.Crossing.{loan_sent, reading_sent}
 use Rattle.sp_instance.proofs.working.work_all.Goals as goal
 
 pub for_each_mut-requires-sync-F : goal.for_each_mut-requires-sync-F
 for_each_mut-requires-sync-F g c κs within =
-    let shared : IsSync (hub_row.the_row job.the_row piece.the_row (param 0 g.row.L) job_named.ghosts piece_named.ghosts g.L.Naming g.L.Ledger) = hub.the_sync job.the_row piece.the_row (param 0 g.row.L) job_named.ghosts piece_named.ghosts g.L.Naming g.L.Ledger job_sent piece_sent in
+    let book = param 0 g.row.B in
+    let named = g.B.Lending in
+    let shared =
+    hub.the_sync (loan.the_row book named) (reading.the_row book named) (param 1 g.row.L) (loan_named.ghosts book named loan_named.no_dict) (reading_named.ghosts book named reading_named.no_dict)
+    g.L.Naming g.L.Ledger (loan_sent book named) (reading_sent book named) in
     record {
       shared = λ x b o κ. (
         (
@@ -34,7 +37,7 @@ for_each_mut-requires-sync-F g c κs within =
     }
 
 pub for_each_mut-requires-send-T : goal.for_each_mut-requires-send-T
-for_each_mut-requires-send-T g c κs within = param_send 1 _ (arg_send _ no _ (seat.the_send piece.the_row (param 0 g.row.L) piece_named.ghosts g.L.Naming g.L.Ledger piece_sent))
+for_each_mut-requires-send-T g c κs within = param_send _ _ (arg_send _ no _ (seat.the_send (reading.the_row (param 0 g.row.B) g.B.Lending) (param 1 g.row.L) (reading_named.ghosts (param 0 g.row.B) g.B.Lending reading_named.no_dict) g.L.Naming g.L.Ledger (reading_sent (param 0 g.row.B) g.B.Lending)))
 
 pub returns-clause-numbers : goal.returns-clause-numbers
 returns-clause-numbers g c =

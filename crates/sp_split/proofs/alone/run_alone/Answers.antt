@@ -1,4 +1,4 @@
-use Rattle.std.proofs.Common.{refl, sym, subst, ◌∙◌}
+use Rattle.std.proofs.Common.{refl, rules, sym, subst, ◌∙◌}
 use Rattle.sp_split.specs.Stopping.{IsThrough}
 use Rattle.sp_split.proofs.Prompt.{going_first, going_stops, if_some_at}
 use Rattle.sp_split.proofs.Relieved.{relieved_none, relieved_then}
@@ -21,6 +21,9 @@ loop-init g c =
 
 pub round-requires-clause-ready : goal.round-requires-clause-ready
 round-requires-clause-ready g c κs within = c.loop.invariant.ready
+
+pub round-requires-clause-works : goal.round-requires-clause-works
+round-requires-clause-works g c κs within = λ it answer left ready post. record { done = search rules; short = search rules; handed = search rules; goes_on = search rules; stands = search rules; same = (refl, search rules) }
 
 pub round-requires-clause-going : goal.round-requires-clause-going
 round-requires-clause-going g c κs within = (c.args.intake.now, c.args.lone.now.core, g.O.Outlet.state c.args.outlet.now, c.requires.intake_plan, c.loop.invariant.going)

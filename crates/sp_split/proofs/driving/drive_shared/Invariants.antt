@@ -1,7 +1,4 @@
 use Rattle.sp_split.proofs.driving.drive_shared.Given as goal
 
-abbrev pub ghosts-under-L-Naming : goal.ghosts-under-L-Naming
-ghosts-under-L-Naming g a = record { table = a.opened.table }
-
-abbrev pub ghosts-under-L-Ledger : goal.ghosts-under-L-Ledger
-ghosts-under-L-Ledger g a = record { name = a.opened.name; parts = a.opened.parts }
+abbrev pub ghosts-with_register : goal.ghosts-with_register
+ghosts-with_register g a = record { book = a.register.seen.book }

@@ -7,7 +7,7 @@ use Rattle.sp_hub.specs.State.{Extent, Sitting}
 use Rattle.sp_hub.specs.Calls.{fresh_seat}
 use Rattle.sp_hub.proofs.Seats.{all_free}
 use Rattle.sp_hub.proofs.Told.{behind_first}
-use Rattle.sp_piece.proofs.Crossing.{job_sent, piece_sent}
+use Rattle.sp_lend.proofs.Crossing.{loan_sent, reading_sent}
 use Rattle.std.specs.Prelude.{IfOk}
 use Rattle.sp_split.specs.declared.relay.Team.{Team}
 use Rattle.sp_split.specs.Relay.{Relayed}
@@ -20,10 +20,10 @@ use Rattle.sp_split.proofs.Relieved.{relayed_end}
 use Rattle.sp_split.proofs.joining.under.Goals as goal
 
 pub new-requires-send-J : goal.new-requires-send-J
-new-requires-send-J g c κs within = search (job_sent, sendable) depth 20
+new-requires-send-J g c κs within = search (loan_sent, sendable) depth 20
 
 pub new-requires-send-P : goal.new-requires-send-P
-new-requires-send-P g c κs within = search (piece_sent, sendable) depth 20
+new-requires-send-P g c κs within = search (reading_sent, sendable) depth 20
 
 pub returns-in-Err-clause-ends : goal.returns-in-Err-clause-ends
 returns-in-Err-clause-ends g c =
@@ -78,7 +78,7 @@ wind_up-history-requires-clause-room g c =
     omega arith
 
 pub wind_up-history-requires-clause-numbers : goal.wind_up-history-requires-clause-numbers
-wind_up-history-requires-clause-numbers g c =
+wind_up-history-requires-clause-numbers g c κs within =
     let numbers = λ (l : List Sitting). map (λ (s : Sitting). s.number) l in
     let are = ap length c.in-Ok.ensures.seats in
     let made = length-map-range_with_len fresh_seat 0 c.args.opened.seats in
@@ -95,7 +95,7 @@ wind_up-history-requires-clause-numbers g c =
     ∙ behind_first c.args.opened.seats ∙ ap (range_with_len 1) count
 
 pub wind_up-history-requires-clause-over : goal.wind_up-history-requires-clause-over
-wind_up-history-requires-clause-over g c = subst (All (λ (s : Sitting). s.over ≡ true)) (sym c.into_seats.ensures.seats) c.with_instances-seating.ensures.over
+wind_up-history-requires-clause-over g c κs within = subst (All (λ (s : Sitting). s.over ≡ true)) (sym c.into_seats.ensures.seats) c.with_instances-seating.ensures.over
 
 pub returns-clause-ends : goal.returns-clause-ends
 returns-clause-ends g c =

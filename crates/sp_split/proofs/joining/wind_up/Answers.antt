@@ -3,14 +3,14 @@ use Rattle.std.proofs.Common.{◌∙◌, ℕ, List, vec_len, sym, ap, subst, ari
 use Rattle.std.specs.List.{Contains}
 use Rattle.sp_hub.specs.Calls.{told_over}
 use Rattle.sp_hub.proofs.Told.{each_told}
-use Rattle.sp_piece.proofs.Crossing.{job_sent, piece_sent}
+use Rattle.sp_lend.proofs.Crossing.{loan_sent, reading_sent}
 use Rattle.sp_split.proofs.joining.wind_up.Goals as goal
 
 pub finish-requires-send-J : goal.finish-requires-send-J
-finish-requires-send-J g c κs within = search (job_sent, sendable) depth 20
+finish-requires-send-J g c κs within = search (loan_sent, sendable) depth 20
 
 pub finish-requires-send-P : goal.finish-requires-send-P
-finish-requires-send-P g c κs within = search (piece_sent, sendable) depth 20
+finish-requires-send-P g c κs within = search (reading_sent, sendable) depth 20
 
 pub returns : goal.returns
 returns g c = record {

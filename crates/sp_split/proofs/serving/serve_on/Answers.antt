@@ -1,4 +1,4 @@
-use Rattle.std.proofs.Common.{refl, sym, subst, ◌∙◌}
+use Rattle.std.proofs.Common.{refl, rules, sym, subst, ◌∙◌}
 use Rattle.sp_split.specs.Stopping.{IsThrough}
 use Rattle.sp_split.proofs.Prompt.{if_some_at}
 use Rattle.sp_split.proofs.Relieved.{relieved_none, relieved_then}
@@ -16,6 +16,9 @@ loop-init g c = record {
   out_plan = refl;
   out_token = refl;
 }
+
+pub round-requires-clause-works : goal.round-requires-clause-works
+round-requires-clause-works g c κs within = λ it answer left ready post. record { done = search rules; short = search rules; handed = search rules; goes_on = search rules; stands = search rules; same = (search rules, search rules) }
 
 pub round-requires-clause-going : goal.round-requires-clause-going
 round-requires-clause-going g c κs within = let way = c.requires.under_way in (way.0, way.1, way.2, way.3, c.loop.invariant.going way.0 way.1 way.2 way.4)

@@ -23,4 +23,4 @@ returns c =
     let es = c.tree-tree.result.now.entries in
     let ids = take_all c.loop-id.id-index c.deref-id-items.result.now (omega arith) ∙ c.deref-id-items.ensures.value ∙ c.in_ok-ids.ensures in
     c.loop-id.invariant.counts ∙ ap (λ (l : List ℕ). sum (map (λ id. counted count (entry_at kin es id)) l)) ids
-    ∙ by_ids count c.tree-tree.result.now.next es c.live.ensures.grown.fall ∙ out_total c.args.core.now c.tree-tree.result.now c.known.ensures c.tree-tree.ensures
+    ∙ by_ids count c.tree-tree.result.now.next es c.live.ensures.grown.fall ∙ out_total c.args.core.now c.tree-tree.result.now c.known_of.ensures c.tree-tree.ensures

@@ -6,7 +6,7 @@ use Rattle.sp_splitter.proofs.Clearing.{Ended}
 use Rattle.sp_splitter.proofs.dropping.drop_stale.Given as goal
 
 abbrev pub invariant-loop-job : goal.invariant-loop-job
-invariant-loop-job l = record {
+invariant-loop-job g l = record {
   clears : Clears l.initial.core l.core;
   left : filter (λ job. is_some (version_at l.initial.core.machine.versions job.version)) l.initial.kept.items
       ≡ take l.place l.kept.items ++ filter (λ job. is_some (version_at l.initial.core.machine.versions job.version)) (drop l.place l.kept.items);
@@ -16,4 +16,4 @@ invariant-loop-job l = record {
 }
 
 abbrev pub decreases-loop-job : goal.decreases-loop-job
-decreases-loop-job l = length l.kept.items - l.place
+decreases-loop-job g l = length l.kept.items - l.place

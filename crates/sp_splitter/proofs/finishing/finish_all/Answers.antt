@@ -8,7 +8,7 @@ use Rattle.sp_splitter.proofs.Stepping.{goes_none, went_none}
 use Rattle.sp_splitter.proofs.finishing.finish_all.Goals as goal
 
 pub loop-init : goal.loop-init
-loop-init c =
+loop-init g c =
     let core = c.args.core.now in
     record {
       went = λ n batch. went_none n batch core core refl;
@@ -20,7 +20,7 @@ loop-init c =
     }
 
 pub loop-preserved : goal.loop-preserved
-loop-preserved c =
+loop-preserved g c =
     let here = c.loop.invariant in
     let more = c.finish_root.ensures in
     let longer = c.in_ok-push.ensures.items ∙ ap (λ (l : List Emitted). l ++ c.finish_root.result ∷ []) c.in_ok-reserve.ensures.items in

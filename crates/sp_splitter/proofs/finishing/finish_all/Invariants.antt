@@ -6,7 +6,7 @@ use Rattle.sp_splitter.proofs.finishing.finish_all.Given as goal
 
 -- what was emitted so far
 abbrev pub invariant-loop : goal.invariant-loop
-invariant-loop l = record {
+invariant-loop g l = record {
   went : (n batch : ℕ) → Went n batch l.fn.core l.core;
   goes : (n : ℕ) → Goes n l.fn.core l.core;
   emitted : l.core.machine.emitted ≡ l.fn.core.machine.emitted ++ matches_of l.all.items;

@@ -6,10 +6,10 @@ use Rattle.sp_splitter.proofs.ToRoll.{listed_rolled, quiet_none, quiet_then, rol
 use Rattle.sp_splitter.proofs.rolling.roll_listed.Goals as goal
 
 pub loop-entry-init : goal.loop-entry-init
-loop-entry-init c = record { quiet = quiet_none c.args.core.now c.args.core.now refl; listed = c.requires.listed; rolls = none_rolled }
+loop-entry-init g c = record { quiet = quiet_none c.args.core.now c.args.core.now refl; listed = c.requires.listed; rolls = none_rolled }
 
 pub loop-entry-preserved : goal.loop-entry-preserved
-loop-entry-preserved c =
+loop-entry-preserved g c =
     let here = c.loop-entry.core in
     let found = c.args.found.now in
     let i = c.loop-entry.entry-index in

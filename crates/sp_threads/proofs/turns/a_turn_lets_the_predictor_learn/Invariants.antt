@@ -1,7 +1,4 @@
 use Rattle.sp_threads.proofs.turns.a_turn_lets_the_predictor_learn.Given as goal
 
-abbrev pub ghosts-lets_the_predictor_learn-L-Naming : goal.ghosts-lets_the_predictor_learn-L-Naming
-ghosts-lets_the_predictor_learn-L-Naming g a = record { table = a.opened.table }
-
-abbrev pub ghosts-lets_the_predictor_learn-L-Ledger : goal.ghosts-lets_the_predictor_learn-L-Ledger
-ghosts-lets_the_predictor_learn-L-Ledger g a = record { name = a.opened.name; parts = a.opened.parts }
+abbrev pub ghosts-learns_by : goal.ghosts-learns_by
+ghosts-learns_by g a = record { book = a.register.seen.book }

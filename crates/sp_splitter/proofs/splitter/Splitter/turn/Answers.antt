@@ -26,7 +26,7 @@ returns-in_err-self-clause-went g c =
     (went_then n batch c.gather.new.core c.tidy.new.core c.guess_and_send.new.core (c.in_ok-finished.ensures.goes n) (c.tidy.ensures.went n batch) c.guess_and_send.ensures.went)
 
 pub post_kept-requires-clause-last : goal.post_kept-requires-clause-last
-post_kept-requires-clause-last g c =
+post_kept-requires-clause-last g c κs within =
     let n = c.args.self.now.instances in
     let batch = c.args.self.now.batch in
     let tidied = went_then n batch c.args.self.now.core c.gather.new.core c.tidy.new.core (c.in_ok-read.ensures.goes n) (c.gather.ensures.went n batch) (c.tidy.ensures.went n batch) in

@@ -7,15 +7,22 @@ use Rattle.sp_split.specs.Stages.{Advanced}
 use Rattle.sp_split.proofs.Advanced.{advanced_by, if_ok_on, ready_behind, serving_came_on}
 use Rattle.sp_split.proofs.Due.{due_later}
 use Rattle.sp_split.proofs.Relieved.{relieved_learned, relieved_then}
-use Rattle.sp_split.proofs.serving.ServingDriver.work.Goals as goal
+use Rattle.sp_split.proofs.Turns.{err_any}
+use Rattle.sp_split.proofs.serving.Serving.work.Goals as goal
 
 pub relieve-requires : goal.relieve-requires
-relieve-requires g c = due_later c.args.self.now.relay c.args.self.now.desk.splitter.core.machine.finished c.turn.new.self.core.machine.finished c.turn.ensures.went.finished c.requires.ready.1
+relieve-requires g c = due_later c.args.self.now.relay c.args.self.now.desk.splitter.core.machine.finished c.turn.new.self.core.machine.finished c.turn.ensures.went.finished c.requires.due
 
 pub returns-in_err-finished-clause-relieved : goal.returns-in_err-finished-clause-relieved
 returns-in_err-finished-clause-relieved g c =
     let it = c.args.self.now in
     relieved_learned (λ one. (goal.Predictor-dyn g (one.vtable, one.value)).named one.value) (record { first = it.desk.splitter.predictor; relay = it.relay }) (record { first = c.turn.new.self.predictor; relay = it.relay }) c.turn.ensures.name refl
+
+pub returns-in_err-finished-clause-short : goal.returns-in_err-finished-clause-short
+returns-in_err-finished-clause-short g c =
+    let old = c.args.self.now.desk.splitter in
+    let went = c.turn.ensures.went in
+    err_any _ c.from_residual.result (went.more, advanced_by old.instances old.batch old.core c.turn.new.self.core went.more went went.emitted)
 
 pub returns-in_err-finished-clause-came : goal.returns-in_err-finished-clause-came
 returns-in_err-finished-clause-came g c =
@@ -23,7 +30,7 @@ returns-in_err-finished-clause-came g c =
     let old = desk.splitter in
     let new = c.turn.new.self in
     serving_came_on new.instances old.instances new.batch old.batch old.kept.items old.core new.core desk.by c.turn.new.by desk.seat c.turn.ensures.rest.0 c.turn.ensures.rest.1 c.turn.ensures.went c.turn.ensures.read
-    c.turn.ensures.open c.requires.ready.0
+    c.turn.ensures.open c.requires.ready
 
 pub returns-clause-relieved : goal.returns-clause-relieved
 returns-clause-relieved g c =
@@ -46,7 +53,7 @@ returns-clause-ready g c =
     let old = desk.splitter in
     let new = c.turn.new.self in
     let ready = ready_behind new.instances old.instances new.batch old.batch old.kept.items new.kept.items old.core new.core desk.by c.turn.new.by desk.seat c.turn.result c.turn.ensures.rest.0 c.turn.ensures.rest.1
-    c.turn.ensures.went (if_ok_on _ _ c.turn.result (λ x t. t.goes) c.turn.ensures.turned) c.turn.ensures.read c.turn.ensures.room c.turn.ensures.open c.turn.ensures.last c.requires.ready.0 in (
+    c.turn.ensures.went (if_ok_on _ _ c.turn.result (λ x t. t.goes) c.turn.ensures.turned) c.turn.ensures.read c.turn.ensures.room c.turn.ensures.open c.turn.ensures.last c.requires.ready in (
       subst (λ z. IsServing z.instances z.batch z.kept.items z.core c.turn.new.by desk.seat) (sym c.relieve.ensures.rest)
           (subst (λ r. OnOk r (IsServing new.instances new.batch new.kept.items new.core c.turn.new.by desk.seat)) c.in_ok-finished.was ready),
       c.relieve.ensures.due,
@@ -59,7 +66,7 @@ returns-clause-came g c =
     let new = c.turn.new.self in
     subst (λ z. CameServing z.instances z.batch z.core c.turn.new.by) (sym c.relieve.ensures.rest)
     (serving_came_on new.instances old.instances new.batch old.batch old.kept.items old.core new.core desk.by c.turn.new.by desk.seat c.turn.ensures.rest.0 c.turn.ensures.rest.1 c.turn.ensures.went c.turn.ensures.read
-    c.turn.ensures.open c.requires.ready.0)
+    c.turn.ensures.open c.requires.ready)
 
-pub returns-clause-same : goal.returns-clause-same
-returns-clause-same g c = (ap (λ z. z.instances) c.relieve.ensures.rest ∙ c.turn.ensures.rest.0, ap (λ z. z.batch) c.relieve.ensures.rest ∙ c.turn.ensures.rest.1)
+pub returns-clause-terms : goal.returns-clause-terms
+returns-clause-terms g c = (ap (λ z. z.instances) c.relieve.ensures.rest ∙ c.turn.ensures.rest.0, ap (λ z. z.batch) c.relieve.ensures.rest ∙ c.turn.ensures.rest.1)
