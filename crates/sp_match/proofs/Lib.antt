@@ -22,6 +22,7 @@ pub mod PairsOfRuns
 pub mod NamesAreCounted
 pub mod GrownRunIsGood
 pub mod RunsUndo
+pub mod RunsUnderAlike
 -- Which name a run takes an event under.
 pub mod Searches
 pub mod ElementsAreNamed

@@ -2,6 +2,7 @@ ghost use Rattle.std.specs.Prelude.{◌≡◌, ℕ, ◌+◌, ◌^◌, ◌<◌, t
 ghost use Rattle.std.specs.Arc.{arc_value};
 ghost use Rattle.sp_plan.specs.Compiled.{IsCompiled};
 ghost use Rattle.sp_plan.specs.Events.{fits};
+ghost use Rattle.sp_plan.specs.Same.{SamePlan};
 ghost use Rattle.sp_match.specs.inside.Handling as handling;
 ghost use Rattle.sp_match.specs.public.Laws.{Below};
 ghost use Rattle.sp_match.specs.public.Seen.{all_seen, seen_run};
@@ -336,8 +337,20 @@ impl Matcher {
     pub fn copy(&self, alloc: Global) -> Result<Matcher, Memory>
         ensures { IfOk result (λ m. m ≡ self.now) }
     {
+        law::plans_are_themselves();
+        self.copy_under(alloc, self)
+    }
+
+    /// The same runs once more, under the plan of another matcher, which is the same plan but for where its parts lie in
+    /// memory. That plan and the bound events are shared, not copied.
+    pub fn copy_under(&self, alloc: Global, host: &Matcher) -> Result<Matcher, Memory>
+        requires { SamePlan self.now.plan host.now.plan }
+        ensures plan { IfOk result (λ m. m.plan ≡ host.now.plan) }
+        ensures runs { IfOk result (λ m. m.open_runs ≡ self.now.open_runs) }
+        ensures count { IfOk result (λ m. m.started ≡ self.now.started) }
+    {
         Ok(Matcher {
-            plan: Arc::try_clone(&self.plan)?,
+            plan: Arc::try_clone(&host.plan)?,
             runs: copies(alloc, &self.runs)?,
             count: self.count,
             lefts: Lefts::new(alloc),

@@ -1,5 +1,5 @@
--- Pieces may go from one thread to another: shown part by part, since a search for the whole at once gives up.
-use denote.Param.Send.{IsSend, recorded_send, struct_send, sendable}
+-- Pieces may go from one thread to another, and readings that are kept may be held by several: shown part by part, since a search for the whole at once gives up.
+use denote.Param.Send.{IsSend, IsSync, recorded_send, struct_send, sendable}
 use denote.Struct.Declared.{shape}
 use Rattle.std.proofs.Crossing.{crosses}
 use Rattle.sp_base.proofs.numbers.Numbers.TheSendSync as numbers
@@ -7,7 +7,9 @@ use Rattle.sp_plan.proofs.event.Event.TheSendSync as event
 use Rattle.sp_plan.proofs.Listed.TheSendSync as listed
 use Rattle.sp_match.proofs.known.Known.TheSendSync as known
 use Rattle.sp_match.proofs.moves.Moves.TheSendSync as moves
-use Rattle.sp_share.proofs.Crossing.{matcher_sent, shared_sent}
+use Rattle.sp_share.proofs.Crossing.{matcher_common, matcher_sent, shared_sent}
+use Rattle.sp_share.specs.contracts.shared.Shared as shared
+use Rattle.sp_piece.specs.contracts.done.Done as done
 use Rattle.sp_piece.specs.contracts.job.Job as job
 use Rattle.sp_piece.specs.contracts.own.Own as own
 use Rattle.sp_piece.specs.contracts.piece.Piece as piece
@@ -29,3 +31,12 @@ inside_sent =
 
 pub piece_sent : IsSend piece.the_row
 piece_sent = search (inside_sent, sendable) depth 30
+
+shared_common : IsSync shared.the_row
+shared_common = search (matcher_sent, matcher_common, sendable, crosses) depth 30
+
+pub done_sent : IsSend done.the_row
+done_sent = search (shared_sent, matcher_sent, listed.the_send, event.the_send, moves.the_send, numbers.the_send, sendable, crosses) depth 30
+
+pub done_common : IsSync done.the_row
+done_common = search (shared_common, matcher_common, listed.the_sync, event.the_sync, moves.the_sync, numbers.the_sync, sendable, crosses) depth 30

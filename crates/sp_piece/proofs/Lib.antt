@@ -8,3 +8,4 @@ pub mod Quiet
 pub mod Stepping
 pub mod Passing
 pub mod Consuming
+pub mod Taking

@@ -4,3 +4,4 @@ pub mod Pieced
 pub mod Keeping
 pub mod Begun
 pub mod Alike
+pub mod Done

@@ -1,8 +1,9 @@
 //! Jobs, which carry all that a reading of lent events needs, and pieces, which do the reading, event by
-//! event or all that is left at once. Where a reading leads, and what is told of it, stands in
-//! `specs/Reading.antt`.
+//! event or all that is left at once, or take up one of the same that was kept. Where a reading leads, and what
+//! is told of it, stands in `specs/Reading.antt`.
 #![tactic(auto)]
 
+mod done;
 mod going;
 mod job;
 pub mod law;
@@ -12,6 +13,7 @@ mod reading;
 mod stepped;
 mod telling;
 
+pub use done::Done;
 pub use job::{Job, consumes};
 pub use law::{readings_tell_matches, same_plans_read_alike};
 pub use piece::Piece;

@@ -97,4 +97,24 @@ impl Own {
             Place::Begun(matcher) => Some(matcher),
         }
     }
+
+    /// A copy of the matcher, if there is one.
+    pub(crate) fn copy(&self, alloc: Global) -> Result<Option<Matcher>, Memory>
+        ensures { IfOk result (λ matcher. matcher ≡ self.now) }
+    {
+        match &self.place {
+            Place::Rooms(_) => Ok(None),
+            Place::Begun(matcher) => Ok(Some(matcher.copy(alloc)?)),
+        }
+    }
+
+    /// Puts a matcher into the place, or none.
+    pub(crate) fn set(&mut self, matcher: Option<Matcher>)
+        ensures { self.new ≡ matcher }
+    {
+        self.place = match matcher {
+            Some(matcher) => Place::Begun(matcher),
+            None => Place::Rooms(None),
+        };
+    }
 }

@@ -1,17 +1,20 @@
-ghost use Rattle.std.specs.Prelude.{◌≡◌, ◌≤◌, ◌+◌, true, false, length, OnOk, OnErr, IfOk};
+ghost use Rattle.std.specs.Prelude.{◌≡◌, ◌≤◌, ◌+◌, true, false, length, OnOk, OnErr, IfOk, IfSome, IsTrue, IsFalse};
 ghost use Rattle.sp_match.specs.public.Laws.{Below};
 ghost use Rattle.sp_match.specs.public.Matching.{runs_of};
 ghost use Rattle.sp_piece.specs.Pieced.{LedTo, StepsLead, Tells, after_step, answer, begun, has_closing, has_event, read_whole, refused};
 ghost use Rattle.sp_piece.specs.Keeping.{HasReadOn};
+ghost use Rattle.sp_piece.specs.Done.{lent_by};
 ghost use Rattle.sp_piece.specs.declared.stepped.Stepped.TheVariants as s;
 
+use crate::done::copy_entries;
 use crate::going::handle_closing;
 use crate::own::Own;
 use crate::reading::{read_all, read_next};
 use crate::telling::Telling;
-use crate::{Job, Memory, Stepped};
+use crate::{Done, Job, Memory, Stepped};
 use sp_hub::Named;
 use sp_match::{Matcher, Moves};
+use sp_plan::{Event, Listed};
 use sp_share::Held;
 use std::alloc::Global;
 use std::marker::Model;
@@ -115,6 +118,47 @@ impl Piece {
             self.read_closing(alloc)?;
         }
         Ok(())
+    }
+
+    /// The whole reading once more, to be kept: None where something that is lent was not read, or the piece was given
+    /// up.
+    pub fn keep(&self, alloc: Global) -> Result<Option<Done>, Memory>
+        ensures { IfOk result (λ kept. IfSome kept (λ done. done ≡ lent_by self.now.job)) }
+    {
+        let job = &self.job;
+        let events = job.events.as_slice();
+        if self.short || (self.read as usize) < events.len() || self.closed != job.closes {
+            return Ok(None);
+        }
+        Ok(Some(Done {
+            before: job.before.again(alloc)?,
+            events: Listed::of(Event::copies(alloc, events)?),
+            first: job.first,
+            snapshot: job.snapshot.copy(alloc)?,
+            closes: job.closes,
+            after: self.matcher.copy(alloc)?,
+            entries: copy_entries(alloc, &self.telling.entries)?,
+        }))
+    }
+
+    /// Takes a reading up that was kept, in place of reading all that is lent, where nothing was read yet and what was
+    /// lent is the same: the same events, with the same ones to be skipped, from the same runs, by a plan that is the same
+    /// but for where its parts lie in memory. Answers whether it was. Else, and after want of memory, the piece is as
+    /// before.
+    pub fn take_up(&mut self, alloc: Global, done: &Done) -> Result<bool, Memory>
+        ensures whole { IfOk result (λ taken. IsTrue taken → self.new ≡ read_whole self.old) }
+        ensures not { IfOk result (λ taken. IsFalse taken → self.new ≡ self.old) }
+        ensures err { OnErr result (self.new ≡ self.old) }
+    {
+        if self.short || self.closed || self.read > 0 || !done.lends_same(&self.job) {
+            return Ok(false);
+        }
+        let (matcher, entries) = done.led(alloc, &self.job)?;
+        self.matcher.set(matcher);
+        self.telling.entries = entries;
+        self.read = self.job.events.as_slice().len() as u32;
+        self.closed = self.job.closes;
+        Ok(true)
     }
 
     // Reads all lent events that are left.

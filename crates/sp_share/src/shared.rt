@@ -1,7 +1,9 @@
-ghost use Rattle.std.specs.Prelude.{◌≡◌};
+ghost use Rattle.std.specs.Prelude.{◌≡◌, IfOk};
 
-use crate::rooms::Rooms;
+use crate::Memory;
+use crate::rooms::{Rooms, new_rooms};
 use sp_match::Matcher;
+use std::alloc::Global;
 use std::marker::Model;
 use std::sync::Arc;
 
@@ -40,6 +42,24 @@ impl Shared {
         match &self.handle {
             Some(handle) => handle,
             None => &self.rooms.matcher,
+        }
+    }
+
+    /// The same once more: by one handle more, and no copy of its runs, or by a copy where it has no handle. What served
+    /// before doesn't go along.
+    pub fn again(&self, alloc: Global) -> Result<Shared, Memory>
+        ensures { IfOk result (λ shared. shared ≡ self.now) }
+    {
+        let rooms = new_rooms(alloc, &self.rooms.matcher)?;
+        match &self.handle {
+            Some(handle) => Ok(Shared {
+                handle: Some(Arc::try_clone(handle)?),
+                rooms,
+            }),
+            None => Ok(Shared {
+                handle: None,
+                rooms,
+            }),
         }
     }
 

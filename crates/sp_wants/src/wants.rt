@@ -1,4 +1,4 @@
-ghost use Rattle.std.specs.Prelude.{◌≡◌, false, ◌==◌, ◌∷◌, [], ◌++◌, ◌^◌, ◌-◌, min, length, replicate, IsTrue, OnOk, OnErr};
+ghost use Rattle.std.specs.Prelude.{◌≡◌, false, ◌==◌, ◌∷◌, [], ◌++◌, ◌^◌, ◌-◌, min, length, replicate, IsTrue, IfOk, OnOk, OnErr};
 ghost use Rattle.sp_wants.specs.Stretches.{NoneEmpty, all_pairs, repeated};
 
 use crate::Stretch;
@@ -73,6 +73,15 @@ impl Wants {
         Wants {
             stretches: Vec::new(alloc),
         }
+    }
+
+    /// The same list once more.
+    pub fn copy(&self, alloc: Global) -> Result<Wants, Memory>
+        ensures { IfOk result (λ w. w ≡ self.now) }
+    {
+        Ok(Wants {
+            stretches: self.stretches.to_vec(alloc)?,
+        })
     }
 
     /// Forgets all. The room is kept, and no memory is taken.
