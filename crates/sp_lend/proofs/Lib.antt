@@ -2,3 +2,4 @@ pub mod Crossing
 pub mod Entering
 pub mod StaysLent
 pub mod TrueAfter
+pub mod TakenUp

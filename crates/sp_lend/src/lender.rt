@@ -13,6 +13,7 @@ ghost use Rattle.sp_lend.specs.Truth.{StaysTrue, Vouches, WasLent};
 
 use crate::front::Front;
 use crate::loan::{Loan, Receipt};
+use crate::memo::{Hint, Memo};
 use crate::reading::Reading;
 use crate::register::{Lending, Register, Rising};
 use crate::{Memory, law};
@@ -34,6 +35,7 @@ pub struct Lender<L: Lending> {
     head: Word<Job, u64, Rising>,
     // what is entered, as far as it was seen: all, since nobody else enters a job
     front: Front<L>,
+    memo: Memo,
 }
 
 impl<L: Lending> Model for Lender<L> {
@@ -65,6 +67,7 @@ impl<L: Lending> Lender<L> {
             core,
             head,
             front: Front::first(seen),
+            memo: Memo::new(),
         }
     }
 
@@ -83,6 +86,7 @@ impl<L: Lending> Lender<L> {
             core,
             head: _,
             front: _,
+            memo: _,
         } = self;
         core
     }
@@ -114,6 +118,27 @@ impl<L: Lending> Lender<L> {
         }
         self.front = front.again();
         Some(Receipt { front, place })
+    }
+
+    // What goes along with a job that was lent.
+    fn hint(&self, job: &Job) -> Hint {
+        let tree = self.core.tree();
+        let Some(held) = tree.get(job.version) else {
+            return Hint::none();
+        };
+        // What the root has read is never lost.
+        let may_be_lost = tree.parent(job.version).is_some();
+        self.memo.hint(held.window, may_be_lost, job)
+    }
+
+    // Keeps what comes home with the reading of a job, where it is of a window that isn't finished.
+    fn keep(&mut self, alloc: Global, hint: Hint, job: &Job)
+        ensures { self.new ≡ self.old }
+    {
+        if hint.is_past(self.core.finished()) {
+            return;
+        }
+        self.memo.put(alloc, hint, job);
     }
 
     // Whether a job is known to be what is out under its ticket, for a live version: it is entered, and that is out.
@@ -206,7 +231,8 @@ impl<L: Lending> Lender<L> {
         self.stays();
         let job = self.core.lease(alloc, version, count)?;
         let receipt = self.enter(&job);
-        Ok(Loan { job, receipt })
+        let hint = self.hint(&job);
+        Ok(Loan { job, receipt, hint })
     }
 
     /// `Core::give_back`, but for want of memory the reading is let go: who calls it stops then. Where the reading has its
@@ -215,9 +241,20 @@ impl<L: Lending> Lender<L> {
         ensures given { IfOk result (IsGiven self.old self.new reading) }
         ensures err { OnErr result (self.new ≡ self.old) }
     {
-        let Reading { piece, receipt } = reading;
+        let Reading {
+            piece,
+            receipt,
+            hint,
+        } = reading;
+        self.keep(alloc, hint, piece.job());
+        let live = self.core.tree().live();
         match self.take_back(alloc, &receipt, piece) {
-            Ok(given) => Ok(given),
+            Ok(given) => {
+                if matches!(given, Given::Home) {
+                    self.memo.note_home(live, self.core.tree().live());
+                }
+                Ok(given)
+            }
             Err(_) => Err(AllocError),
         }
     }
@@ -230,7 +267,11 @@ impl<L: Lending> Lender<L> {
         ensures fault { IfErr result (λ refusal. refused self.old (s.Roll version) ≡ Some refusal) }
     {
         self.stays();
-        self.core.roll(version)
+        let rolled = self.core.roll(version);
+        if rolled.is_ok() {
+            self.memo.note_loss();
+        }
+        rolled
     }
 
     /// `Core::finish`.
@@ -241,7 +282,9 @@ impl<L: Lending> Lender<L> {
         ensures fault { IfErr result (λ refusal. refused self.old s.Finish ≡ Some refusal) }
     {
         self.stays();
-        self.core.finish()
+        let finished = self.core.finish();
+        self.memo.forget_to(self.core.finished());
+        finished
     }
 
     /// `Core::note_calm`.

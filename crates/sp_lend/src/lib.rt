@@ -1,13 +1,15 @@
 //! A core whose leases are known again. Each job that goes out is entered in a register that only grows, and bears a
 //! receipt for its entry, which takes no room that counts; the piece of the job bears it home. So a piece is known to be of
 //! the job that was lent, and nothing of it is compared. What a register is stands in `specs/Registered`, what is true of
-//! the jobs in it in `specs/Truth`.
+//! the jobs in it in `specs/Truth`. Beside the receipt goes a reading that was kept, where one may be of what the job lends:
+//! it is taken up in place of reading, by whoever reads the job.
 #![tactic(auto)]
 
 mod front;
 mod law;
 mod lender;
 mod loan;
+mod memo;
 mod reading;
 mod register;
 

@@ -2,6 +2,7 @@
 ghost use Rattle.std.specs.Prelude.{◌≡◌};
 
 use crate::front::Front;
+use crate::memo::Hint;
 use crate::register::Lending;
 use sp_hub::Named;
 use sp_piece::Job;
@@ -20,6 +21,7 @@ pub struct Loan<L: Lending> {
     pub(crate) job: Job,
     // None where the register had no more room
     pub(crate) receipt: Option<Receipt<L>>,
+    pub(crate) hint: Hint,
 }
 
 impl<L: Lending> Model for Loan<L> {

@@ -1,10 +1,11 @@
 // A piece with the receipt of its job.
-ghost use Rattle.std.specs.Prelude.{◌≡◌, OnOk};
+ghost use Rattle.std.specs.Prelude.{◌≡◌, IsTrue, IsFalse, OnOk};
 ghost use Rattle.sp_piece.specs.Pieced.{StepsLead, answer, begun, read_whole, refused};
 ghost use Rattle.sp_piece.specs.declared.stepped.Stepped.TheVariants as s;
 
 use crate::Memory;
 use crate::loan::{Loan, Receipt};
+use crate::memo::Hint;
 use crate::register::Lending;
 use sp_hub::Named;
 use sp_piece::Piece;
@@ -17,6 +18,7 @@ pub struct Reading<L: Lending> {
     pub(crate) piece: Piece,
     // None where the register had no more room for its job
     pub(crate) receipt: Option<Receipt<L>>,
+    pub(crate) hint: Hint,
 }
 
 impl<L: Lending> Model for Reading<L> {
@@ -41,22 +43,42 @@ impl<L: Lending> Reading<L> {
     pub fn start(alloc: Global, loan: Loan<L>) -> Reading<L>
         ensures { result ≡ begun loan }
     {
-        let Loan { job, receipt } = loan;
+        let Loan { job, receipt, hint } = loan;
         Reading {
             piece: Piece::start(alloc, job),
             receipt,
+            hint,
         }
     }
 
-    /// Reads all that is left, as `Piece::read_whole` does. After want of memory it stands for what it has read, and
-    /// can be read on.
+    /// Reads all that is left, as `Piece::read_whole` does, or takes up what was kept of reading the same. After want of
+    /// memory it stands for what it has read, and can be read on.
     pub fn read_whole(&mut self, alloc: Global) -> Result<(), Memory>
         ensures steps { StepsLead self.old self.new }
         ensures whole { OnOk result (self.new ≡ read_whole self.old) }
         ensures end { OnOk result (answer self.new ≡ s.Finished) }
         ensures job { self.new.job ≡ self.old.job }
     {
-        self.piece.read_whole(alloc)
+        if self.take_up(alloc) {
+            return Ok(());
+        }
+        self.piece.read_whole(alloc)?;
+        self.hint.keep(alloc, &self.piece);
+        Ok(())
+    }
+
+    // Takes up what was kept of reading the same, and answers whether it did.
+    fn take_up(&mut self, alloc: Global) -> bool
+        ensures whole { IsTrue result → self.new ≡ read_whole self.old }
+        ensures steps { IsTrue result → StepsLead self.old self.new }
+        ensures end { IsTrue result → answer self.new ≡ s.Finished }
+        ensures job { self.new.job ≡ self.old.job }
+        ensures not { IsFalse result → self.new ≡ self.old }
+    {
+        // They tell what every piece keeps.
+        self.piece.read();
+        self.piece.closed();
+        self.hint.take_up(alloc, &mut self.piece)
     }
 
     /// Gives the piece up, since memory was refused: no step reads any more of it.

@@ -7,4 +7,4 @@ use Rattle.sp_lend.proofs.lender.Lender.finish.Goals as goal
 pub invariant_of-self : goal.invariant_of-self
 invariant_of-self g c =
     let stays = subst StaysTrue (sym c.self.view_is) c.stays.ensures in
-    (c.self.invariant.0, true_after c.self.inside.core c.finish.new.self c.self.inside.front stays c.self.invariant.1 s.Finish tt c.finish.result c.finish.ensures.done c.finish.ensures.err)
+    (c.self.invariant.0, true_after c.self.inside.core c.finish-finished.new.self c.self.inside.front stays c.self.invariant.1 s.Finish tt c.finish-finished.result c.finish-finished.ensures.done c.finish-finished.ensures.err)
