@@ -23,6 +23,9 @@ use sp_store::{PutFault, Store};
 use std::alloc::Global;
 use std::marker::Model;
 
+// So many values of versions that went are left at most.
+const MOST_LEFT: usize = 16;
+
 /// The live versions, each with its parent, its label, its open groups and a value. Contracts see `entries`,
 /// the newest first, the `next` id, and the `bound`, how many versions may be live at a time.
 #[derive(Drop)]
@@ -30,6 +33,8 @@ pub struct Tree<V> {
     // The newest first, as the values are.
     versions: Vec<Version>,
     values: Store<V>,
+    // Values of versions that went, until they are asked for.
+    left: Vec<V>,
 }
 
 impl<V> Model for Tree<V> {
@@ -53,24 +58,19 @@ impl<V> Model for Tree<V> {
 impl<V> Tree<V> {
     ghost use Rattle.sp_tree.specs.Lends.{lends_found};
 
-    /// No version is live, and at most `bound` may be at a time. The first id is 1.
-    pub fn new(alloc: Global, bound: u32) -> Result<Tree<V>, Memory>
-        requires some { 0 < bound }
-        requires most { bound ≤ live_limit }
-        ensures { IfOk result (λ tree. tree ≡ opened bound) }
-    {
-        let values = Store::new(alloc, bound)?;
-        Ok(Tree {
-            versions: Vec::new(alloc),
-            values,
-        })
-    }
-
     /// The value of a version, None exactly where the id isn't live.
     pub fn get(&self, id: u64) -> Option<&V>
         ensures { option_copied result ≡ value_of (entry_at kin self.now.entries id) }
     {
         self.values.get(id)
+    }
+
+    /// The value of a version that went, of those that are left the one that went last: so whoever has a use for what it
+    /// holds can take it up. A few are left, and the others are dropped as they go.
+    pub fn take_left(&mut self) -> Option<V>
+        ensures { self.new ≡ self.old }
+    {
+        self.left.pop()
     }
 
     /// The value of a version for writing, None exactly where the id isn't live.
@@ -273,6 +273,20 @@ impl<V> Tree<V> {
 }
 
 impl<V: Drop> Tree<V> {
+    /// No version is live, and at most `bound` may be at a time. The first id is 1.
+    pub fn new(alloc: Global, bound: u32) -> Result<Tree<V>, Memory>
+        requires some { 0 < bound }
+        requires most { bound ≤ live_limit }
+        ensures { IfOk result (λ tree. tree ≡ opened bound) }
+    {
+        let values = Store::new(alloc, bound)?;
+        Ok(Tree {
+            versions: Vec::new(alloc),
+            values,
+            left: Vec::with_capacity(alloc, MOST_LEFT)?,
+        })
+    }
+
     /// An open group of the owner is decided: it is open no more, and each child of the owner goes whose label
     /// foresaw another outcome, with all below it. The labels of the others lose the group. Answers how many
     /// versions went. Takes no memory.
@@ -288,7 +302,13 @@ impl<V: Drop> Tree<V> {
             outcome,
         };
         cut_below(&mut self.versions, owner, run, outcome);
-        prune(&mut self.versions, &mut self.values, 0, change);
+        prune(
+            &mut self.versions,
+            &mut self.values,
+            &mut self.left,
+            0,
+            change,
+        );
         live - self.values.live()
     }
 
@@ -308,7 +328,13 @@ impl<V: Drop> Tree<V> {
         version.below = Below::Nothing;
         // The room of the version that was removed is left.
         let _ = self.versions.insert(0, version);
-        prune(&mut self.versions, &mut self.values, 1, Change::Prune);
+        prune(
+            &mut self.versions,
+            &mut self.values,
+            &mut self.left,
+            1,
+            Change::Prune,
+        );
         Some(renewed)
     }
 
@@ -324,14 +350,36 @@ impl<V: Drop> Tree<V> {
     {
         let root = root_of(&self.versions)?;
         let change = Change::Promote { root };
-        prune(&mut self.versions, &mut self.values, 0, change);
+        prune(
+            &mut self.versions,
+            &mut self.values,
+            &mut self.left,
+            0,
+            change,
+        );
         root_of(&self.versions)
     }
 }
 
+// A value that went is left, where there is room for it. Takes no memory.
+fn leave<V: Drop>(left: &mut Vec<V>, value: Option<V>) {
+    if left.len() >= left.capacity() {
+        return;
+    }
+    if let Some(value) = value {
+        left.push_reserved(value);
+    }
+}
+
 /// Changes all versions but the first ones, and takes away those that go or have lost their parent, with
-/// their values.
-fn prune<V: Drop>(versions: &mut Vec<Version>, values: &mut Store<V>, first: usize, change: Change)
+/// their values, which are left.
+fn prune<V: Drop>(
+    versions: &mut Vec<Version>,
+    values: &mut Store<V>,
+    left: &mut Vec<V>,
+    first: usize,
+    change: Change,
+)
     requires joined { AreJoined versions.old.items values.old }
     requires within { first ≤ length versions.old.items }
     ensures entries { IsPrunedFrom first (changed_by change)
@@ -346,7 +394,7 @@ fn prune<V: Drop>(versions: &mut Vec<Version>, values: &mut Store<V>, first: usi
         i -= 1;
         if !stays(versions, i, change) {
             let gone = versions.remove(i);
-            values.take(gone.id);
+            leave(left, values.take(gone.id));
         }
     }
 }
