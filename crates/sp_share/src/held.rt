@@ -2,8 +2,8 @@ ghost use Rattle.std.specs.Prelude.{◌≡◌, [], IfOk};
 ghost use Rattle.std.specs.Arc.{arc_value};
 ghost use Rattle.sp_share.specs.Sharing.{IsFresh};
 
-use crate::rooms::{Rooms, empty_rooms, new_rooms, rooms_with};
-use crate::{Memory, Shared};
+use crate::rooms::{Rooms, empty_rooms, rooms_with};
+use crate::{Memory, Shared, Spares};
 use sp_match::Matcher;
 use std::alloc::{AllocError, AllocFailed, Global};
 use std::marker::Model;
@@ -79,8 +79,10 @@ impl Held {
         ensures { result ≡ matcher }
     {
         let Shared { handle, mut rooms } = before;
-        if let Some(handle) = handle {
-            rooms.worn = Arc::into_inner(handle);
+        let alloc = *Box::allocator(&rooms);
+        match handle {
+            Some(handle) => rooms.worn = Arc::into_inner(handle),
+            None => rooms.put_aside(alloc),
         }
         Held {
             matcher,
@@ -109,42 +111,33 @@ impl Held {
         self.matcher.clear();
     }
 
-    /// A matcher that served elsewhere goes along when this one is lent next, for its rooms. Where memory is wanting
-    /// for that it is let go.
-    pub fn furnish(&mut self, alloc: Global, worn: Matcher)
-        ensures { self.new ≡ self.old }
-    {
-        if let Some(rooms) = &mut self.rooms {
-            rooms.worn = Some(worn);
-            return;
-        }
-        if let Ok(mut rooms) = new_rooms(alloc, &self.matcher) {
-            rooms.worn = Some(worn);
-            self.rooms = Some(rooms);
-        }
-    }
-
-    /// Gives its own matcher away, whose rooms another may use: none where it is lent by a handle. What is held then
-    /// has read nothing. Takes no memory.
-    pub fn retire(&mut self, alloc: Global) -> Option<Matcher>
-        ensures plan { self.new.plan ≡ self.old.plan }
-        ensures none { self.new.open_runs ≡ [] }
-        ensures count { self.new.started ≡ 0 }
-    {
-        let is_own = self.handle.is_none();
-        self.clear();
-        if !is_own {
-            return None;
-        }
-        match self.matcher.copy(alloc) {
-            Ok(fresh) => Some(mem::replace(&mut self.matcher, fresh)),
-            Err(_) => None,
+    /// It serves no more, and is not lent: it is a spare one from then on, if nobody else holds it, and so is what was
+    /// at hand for lending it. Takes no memory.
+    pub fn retire(self, spares: &mut Spares) {
+        let Held {
+            matcher,
+            handle,
+            rooms,
+        } = self;
+        spares.keep_held(matcher, handle);
+        if let Some(rooms) = rooms {
+            spares.keep_some(Box::into_inner(rooms).worn);
         }
     }
 
-    /// Lends it: by a handle of it, and no copy of its runs, or by a copy where it is small. After want of memory it is
-    /// as before.
-    pub fn lend(&mut self, alloc: Global) -> Result<Shared, Memory>
+    /// Lends it: by a handle of it, and no copy of its runs, or by a copy where it is small. One that served before
+    /// goes along, or a spare one. After want of memory it is as before.
+    pub fn lend(&mut self, alloc: Global, spares: &mut Spares) -> Result<Shared, Memory>
+        ensures same { self.new ≡ self.old }
+        ensures lent { IfOk result (λ shared. shared ≡ self.old) }
+    {
+        let mut shared = self.lend_bare(alloc)?;
+        shared.furnish(spares);
+        Ok(shared)
+    }
+
+    // Lends it, and with it one that served before if it is at hand.
+    fn lend_bare(&mut self, alloc: Global) -> Result<Shared, Memory>
         ensures same { self.new ≡ self.old }
         ensures lent { IfOk result (λ shared. shared ≡ self.old) }
     {

@@ -5,9 +5,11 @@
 mod held;
 mod rooms;
 mod shared;
+mod spares;
 
 pub use held::Held;
 pub use shared::Shared;
+pub use spares::Spares;
 use std::alloc::AllocError;
 
 /// Want of memory. Any call that allocates may answer it, and says what stands after it.

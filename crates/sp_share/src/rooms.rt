@@ -16,6 +16,18 @@ pub(crate) struct Rooms {
     pub(crate) worn: Option<Matcher>,
 }
 
+impl Rooms {
+    /// The matcher that was lent serves by its rooms from now on, and one that has read nothing stands in its place.
+    pub(crate) fn put_aside(&mut self, alloc: Global)
+        ensures { self.new.matcher.plan ≡ self.old.matcher.plan }
+    {
+        self.matcher.clear();
+        if let Ok(fresh) = self.matcher.copy(alloc) {
+            self.worn = Some(mem::replace(&mut self.matcher, fresh));
+        }
+    }
+}
+
 // New rooms with a copy of a matcher.
 pub(crate) fn new_rooms(alloc: Global, matcher: &Matcher) -> Result<Box<Rooms>, Memory>
     ensures { IfOk result (λ rooms. rooms.value.matcher ≡ matcher.now) }
@@ -23,8 +35,7 @@ pub(crate) fn new_rooms(alloc: Global, matcher: &Matcher) -> Result<Box<Rooms>, 
     rooms_with(alloc, None, matcher.copy(alloc)?)
 }
 
-// Rooms with this matcher: those at hand, or new ones. The one that they had serves by its rooms from then on, unless
-// another does.
+// Rooms with this matcher: those at hand, or new ones.
 pub(crate) fn rooms_with(
     alloc: Global,
     rooms: Option<Box<Rooms>>,
@@ -36,10 +47,7 @@ pub(crate) fn rooms_with(
         let worn = None;
         return Ok(Box::new(alloc, Rooms { matcher, worn })?);
     };
-    let before = mem::replace(&mut rooms.matcher, matcher);
-    if rooms.worn.is_none() {
-        rooms.worn = Some(before);
-    }
+    rooms.matcher = matcher;
     Ok(rooms)
 }
 

@@ -1,7 +1,7 @@
 ghost use Rattle.std.specs.Prelude.{◌≡◌, IfOk};
 
-use crate::Memory;
 use crate::rooms::{Rooms, new_rooms};
+use crate::{Memory, Spares};
 use sp_match::Matcher;
 use std::alloc::Global;
 use std::marker::Model;
@@ -68,5 +68,23 @@ impl Shared {
         ensures { self.new ≡ self.old }
     {
         self.rooms.worn.take()
+    }
+
+    // Sees to it that one that served before goes along, if there is a spare one.
+    pub(crate) fn furnish(&mut self, spares: &mut Spares)
+        ensures { self.new ≡ self.old }
+    {
+        if self.rooms.worn.is_none() {
+            self.rooms.worn = spares.take();
+        }
+    }
+
+    /// It serves no more: the matcher is a spare one from then on, if nobody else holds it, and so is the one that served
+    /// before. Takes no memory.
+    pub fn retire(self, spares: &mut Spares) {
+        let Shared { handle, rooms } = self;
+        let Rooms { matcher, worn } = Box::into_inner(rooms);
+        spares.keep_held(matcher, handle);
+        spares.keep_some(worn);
     }
 }

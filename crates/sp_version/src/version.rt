@@ -7,7 +7,7 @@ use crate::search::least_among;
 use sp_base::Numbers;
 use sp_match::Matcher;
 use sp_plan::{Match, Plan};
-use sp_share::Held;
+use sp_share::{Held, Spares};
 use std::alloc::Global;
 use std::sync::Arc;
 
@@ -39,14 +39,13 @@ pub struct Version {
 impl Version {
     ghost use Rattle.sp_version.specs.Reads.{conflict};
 
-    /// A version that has read nothing. A matcher that served before may be given for its rooms: it goes along with
-    /// the first lease, and whoever reads uses them.
+    /// A version that has read nothing. Its matcher is made in the rooms of a spare one where there is one.
     pub fn new(
         alloc: Global,
         plan: Arc<Plan>,
         window: u32,
         first: u32,
-        worn: Option<Matcher>,
+        spares: &mut Spares,
     ) -> Result<Version, Memory>
         requires { IsCompiled (arc_value plan) }
         ensures window { IfOk result (λ v. v.window ≡ window) }
@@ -62,16 +61,13 @@ impl Version {
         ensures done { IfOk result (λ v. v.done ≡ false) }
         ensures out { IfOk result (λ v. v.out ≡ None) }
     {
-        let mut matcher = Held::new(Matcher::new(alloc, plan)?);
-        if let Some(worn) = worn {
-            matcher.furnish(alloc, worn);
-        }
+        let matcher = spares.housed(alloc, Matcher::new(alloc, plan)?)?;
         Ok(Version {
             window,
             first,
             position: 0,
             skipped: Numbers::new(alloc),
-            matcher,
+            matcher: Held::new(matcher),
             matches: Vec::new(alloc),
             copies: Vec::new(alloc),
             used: Numbers::new(alloc),

@@ -1,7 +1,7 @@
 use Rattle.std.proofs.Common.{◌∙◌, ap, sym}
 use Rattle.std.specs.Prelude.{not}
 use Rattle.sp_share.proofs.Lending.{own_is}
-use Rattle.sp_share.proofs.held.Held.lend.Goals as goal
+use Rattle.sp_share.proofs.held.Held.lend_bare.Goals as goal
 
 -- what goes out is what was its own
 pub returns-then-is_small-clause-lent : goal.returns-then-is_small-clause-lent
