@@ -79,12 +79,21 @@ impl Own {
         Ok(())
     }
 
-    /// Lets rooms go in which no matcher was made.
-    pub(crate) fn shed(&mut self)
+    /// Takes the rooms out in which no matcher was made.
+    pub(crate) fn take_rooms(&mut self) -> Option<Matcher>
         ensures { self.new ≡ self.old }
     {
-        if let Place::Rooms(rooms) = &mut self.place {
-            *rooms = None;
+        match &mut self.place {
+            Place::Rooms(rooms) => rooms.take(),
+            Place::Begun(_) => None,
+        }
+    }
+
+    /// The matcher, or the rooms for it.
+    pub(crate) fn into_rooms(self) -> Option<Matcher> {
+        match self.place {
+            Place::Rooms(rooms) => rooms,
+            Place::Begun(matcher) => Some(matcher),
         }
     }
 

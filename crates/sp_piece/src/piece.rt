@@ -15,7 +15,7 @@ use crate::{Done, Job, Memory, Stepped};
 use sp_hub::Named;
 use sp_match::{Matcher, Moves};
 use sp_plan::{Event, Listed};
-use sp_share::Held;
+use sp_share::{Held, Spares};
 use std::alloc::Global;
 use std::marker::Model;
 
@@ -92,19 +92,6 @@ impl Piece {
     /// closing, where the job lends it; where the piece was given up, nothing. The piece is what steps lead to.
     /// After want of memory it stands for what it has read, and can be read on.
     pub fn read_whole(&mut self, alloc: Global) -> Result<(), Memory>
-        ensures steps { StepsLead self.old self.new }
-        ensures whole { OnOk result (self.new ≡ read_whole self.old) }
-        ensures end { OnOk result (answer self.new ≡ s.Finished) }
-        ensures job { self.new.job ≡ self.old.job }
-    {
-        let read = self.read_left(alloc);
-        // Rooms that weren't needed are let go where there is time for it.
-        self.matcher.shed();
-        read
-    }
-
-    // Reads all that is left, as `read_whole` does.
-    fn read_left(&mut self, alloc: Global) -> Result<(), Memory>
         ensures steps { StepsLead self.old self.new }
         ensures whole { OnOk result (self.new ≡ read_whole self.old) }
         ensures end { OnOk result (answer self.new ≡ s.Finished) }
@@ -291,6 +278,19 @@ impl Piece {
             Some(matcher) => Held::led(matcher, job.before),
             None => Held::of(job.before),
         }
+    }
+
+    /// Rooms in which no matcher had to be made are spare ones from then on. Takes no memory.
+    pub fn shed(&mut self, spares: &mut Spares)
+        ensures { self.new ≡ self.old }
+    {
+        spares.keep_some(self.matcher.take_rooms());
+    }
+
+    /// It counts no more: its matchers are spare ones from then on, if nobody else holds them. Takes no memory.
+    pub fn retire(self, spares: &mut Spares) {
+        spares.keep_some(self.matcher.into_rooms());
+        self.job.before.retire(spares);
     }
 }
 

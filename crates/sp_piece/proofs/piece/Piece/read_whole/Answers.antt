@@ -1,7 +1,7 @@
 use Rattle.std.proofs.Common.{◌≡◌, false, sym, ap, ◌∙◌, subst}
 use Rattle.sp_piece.specs.Pieced.{Pieced, StepsLead}
 use Rattle.sp_piece.proofs.Stepping.{one_more, read_on_leads}
-use Rattle.sp_piece.proofs.piece.Piece.read_left.Goals as goal
+use Rattle.sp_piece.proofs.piece.Piece.read_whole.Goals as goal
 
 pub returns-in_err-read_events-clause-steps : goal.returns-in_err-read_events-clause-steps
 returns-in_err-read_events-clause-steps c =
