@@ -7,7 +7,7 @@ ghost use Rattle.sp_piece.specs.Reading.{consumes};
 use sp_match::{Known, Matcher};
 use sp_piece::Job;
 use sp_plan::{Event, Listed};
-use sp_share::Held;
+use sp_share::{Held, Spares};
 use std::alloc::{AllocError, Global};
 
 // The job with this matcher and one event.
@@ -18,11 +18,12 @@ fn with(alloc: Global, job: &Job, before: Matcher, event: Event) -> Result<Job, 
     let events = vec![in alloc; event]?;
     let known = vec![in alloc; Known::Any]?;
     let mut held = Held::new(before);
+    let mut spares = Spares::new(alloc)?;
     Ok(Job {
         ticket: job.ticket,
         version: job.version,
         first: job.first,
-        before: held.lend(alloc)?,
+        before: held.lend(alloc, &mut spares)?,
         events: Listed::of(events),
         known: Listed::of(known),
         snapshot: job.snapshot.copy(alloc)?,

@@ -16,7 +16,6 @@ use crate::rooms::enter;
 use crate::{Core, Emitted, law};
 use sp_base::Numbers;
 use sp_group::{Label, Refusal, Step};
-use sp_match::Matcher;
 use sp_plan::Match;
 use sp_tree::Tree;
 use sp_version::Version;
@@ -66,13 +65,12 @@ fn hand_out(held: &mut Version, emitted: &mut Vec<Match>, consumed: &mut Numbers
     mem::replace(&mut held.matches, Vec::new(alloc))
 }
 
-// The root, which has no open group, goes out of the tree, and its matcher is kept for its rooms; answers its matches.
+// The root, which has no open group, goes out of the tree; answers its matches.
 fn pop(
     tree: &mut Tree<Version>,
     root: u64,
     emitted: &mut Vec<Match>,
     consumed: &mut Numbers,
-    worn: &mut Option<Matcher>,
 ) -> Vec<Match>
     requires root { root_in tree.old.entries ≡ Some root }
     requires groups { groups_of (entry_at kin tree.old.entries root) ≡ [] }
@@ -88,7 +86,6 @@ fn pop(
         unreachable!()
     };
     let matches = hand_out(held, emitted, consumed);
-    *worn = held.matcher.retire(*matches.allocator());
     tree.promote();
     // It tells what every tree keeps.
     tree.live();
@@ -162,13 +159,7 @@ impl Core {
             return Err(Refusal::NotDone { finished });
         };
         let rolls = self.heir_conflict(root).is_some();
-        let matches = pop(
-            &mut self.tree,
-            root,
-            &mut self.emitted,
-            &mut self.consumed,
-            &mut self.worn,
-        );
+        let matches = pop(&mut self.tree, root, &mut self.emitted, &mut self.consumed);
         let root = settle(&mut self.tree, rolls);
         // It is the window behind those that were finished.
         self.finished = window;

@@ -14,7 +14,7 @@ use crate::{Core, CoreFault, Lent, Memory, law};
 use sp_group::{Refusal, Step};
 use sp_piece::{Job, consumes};
 use sp_plan::{Event, Listed};
-use sp_share::Shared;
+use sp_share::{Shared, Spares};
 use sp_tree::Tree;
 use sp_version::Version;
 use std::alloc::Global;
@@ -28,16 +28,34 @@ fn put_out_for(tree: &mut Tree<Version>, version: u64, ticket: u64)
     }
 }
 
+// The matcher of a version that went, if there is one, is a spare one from then on. What is out for it has its rooms.
+fn clear_away(tree: &mut Tree<Version>, spares: &mut Spares)
+    ensures { tree.new ≡ tree.old }
+{
+    let Some(gone) = tree.take_left() else {
+        return;
+    };
+    if gone.out.is_none() {
+        gone.matcher.retire(spares);
+    }
+}
+
 // Lends the matcher of a live version: a handle of it goes out, and contracts see the tree as before.
-fn lend_matcher(alloc: Global, tree: &mut Tree<Version>, version: u64) -> Result<Shared, Memory>
+fn lend_matcher(
+    alloc: Global,
+    tree: &mut Tree<Version>,
+    version: u64,
+    spares: &mut Spares,
+) -> Result<Shared, Memory>
     requires live { IsSome (entry_at kin tree.old.entries version) }
     ensures same { tree.new ≡ tree.old }
     ensures lent { IfOk result (λ before. IsMatcherOf tree.old version before) }
 {
+    clear_away(tree, spares);
     let Some(held) = tree.get_mut(version) else {
         unreachable!()
     };
-    held.matcher.lend(alloc)
+    held.matcher.lend(alloc, spares)
 }
 
 impl Core {
@@ -131,7 +149,7 @@ impl Core {
             ticket: lent.ticket,
             version: lent.version,
             first: lent.first,
-            before: lend_matcher(alloc, &mut self.tree, lent.version)?,
+            before: lend_matcher(alloc, &mut self.tree, lent.version, &mut self.spares)?,
             events: Listed::of(events),
             known: Listed::of(known),
             snapshot: lent.snapshot.copy(alloc)?,

@@ -8,8 +8,9 @@ use crate::news::News;
 use crate::{Lent, Memory};
 use sp_base::Numbers;
 use sp_group::Entry;
-use sp_match::{Known, Matcher};
+use sp_match::Known;
 use sp_plan::{Event, Match, Plan};
+use sp_share::Spares;
 use sp_tree::Tree;
 use sp_version::Version;
 use sp_window::Windows;
@@ -37,8 +38,8 @@ pub struct Core {
     pub(crate) journal: Vec<Entry>,
     // What came home since no version was in conflict.
     pub(crate) news: Vec<News>,
-    // The matcher of a window that is finished, whose rooms the next version uses.
-    pub(crate) worn: Option<Matcher>,
+    // Matchers that served, whose rooms versions and pieces use.
+    pub(crate) spares: Spares,
 }
 
 impl Model for Core {
@@ -72,6 +73,7 @@ impl Core {
         let tree = Tree::new(alloc, bound)?;
         tree.live();
         let journal = Vec::with_capacity(alloc, 1)?;
+        let spares = Spares::new(alloc)?;
         Ok(Core {
             plan,
             events: Vec::new(alloc),
@@ -86,7 +88,7 @@ impl Core {
             next_ticket: 1,
             journal,
             news: Vec::new(alloc),
-            worn: None,
+            spares,
         })
     }
 }

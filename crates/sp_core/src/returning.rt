@@ -269,10 +269,36 @@ impl Core {
         Ok(lent)
     }
 
+    // Rooms that a piece didn't need are spare ones from now on.
+    fn shed(&mut self, piece: &mut Piece)
+        ensures same { self.new ≡ self.old }
+        ensures piece { piece.new ≡ piece.old }
+    {
+        piece.shed(&mut self.spares);
+    }
+
+    // The matchers of a piece that counts no more are spare ones from now on.
+    fn retire(&mut self, piece: Piece)
+        ensures { self.new ≡ self.old }
+    {
+        piece.retire(&mut self.spares);
+    }
+
     /// A piece comes home whose job is what is out under its ticket, for a live version, as its caller knows, or
     /// asks by `is_carried`: what it read is the version's, and the ticket ends. Nothing is compared. After want
     /// of memory, which hands the piece back, the ticket is still out and the core is as before.
-    pub fn come_home(&mut self, alloc: Global, piece: Piece) -> Result<(), Piece>
+    pub fn come_home(&mut self, alloc: Global, mut piece: Piece) -> Result<(), Piece>
+        requires { CanComeHome self.old piece }
+        ensures home { OnOk result (IsHome self.old self.new piece) }
+        ensures err { OnErr result (self.new ≡ self.old) }
+        ensures back { IfErr result (λ back. back ≡ piece) }
+    {
+        self.shed(&mut piece);
+        self.take_home(alloc, piece)
+    }
+
+    // The same, of a piece that has shed its rooms.
+    fn take_home(&mut self, alloc: Global, piece: Piece) -> Result<(), Piece>
         requires { CanComeHome self.old piece }
         ensures home { OnOk result (IsHome self.old self.new piece) }
         ensures err { OnErr result (self.new ≡ self.old) }
@@ -330,7 +356,10 @@ impl Core {
         let live = self.tree.get(version).is_some();
         match self.end_ticket(ticket) {
             Ok(lent) if live => Ok(Given::Differs { lent, piece }),
-            Ok(_) => Ok(Given::Stale { version }),
+            Ok(_) => {
+                self.retire(piece);
+                Ok(Given::Stale { version })
+            }
             Err(AllocError) => Err(piece),
         }
     }

@@ -104,7 +104,7 @@ impl Core {
         let entered = label.copy(alloc)?;
         make_room(&mut self.journal, self.tree.live())?;
         let plan = self.plan.clone()?;
-        let version = Version::new(alloc, plan, window, place.first, self.worn.take())?;
+        let version = Version::new(alloc, plan, window, place.first, &mut self.spares)?;
         let Ok(id) = self.tree.add(alloc, parent, label, version) else {
             return Err(AllocError);
         };

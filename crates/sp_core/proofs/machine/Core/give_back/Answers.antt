@@ -48,4 +48,4 @@ returns-in-Ok-2-clause-given c =
     let new = subst (λ (job : Job). c.end_ticket.new.self ≡ after c.args.self.now (s.Return job.ticket)) c.job.ensures c.in-Ok-2.ensures.ok in
     let live = subst (λ (r : Running). is_some (version_at r.machine.versions d.version) ≡ false) c.self.view_is
     (live_where_got h.tree.entries d.version c.get.result c.get.ensures ∙ sym c.is_some-live.ensures ∙ c.if-live.false) in
-    stale c.args.self.now c.end_ticket.new.self c.args.piece c.in-Ok-2.field-0 d.version is (same_version c.in-Ok-2.field-0 d _ is out) new live
+    stale c.args.self.now c.retire.new.self c.args.piece c.in-Ok-2.field-0 d.version is (same_version c.in-Ok-2.field-0 d _ is out) (c.retire.ensures ∙ new) live

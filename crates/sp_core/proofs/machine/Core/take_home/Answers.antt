@@ -15,7 +15,7 @@ use Rattle.sp_core.proofs.Coming.{can_bring, can_settle, coming}
 use Rattle.sp_core.proofs.ComesHome.{core_comes, given_comes, heard_home, place_within}
 use Rattle.sp_core.proofs.Roomier.{core_left, core_made, running_left}
 use Rattle.sp_core.proofs.HomeSettled.{on_err}
-use Rattle.sp_core.proofs.machine.Core.come_home.Goals as goal
+use Rattle.sp_core.proofs.machine.Core.take_home.Goals as goal
 
 pub brings-requires : goal.brings-requires
 brings-requires c =
