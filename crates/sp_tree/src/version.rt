@@ -173,5 +173,10 @@ pub(crate) fn child_of(versions: &[Version], parent: u64, label: &Label) -> Opti
 pub(crate) fn ids_of(alloc: Global, versions: &[Version]) -> Result<Vec<u64>, Memory>
     ensures { IfOk result (λ ids. ids.items ≡ map (λ v. v.id) (reverse versions.now)) }
 {
-    versions.iter().rev().map(|v| v.id).collect(alloc)
+    let mut ids = Vec::with_capacity(alloc, versions.len())?;
+    for version in versions {
+        ids.push_reserved(version.id);
+    }
+    ids.reverse();
+    Ok(ids)
 }
