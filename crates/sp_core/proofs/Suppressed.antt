@@ -1,5 +1,5 @@
 -- What is suppressed for the versions of a core, from one of them up to the root.
-use Rattle.std.proofs.Common.{◌≡◌, ℕ, ◌<◌, Bool, true, false, ◌&&◌, ◌||◌, List, [], filter, map, Option, Some, None, is_some, refl, sym, ap, ◌∙◌}
+use Rattle.std.proofs.Common.{◌≡◌, ℕ, ◌<◌, Bool, true, false, ◌&&◌, ◌||◌, List, filter, map, Option, Some, None, is_some, refl, sym, ap, ◌∙◌}
 use Rattle.std.specs.Prelude.{IsSome}
 use Rattle.std.specs.Option.{option_map}
 use Rattle.std.proofs.lemmas.Option.{same_Some}
@@ -104,11 +104,36 @@ live_entry h id live = one (entry_at kin h.tree.entries id) (ap is_some (sym (ve
     one None is = is
     one (Some e) is = refl
 
--- Numbers within a range that were taken in on the way from a version up to another, which is live: with what is suppressed for that one
--- they are what is suppressed for the version.
+or_same : (b : Bool) → (b || b) ≡ b
+or_same true = refl
+or_same false = refl
+
+or_false : (b : Bool) → (b || false) ≡ b
+or_false true = refl
+or_false false = refl
+
+spent_more : (a k s : Bool) → (a || s) ≡ a → ((a || k) || s) ≡ (a || k)
+spent_more true k s is = refl
+spent_more false k s is = ap (λ (b : Bool). k || b) is ∙ or_false k
+
+less_more : (v p k : Bool) → (v || (p || k)) ≡ v → (v || p) ≡ v
+less_more true p k is = refl
+less_more false true k is = absurd (cc is)
+less_more false false k is = refl
+
+spent_all : (w c v : Bool) → (v || c) ≡ v → ((w && c) || (w && v)) ≡ (w && v)
+spent_all false c v is = refl
+spent_all true true true is = refl
+spent_all true true false is = absurd (cc is)
+spent_all true false v is = refl
+
+-- Numbers within a range that were taken in, those that are consumed first, on the way from a version up to another, which is
+-- live: with what is suppressed for that one they are what is suppressed for the version.
 pub record Taken (r : Running) (version below first count : ℕ) (numbers : List ℕ) : Type 0 where
   pub live : IsSome (version_at r.machine.versions below)
-  pub members : (i : ℕ) → (is_among numbers i || (is_within first count i && is_suppressed r.plan r.machine below i)) ≡ (is_within first count i && is_suppressed r.plan r.machine version i)
+  pub spent : (i : ℕ) → (is_among numbers i || (is_within first count i && is_among r.machine.consumed i)) ≡ is_among numbers i
+  pub less : (i : ℕ) → (is_suppressed r.plan r.machine version i || is_suppressed r.plan r.machine below i) ≡ is_suppressed r.plan r.machine version i
+  pub members : (i : ℕ) → (is_among numbers i || (is_within first count i && is_suppressed r.plan r.machine below i)) ≡ ((is_within first count i && is_among r.machine.consumed i) || (is_within first count i && is_suppressed r.plan r.machine version i))
 
 -- an entry of the tree is a version of the machine
 pub entry_live : (h : Holding) (id : ℕ) → is_some (entry_at kin h.tree.entries id) ≡ true → IsSome (version_at (machine_of h).versions id)
@@ -118,13 +143,19 @@ entry_live h id live = ap is_some (version_found h.tree.entries id) ∙ one (ent
     one None is = is
     one (Some e) is = refl
 
--- nothing yet
-pub taken_none : (r : Running) (version first count : ℕ) (numbers : List ℕ) → numbers ≡ [] → IsSome (version_at r.machine.versions version)
-    → Taken r version version first count numbers
-taken_none r version first count numbers none live = record {
+-- what is consumed
+pub taken_first : (r : Running) (version first count : ℕ) (numbers : List ℕ) → numbers ≡ filter (is_within first count) r.machine.consumed
+    → IsSome (version_at r.machine.versions version) → Taken r version version first count numbers
+taken_first r version first count numbers is live = record {
   live = live;
-  members = λ i. ap (λ (ns : List ℕ). is_among ns i || (is_within first count i && is_suppressed r.plan r.machine version i)) none;
+  spent = λ i. ap (λ (b : Bool). b || (is_within first count i && is_among r.machine.consumed i)) (has i)
+      ∙ or_same (is_within first count i && is_among r.machine.consumed i) ∙ sym (has i);
+  less = λ i. or_same (is_suppressed r.plan r.machine version i);
+  members = λ i. ap (λ (b : Bool). b || (is_within first count i && is_suppressed r.plan r.machine version i)) (has i);
 }
+  where
+    has : (i : ℕ) → is_among numbers i ≡ (is_within first count i && is_among r.machine.consumed i)
+    has i = ap (λ (ns : List ℕ). is_among ns i) is ∙ has_filtered (is_within first count) r.machine.consumed i
 
 -- what a parent keeps is taken in
 pub taken_more : (h : Holding) (version id p first count : ℕ) (label old new : List ℕ) (held : Version) → Below h id p
@@ -133,6 +164,13 @@ pub taken_more : (h : Holding) (version id p first count : ℕ) (label old new :
     → Taken (running h) version p first count new
 taken_more h version id p first count label old new held b labelled holds takes before = record {
   live = entry_live h p b.live;
+  spent = λ i.
+      let k = is_kept_within held label first count i in
+      let s = is_within first count i && is_among h.consumed.list i in
+      ap (λ (c : Bool). c || s) (takes i) ∙ spent_more (is_among old i) k s (before.spent i) ∙ sym (takes i);
+  less = λ i.
+      less_more (suppressed h version i) (suppressed h p i) (is_kept_back held label i)
+      (ap (λ (c : Bool). suppressed h version i || c) (sym (below_more h id p label held b labelled holds i)) ∙ before.less i);
   members = λ i.
       let w = is_within first count i in
       ap (λ (c : Bool). c || (w && suppressed h p i)) (takes i) ∙ one (is_among old i) w (is_kept_back held label i) (suppressed h p i)
@@ -148,9 +186,12 @@ taken_more h version id p first count label old new held b labelled holds takes 
     one false false k s = refl
 
 -- and at last what is consumed
-pub taken_all : (h : Holding) (version id first count : ℕ) (old new : List ℕ) → parent_of (entry_at kin h.tree.entries id) ≡ None
-    → ((i : ℕ) → is_among new i ≡ (is_among old i || is_among (filter (is_within first count) h.consumed.list) i)) → Taken (running h) version id first count old
-    → (i : ℕ) → is_among new i ≡ (is_within first count i && suppressed h version i)
-taken_all h version id first count old new none takes before i =
-    takes i ∙ ap (λ (b : Bool). is_among old i || b) (has_filtered (is_within first count) h.consumed.list i)
-    ∙ ap (λ (b : Bool). is_among old i || (is_within first count i && b)) (sym (below_none h id (live_entry h id before.live) none i)) ∙ before.members i
+pub taken_all : (h : Holding) (version id first count : ℕ) (numbers : List ℕ) → parent_of (entry_at kin h.tree.entries id) ≡ None
+    → Taken (running h) version id first count numbers → (i : ℕ) → is_among numbers i ≡ (is_within first count i && suppressed h version i)
+taken_all h version id first count numbers none before i =
+    let w = is_within first count i in
+    sym (before.spent i) ∙ ap (λ (b : Bool). is_among numbers i || (w && b)) (sym (root i)) ∙ before.members i
+    ∙ spent_all w (is_among h.consumed.list i) (suppressed h version i) (ap (λ (b : Bool). suppressed h version i || b) (sym (root i)) ∙ before.less i)
+  where
+    root : (j : ℕ) → suppressed h id j ≡ is_among h.consumed.list j
+    root j = below_none h id (live_entry h id before.live) none j

@@ -71,7 +71,7 @@ impl Core {
     {
         // Rising lists are the same where they have the same members.
         law::rising_same();
-        let mut numbers = Numbers::new(alloc);
+        let mut numbers = self.consumed.cut_to(alloc, first, count)?;
         let mut below = version;
         while let Some(parent) = self.tree.parent(below) {
             let (Some(label), Some(held)) = (self.tree.label(below), self.tree.get(parent)) else {
@@ -80,7 +80,8 @@ impl Core {
             withheld_within(alloc, held, label, first, count, &mut numbers)?;
             below = parent;
         }
-        numbers.union(alloc, &self.consumed.cut_to(alloc, first, count)?)?;
+        // They rise.
+        numbers.list();
         Ok(numbers)
     }
 

@@ -1,18 +1,22 @@
-use Rattle.std.proofs.Common.{ℕ, ◌||◌, List, sym, ap, subst, ◌∙◌}
-use Rattle.std.specs.Prelude.{option_copied}
+use Rattle.std.proofs.Common.{ℕ, List, sym, ap, subst, ◌∙◌}
+use Rattle.std.specs.List.Sorted.{IsStrictlyIncreasing}
+use Rattle.std.specs.Prelude.{option_copied, IsSome}
 use Rattle.std.proofs.lemmas.Option.{none-some}
-use Rattle.sp_base.specs.Numbers.{is_among}
-use Rattle.sp_group.specs.Machine.{is_suppressed}
+use Rattle.sp_group.specs.Machine.{is_suppressed, version_at}
 use Rattle.sp_core.specs.Holding.{holding, running}
 use Rattle.sp_core.specs.Running.{Running}
 use Rattle.sp_core.specs.Suppressing.{suppressed_within}
 use Rattle.sp_core.proofs.Range.{passing_is}
-use Rattle.sp_core.proofs.Suppressed.{Taken, below_parent, taken_none, taken_more, taken_all}
+use Rattle.sp_core.proofs.Suppressed.{Taken, below_parent, taken_first, taken_more, taken_all}
 use Rattle.sp_core.proofs.machine.Core.suppressed_within.Goals as goal
 use Rattle.sp_core.proofs.machine.Core.suppressed_within.Goals.{in_default-2-via-in-Some+in_default, in_default-2-via-in_default}
 
 pub loop-parent-init : goal.loop-parent-init
-loop-parent-init c = taken_none c.args.self.now c.args.version c.args.first c.args.count c.new-numbers.result.list c.new-numbers.ensures.list c.requires.live
+loop-parent-init c =
+    let h = holding c.self.inside in
+    let live = subst (λ (r : Running). IsSome (version_at r.machine.versions c.args.version)) (sym c.self.view_is) c.requires.live in
+    subst (λ (r : Running). Taken r c.args.version c.args.version c.args.first c.args.count c.in_ok-numbers.numbers.list) c.self.view_is
+    (taken_first (running h) c.args.version c.args.first c.args.count c.in_ok-numbers.numbers.list c.in_ok-numbers.ensures live)
 
 pub unreachable-requires : goal.unreachable-requires
 unreachable-requires c =
@@ -39,11 +43,10 @@ loop-parent-preserved c =
 pub returns : goal.returns
 returns c =
     let h = holding c.self.inside in
-    let old = c.loop-parent.numbers.list in
-    let new = c.union.new.self.list in
-    let before : Taken (running h) c.args.version c.loop-parent.below c.args.first c.args.count old =
-    subst (λ (r : Running). Taken r c.args.version c.loop-parent.below c.args.first c.args.count old) (sym c.self.view_is) c.loop-parent.invariant in
-    passing_is c.rising_same.ensures (is_suppressed (running h).plan (running h).machine c.args.version) c.args.first c.args.count new c.in_ok-union.ensures.rising
-    (taken_all h c.args.version c.loop-parent.below c.args.first c.args.count old new (sym c.parent.ensures ∙ c.in_default.is)
-    (λ i. c.in_ok-union.ensures.members i ∙ ap (λ (ns : List ℕ). is_among old i || is_among ns i) c.in_ok-cut_to.ensures) before)
+    let numbers = c.loop-parent.numbers.list in
+    let rises : IsStrictlyIncreasing numbers = subst (λ (l : List ℕ). IsStrictlyIncreasing l) c.list.ensures.list c.list.ensures.rising in
+    let before : Taken (running h) c.args.version c.loop-parent.below c.args.first c.args.count numbers =
+    subst (λ (r : Running). Taken r c.args.version c.loop-parent.below c.args.first c.args.count numbers) (sym c.self.view_is) c.loop-parent.invariant in
+    passing_is c.rising_same.ensures (is_suppressed (running h).plan (running h).machine c.args.version) c.args.first c.args.count numbers rises
+    (taken_all h c.args.version c.loop-parent.below c.args.first c.args.count numbers (sym c.parent.ensures ∙ c.in_default.is) before)
     ∙ ap (λ (r : Running). suppressed_within r.plan r.machine c.args.version c.args.first c.args.count) c.self.view_is
