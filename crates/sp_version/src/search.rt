@@ -19,6 +19,23 @@ fn place(list: &[u32], n: u32) -> usize
     }
 }
 
+// Whether a number is among these. It is seen at the place of the next one, if it stands there, and else searched; from then
+// on the next one's place is that behind it.
+fn has_next(numbers: &Numbers, next: &mut usize, n: u32) -> bool
+    ensures { result ≡ is_among numbers.now.list n }
+{
+    let list = numbers.list();
+    if *next < list.len() && list[*next] == n {
+        *next += 1;
+        return true;
+    }
+    if !numbers.has(n) {
+        return false;
+    }
+    *next = place(list, n) + 1;
+    true
+}
+
 // The least number of the rising list that is one of so many from `first` on, and not skipped.
 pub(crate) fn least_among(list: &[u32], first: u32, count: u32, skipped: &Numbers) -> Option<u32>
     requires { IsStrictlyIncreasing list.now }
@@ -29,8 +46,9 @@ pub(crate) fn least_among(list: &[u32], first: u32, count: u32, skipped: &Number
         count }
 {
     let mut at = place(list, first);
+    let mut next = place(skipped.list(), first);
     while at < list.len() && list[at] - first < count {
-        if !skipped.has(list[at]) {
+        if !has_next(skipped, &mut next, list[at]) {
             return Some(list[at]);
         }
         at += 1;

@@ -5,10 +5,10 @@ use Rattle.sp_version.proofs.search.least_among.Goals as goal
 pub loop-at-init : goal.loop-at-init
 loop-at-init c = passed_first c.args.list.now c.args.first c.args.skipped.now.list c.place-at.result c.place-at.ensures
 
-pub returns-then-not-has : goal.returns-then-not-has
-returns-then-not-has c =
+pub returns-then-not-has_next : goal.returns-then-not-has_next
+returns-then-not-has_next c =
     sym (found c.args.list.now c.args.first c.args.count c.args.skipped.now.list c.loop-at.at c.requires c.loop-at.invariant c.loop-at-test.true c.if-list-at.true
-    (sym c.has.ensures ∙ c.if-not-has.true))
+    (sym c.has_next.ensures ∙ c.if-not-has_next.true))
 
 pub returns-else-list-at : goal.returns-else-list-at
 returns-else-list-at c =
