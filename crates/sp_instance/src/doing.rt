@@ -32,7 +32,7 @@ pub(crate) fn do_job_at<B: Lending, G: Gate>(
 {
     let ticket = job.job().ticket;
     gate.enter(seat, ticket);
-    let mut piece = Reading::start(alloc, job);
+    let mut piece = Reading::start(job);
     if piece.read_whole(alloc).is_err() {
         piece.give_up();
     }

@@ -11,6 +11,7 @@ ghost use Rattle.sp_core.specs.Running.{IsDone, refused};
 ghost use Rattle.sp_spread.specs.Calm.{AreCalm};
 ghost use Rattle.sp_lend.specs.Truth.{StaysTrue, Vouches, WasLent};
 
+use crate::boxed::{Boxed, empty_box};
 use crate::front::Front;
 use crate::loan::{Loan, Receipt};
 use crate::memo::{Hint, Memo};
@@ -229,10 +230,15 @@ impl<L: Lending> Lender<L> {
         ensures fault { IfErr result (IsFault self.old (s.Lease version count)) }
     {
         self.stays();
+        let empty = empty_box(alloc)?;
         let job = self.core.lease(alloc, version, count)?;
         let receipt = self.enter(&job);
         let hint = self.hint(&job);
-        Ok(Loan { job, receipt, hint })
+        Ok(Loan {
+            piece: Boxed::begin(alloc, empty, job),
+            receipt,
+            hint,
+        })
     }
 
     /// `Core::give_back`, but for want of memory the reading is let go: who calls it stops then. Where the reading has its
@@ -246,9 +252,9 @@ impl<L: Lending> Lender<L> {
             receipt,
             hint,
         } = reading;
-        self.keep(alloc, hint, piece.job());
+        self.keep(alloc, hint, piece.get().job());
         let live = self.core.tree().live();
-        match self.take_back(alloc, &receipt, piece) {
+        match self.take_back(alloc, &receipt, piece.into_piece()) {
             Ok(given) => {
                 if matches!(given, Given::Home) {
                     self.memo.note_home(live, self.core.tree().live());

@@ -1,6 +1,7 @@
 // A job with its receipt.
 ghost use Rattle.std.specs.Prelude.{◌≡◌};
 
+use crate::boxed::Boxed;
 use crate::front::Front;
 use crate::memo::Hint;
 use crate::register::Lending;
@@ -15,17 +16,20 @@ pub(crate) struct Receipt<L: Lending> {
     pub(crate) place: u64,
 }
 
-/// A job that was lent. Contracts see the job.
+/// A job that was lent, with the piece that is to read it. Contracts see the job.
 #[derive(Drop)]
 pub struct Loan<L: Lending> {
-    pub(crate) job: Job,
+    // it has read nothing
+    pub(crate) piece: Boxed,
     // None where the register had no more room
     pub(crate) receipt: Option<Receipt<L>>,
     pub(crate) hint: Hint,
 }
 
 impl<L: Lending> Model for Loan<L> {
+    ghost use Rattle.std.specs.Prelude.{◌≡◌};
     ghost use Rattle.sp_piece.specs.declared.job.Job.{Job};
+    ghost use Rattle.sp_piece.specs.Pieced.{begun};
     ghost use Rattle.sp_plan.specs.contracts.plan.Expr as expr;
     ghost use Rattle.sp_plan.specs.contracts.plan.Pred as pred;
     ghost use Rattle.std.specs.Coded.{codes};
@@ -36,9 +40,9 @@ impl<L: Lending> Model for Loan<L> {
 
     ghost coded = { Prim.hlevel (codes, expr.the_row.coded, pred.the_row.coded, coded_all_known) };
 
-    ghost view = { λ l. l.job };
+    ghost view = { λ l. l.piece.job };
 
-    ghost invariant = { λ l. Vouches l.receipt l.job };
+    ghost invariant = { λ l. (l.piece ≡ begun l.piece.job) × Vouches l.receipt l.piece.job };
 }
 
 impl<L: Lending> Loan<L> {
@@ -46,7 +50,7 @@ impl<L: Lending> Loan<L> {
     pub fn job(&self) -> &Job
         ensures { result.now ≡ self.now }
     {
-        &self.job
+        self.piece.get().job()
     }
 }
 
@@ -55,6 +59,6 @@ impl<L: Lending> Named for Loan<L> {
 
     /// The ticket's number.
     fn ticket(&self) -> u64 {
-        self.job.ticket
+        self.job().ticket
     }
 }

@@ -2,6 +2,7 @@
 ghost use Rattle.std.specs.Prelude.{◌≡◌, IsTrue, IsFalse};
 ghost use Rattle.sp_piece.specs.Pieced.{read_whole};
 
+use crate::boxed::Boxed;
 use sp_piece::{Done, Job, Piece};
 use std::alloc::Global;
 use std::sync::Arc;
@@ -47,7 +48,7 @@ impl Hint {
 
     /// Has a piece take up the reading that was kept, and answers whether it did: then the piece is read, and the same
     /// reading stays kept. It does where what its job lends is the same, and memory isn't refused.
-    pub(crate) fn take_up(&mut self, alloc: Global, piece: &mut Piece) -> bool
+    pub(crate) fn take_up(&mut self, alloc: Global, piece: &mut Boxed) -> bool
         ensures whole { IsTrue result → piece.new ≡ read_whole piece.old }
         ensures not { IsFalse result → piece.new ≡ piece.old }
     {

@@ -4,6 +4,7 @@ ghost use Rattle.sp_piece.specs.Pieced.{StepsLead, answer, begun, read_whole, re
 ghost use Rattle.sp_piece.specs.declared.stepped.Stepped.TheVariants as s;
 
 use crate::Memory;
+use crate::boxed::Boxed;
 use crate::loan::{Loan, Receipt};
 use crate::memo::Hint;
 use crate::register::Lending;
@@ -15,7 +16,7 @@ use std::marker::Model;
 /// A reading of what was lent. Contracts see the piece.
 #[derive(Drop)]
 pub struct Reading<L: Lending> {
-    pub(crate) piece: Piece,
+    pub(crate) piece: Boxed,
     // None where the register had no more room for its job
     pub(crate) receipt: Option<Receipt<L>>,
     pub(crate) hint: Hint,
@@ -40,12 +41,16 @@ impl<L: Lending> Model for Reading<L> {
 
 impl<L: Lending> Reading<L> {
     /// A piece that has read nothing. Takes no memory.
-    pub fn start(alloc: Global, loan: Loan<L>) -> Reading<L>
+    pub fn start(loan: Loan<L>) -> Reading<L>
         ensures { result ≡ begun loan }
     {
-        let Loan { job, receipt, hint } = loan;
+        let Loan {
+            piece,
+            receipt,
+            hint,
+        } = loan;
         Reading {
-            piece: Piece::start(alloc, job),
+            piece,
             receipt,
             hint,
         }
@@ -63,7 +68,7 @@ impl<L: Lending> Reading<L> {
             return Ok(());
         }
         self.piece.read_whole(alloc)?;
-        self.hint.keep(alloc, &self.piece);
+        self.hint.keep(alloc, self.piece.get());
         Ok(())
     }
 
@@ -92,7 +97,7 @@ impl<L: Lending> Reading<L> {
     pub fn piece(&self) -> &Piece
         ensures { result.now ≡ self.now }
     {
-        &self.piece
+        self.piece.get()
     }
 }
 
@@ -101,6 +106,6 @@ impl<L: Lending> Named for Reading<L> {
 
     /// The ticket of its job.
     fn ticket(&self) -> u64 {
-        self.piece.job().ticket
+        self.piece().job().ticket
     }
 }

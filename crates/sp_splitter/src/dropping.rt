@@ -32,7 +32,7 @@ fn give_back_unread<B: Lending>(
     ensures ended { OnOk result (ticket_at core.new.machine.tickets job.ticket ≡ None) }
 {
     law::known(core);
-    match core.give_back(alloc, Reading::start(alloc, job)) {
+    match core.give_back(alloc, Reading::start(job)) {
         Ok(Given::Stale { .. }) => Ok(()),
         Ok(Given::NotOut { .. }) => Ok(()),
         // A job carries the version of its ticket, so none that is not live can come home.
