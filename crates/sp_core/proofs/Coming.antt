@@ -1,5 +1,5 @@
 -- A piece that comes home: what it led to is what its version comes to, and what it told are the matches that are added.
-use Rattle.std.proofs.Common.{◌≡◌, ℕ, ◌+◌, ◌-◌, ◌≤◌, Bool, true, false, cond, ◌&&◌, ◌||◌, ◌==◌, List, [], ◌∷◌, ◌++◌, length, map, drop, Some, refl, sym, ap, subst, ◌∙◌, arith}
+use Rattle.std.proofs.Common.{◌≡◌, ℕ, ◌+◌, ◌-◌, ◌≤◌, Bool, true, false, cond, ◌&&◌, ◌||◌, ◌==◌, List, [], ◌∷◌, ◌++◌, length, filter, map, drop, Some, refl, sym, ap, subst, ◌∙◌, arith}
 use Rattle.std.specs.List.{All, flat_map, list_any}
 use Rattle.std.proofs.lemmas.List.{length-take-le, length-drop}
 use Rattle.std.proofs.lemmas.List.Elements.{All-tail}
@@ -10,7 +10,7 @@ use Rattle.sp_plan.specs.Same.{SamePlan}
 use Rattle.sp_plan.specs.Runs.{Started, State, used}
 use Rattle.sp_window.specs.Laws.{IsNumber}
 use Rattle.sp_match.specs.declared.moves.Moves.{Moves}
-use Rattle.sp_match.specs.public.Laws.{completion}
+use Rattle.sp_match.specs.public.Laws.{completion, is_completion}
 use Rattle.sp_match.specs.public.Matching.{Matching, Stands}
 use Rattle.sp_piece.specs.Alike.{ReadAlike, all_told, by_plan}
 use Rattle.sp_piece.specs.Pieced.{Pieced, LedTo, Tells, loan}
@@ -33,7 +33,7 @@ use Rattle.sp_core.specs.Holding.{Holding, Holds, IsCore, machine_of, running, v
 use Rattle.sp_core.specs.Homecoming.{completions, is_grouped, spent_run}
 use Rattle.sp_core.specs.Returning.{IsCarried}
 use Rattle.sp_core.specs.Settling.{CanBring, CanSettle, HomeLaws, IsFrom, IsWithin}
-use Rattle.sp_piece.proofs.Consuming.{gathered_moves}
+use Rattle.sp_piece.proofs.Consuming.{gathered_completions}
 use Rattle.sp_core.proofs.Entries.{found_of_all, local, version_is}
 use Rattle.sp_core.proofs.FirstDecided.{all_among}
 use Rattle.sp_core.proofs.Journal.{reached}
@@ -196,9 +196,9 @@ module _ (laws : HomeLaws) (h : Holding) (p : Pieced) (a : Coming h p) where
   pub completed_now : (moves : List Moves) → Tells p moves → completions moves ≡ map (completion h.plan) adds.later
   completed_now moves tells =
       completions_are h.plan before now adds.later moves (accounts_to lending before p.read p.closed)
-      (ap (λ (x : Account). x.told) (tells before a.carries.stands) ∙ gathered_moves p.job.before.plan (joined (accounts_to (loan p.job) before p.read p.closed))
-      ∙ ap (λ (l : Loan). all_told (accounts_to l before p.read p.closed)) loan_is
-      ∙ ap all_told (alike.told lending before p.read p.closed))
+      (ap (λ (x : Account). x.told) (tells before a.carries.stands) ∙ gathered_completions p.job.before.plan (joined (accounts_to (loan p.job) before p.read p.closed))
+      ∙ ap (λ (l : Loan). filter is_completion (all_told (accounts_to l before p.read p.closed))) loan_is
+      ∙ ap (λ (accounts : List Account). filter is_completion (all_told accounts)) (alike.told lending before p.read p.closed))
       adds.matched
       (ap (λ (s : State). map (completion h.plan) s.matched) (sym led_home) ∙ laws.tell lending before p.read p.closed has_before.sound)
 

@@ -10,7 +10,7 @@ use Rattle.sp_base.proofs.RisingLists.{among_numbers, numbers_rise}
 use Rattle.sp_base.specs.Numbers.{RisingSame, is_among, with_number, with_numbers}
 use Rattle.sp_plan.specs.declared.found.Match.{Match}
 use Rattle.sp_plan.specs.declared.plan.Plan.{Plan}
-use Rattle.sp_plan.specs.Moves.{Told}
+use Rattle.sp_plan.specs.Moves.{Told, OpenedTold, GrownTold, CompletedTold, AbandonedTold}
 use Rattle.sp_plan.specs.Runs.{Run, Started, State, used}
 use Rattle.sp_plan.specs.Sequential.{match_of}
 use Rattle.sp_match.specs.declared.moves.Moves.{Moves}
@@ -31,13 +31,22 @@ all_seen (m ∷ moves) =
     ∙ ap (λ (ts : List Told). map seen m.list.items ++ ts) (all_seen moves)
     ∙ sym (flat_map-cons (λ (a : Account). a.told) (seen_moves m) (map seen_moves moves))
 
+-- all completions are completions
+completions_twice : (ts : List Told) → filter is_completion (filter is_completion ts) ≡ filter is_completion ts
+completions_twice [] = refl
+completions_twice (OpenedTold run ∷ ts) = completions_twice ts
+completions_twice (GrownTold run number ∷ ts) = completions_twice ts
+completions_twice (CompletedTold run bound used ∷ ts) = ap (λ (us : List Told). CompletedTold run bound used ∷ us) (completions_twice ts)
+completions_twice (AbandonedTold run ∷ ts) = completions_twice ts
+
 -- the completions told are the matches that are added
 pub completions_are : (q : Plan) (s t : State) (later : List Started) (moves : List Moves) (accounts : List Account)
-    → all_told (map seen_moves moves) ≡ all_told accounts → t.matched ≡ s.matched ++ later
+    → all_told (map seen_moves moves) ≡ filter is_completion (all_told accounts) → t.matched ≡ s.matched ++ later
     → map (completion q) t.matched ≡ map (completion q) s.matched ++ filter is_completion (all_told accounts)
     → completions moves ≡ map (completion q) later
 completions_are q s t later moves accounts told added law =
     ap (filter is_completion) (all_seen moves ∙ told)
+    ∙ completions_twice (all_told accounts)
     ∙ append_cancel_left (map (completion q) s.matched) (filter is_completion (all_told accounts)) (map (completion q) later)
     (sym law ∙ ap (map (completion q)) added ∙ map-append (completion q) s.matched later)
 

@@ -1,77 +1,64 @@
--- What is told behind the last entry.
-use Rattle.std.proofs.Common.{◌≡◌, ⊎_elim, ℕ, zero, suc, ◌+◌, Bool, true, false, refl, List, [], ◌∷◌, ◌++◌, map, length, get_or, set, sym, ap, ◌∙◌, arith}
-use Rattle.std.specs.Prelude.{IsTrue, IsFalse}
-use Rattle.std.proofs.lemmas.List.{append-nil, map-append}
+-- What is told of an event comes behind the rest.
+use Rattle.std.proofs.Common.{◌≡◌, ◌+◌, Bool, true, false, cond, refl, List, [], ◌∷◌, ◌++◌, map, length, slice_set, sym, ap, ◌∙◌, arith}
+use Rattle.std.specs.Prelude.{IsTrue, IsFalse, filter}
+use Rattle.sp_match.specs.declared.moves.Move.{Move}
 use Rattle.sp_match.specs.declared.moves.Moves.{Moves}
-use Rattle.sp_match.specs.public.Seen.{seen}
-use Rattle.sp_piece.specs.Reading.{Account, joined, seen_moves, with_wants}
-use Rattle.sp_piece.specs.Keeping.{IsJoined, TellsOn, TellsSame}
-use Rattle.sp_piece.proofs.Kept.{joined_behind, joined_nothing}
+use Rattle.sp_plan.specs.Moves.{Told}
+use Rattle.sp_plan.specs.Windows.{Numbered}
+use Rattle.sp_match.specs.public.Laws.{Below, is_completion}
+use Rattle.sp_match.specs.public.Matching.{IsAfter, Matching, TellsEvent, TellsWanted, runs_of}
+use Rattle.sp_match.specs.public.Seen.{all_seen, seen}
+use Rattle.sp_piece.specs.Reading.{Account, account, completing, joined, seen_moves}
+use Rattle.sp_piece.specs.Keeping.{HandledOn, IsSettled, TellsOn, TellsSame}
+use Rattle.sp_piece.proofs.Kept.{joined_behind}
 
--- what came behind, and what is left, are together what there was
-together : {A : Type 0} (list more joint left : List A) → IsJoined list more joint left → joint ++ left ≡ list ++ more
-together list more joint left is =
-    ⊎_elim
-    (λ (all : (joint ≡ list ++ more) × (left ≡ [])). ap (λ l. joint ++ l) all.1 ∙ append-nil joint ∙ all.0)
-    (λ (none : (joint ≡ list) × (left ≡ more)). λ i. none.0 i ++ none.1 i)
-    is
+-- the completions among moves tell the completions among what these tell
+pub completions_seen : (ms : List Move) → all_seen (filter (λ (m : Move). is_completion (seen m)) ms) ≡ filter is_completion (all_seen ms)
+completions_seen [] = refl
+completions_seen (m ∷ ms) = one (is_completion (seen m)) (completions_seen ms)
+  where
+    rest : List Move
+    rest = filter (λ (n : Move). is_completion (seen n)) ms
 
-module _ (x y : Moves) (z m : Account) (told : (seen_moves y).told ++ z.told ≡ (seen_moves x).told ++ m.told) (wanted : (seen_moves y).wanted ++ z.wanted ≡ (seen_moves x).wanted ++ m.wanted) where
-  -- the only entry
-  first_joined : (w : Moves) (ws : List Moves) → 1 ≡ suc (length ws) → x ≡ w → joined (map seen_moves (y ∷ ws) ++ z ∷ []) ≡ joined (map seen_moves (w ∷ ws) ++ m ∷ [])
-  first_joined w [] end here = λ i. record {
-    told = (ap (λ l. (seen_moves y).told ++ l) (append-nil z.told) ∙ told ∙ ap (λ (v : Moves). (seen_moves v).told ++ m.told) here ∙ ap (λ l. (seen_moves w).told ++ l) (sym (append-nil m.told))) i;
-    wanted = (ap (λ l. (seen_moves y).wanted ++ l) (append-nil z.wanted) ∙ wanted ∙ ap (λ (v : Moves). (seen_moves v).wanted ++ m.wanted) here ∙ ap (λ l. (seen_moves w).wanted ++ l) (sym (append-nil m.wanted))) i;
-  }
-  first_joined w (v ∷ ws) end here = absurd (omega (arith, end))
+    one : (b : Bool) → all_seen rest ≡ filter is_completion (all_seen ms) → all_seen (cond b (m ∷ rest) rest) ≡ cond b (seen m ∷ filter is_completion (all_seen ms)) (filter is_completion (all_seen ms))
+    one true same = ap (λ ts. seen m ∷ ts) same
+    one false same = same
 
-  -- the last of several
-  last_joined : (xs : List Moves) (i : ℕ) → i + 1 ≡ length xs → x ≡ get_or xs i x → joined (map seen_moves (set xs i y) ++ z ∷ []) ≡ joined (map seen_moves xs ++ m ∷ [])
-  last_joined [] i end here = absurd (omega (arith, end))
-  last_joined (w ∷ ws) zero end here = first_joined w ws end here
-  last_joined (w ∷ ws) (suc i) end here =
-      ap {B = Account} (λ (a : Account). record { told = (seen_moves w).told ++ a.told; wanted = (seen_moves w).wanted ++ a.wanted }) (last_joined ws i (omega (arith, end)) here)
+-- two entries, of which the second tells nothing
+pub settled : (front back : List Moves) → length front ≡ 1 → length back ≡ 1 → (x y : Moves) → y.list.items ≡ [] → y.wanted ≡ [] → IsSettled (slice_set front 0 x ++ slice_set back 0 y)
+settled [] back one two x y list wanted = absurd (omega (arith, one))
+settled (f ∷ fs) [] one two x y list wanted = absurd (omega (arith, two))
+settled (f ∷ g ∷ fs) (b ∷ bs) one two x y list wanted = absurd (omega (arith, one))
+settled (f ∷ []) (b ∷ c ∷ bs) one two x y list wanted = absurd (omega (arith, two))
+settled (f ∷ []) (b ∷ []) one two x y list wanted = record { told = x; room = y; are = refl; list = list; wanted = wanted }
 
--- An entry and the moves that are to come behind it, before and after they were joined.
-pub record AreJoined (x room y left : Moves) : Type 0 where
-  pub list : IsJoined x.list.items room.list.items y.list.items left.list.items
-  pub wanted : IsJoined x.wanted room.wanted y.wanted left.wanted
+-- what a room tells that told nothing before comes behind the rest
+pub told_from_room : (list ready more : List Moves) (m : Moves) (a : Account) → TellsSame list ready → IsSettled ready → TellsSame (slice_set ready 1 m) more → seen_moves m ≡ a → TellsOn a list more
+told_from_room list ready more m a same blank after is =
+    let t : Account = seen_moves blank.told in
+    let empty : seen_moves blank.room ≡ (record { told = []; wanted = [] }) = λ i. record { told = all_seen (blank.list i); wanted = blank.wanted i } in
+    sym after
+    ∙ ap (λ (es : List Moves). joined (map seen_moves (slice_set es 1 m))) blank.are
+    ∙ ap (λ (b : Account). joined (t ∷ b ∷ [])) is
+    ∙ ap (λ (b : Account). joined (t ∷ b ∷ a ∷ [])) (sym empty)
+    ∙ ap (λ (es : List Moves). joined (map seen_moves es ++ a ∷ [])) (sym blank.are)
+    ∙ joined_behind (map seen_moves ready) (map seen_moves list) (a ∷ []) (sym same)
 
--- the last entry, and what is left, tell what the room told behind it
-behind_last : (x room y left : Moves) → AreJoined x room y left → (xs : List Moves) (i : ℕ) → i + 1 ≡ length xs → x ≡ get_or xs i x
-    → joined (map seen_moves (set xs i y) ++ seen_moves left ∷ []) ≡ joined (map seen_moves xs ++ seen_moves room ∷ [])
-behind_last x room y left are =
-    last_joined x y (seen_moves left) (seen_moves room)
-    (sym (map-append seen y.list.items left.list.items) ∙ ap (map seen) (together x.list.items room.list.items y.list.items left.list.items are.list) ∙ map-append seen x.list.items room.list.items)
-    (together x.wanted room.wanted y.wanted left.wanted are.wanted)
-
--- where nothing is left, the last entry tells all
-pub all_behind : (x room y left : Moves) → AreJoined x room y left → left.list.items ≡ [] → left.wanted ≡ [] → (xs : List Moves) (i : ℕ) → i + 1 ≡ length xs → x ≡ get_or xs i x
-    → TellsOn (seen_moves room) xs (set xs i y)
-all_behind x room y left are no_list no_wanted xs i end here =
-    let none : seen_moves left ≡ (record { told = []; wanted = [] }) = λ j. record { told = map seen (no_list j); wanted = no_wanted j } in
-    sym (joined_nothing (map seen_moves (set xs i y)))
-    ∙ ap (λ (a : Account). joined (map seen_moves (set xs i y) ++ a ∷ [])) (sym none)
-    ∙ behind_last x room y left are xs i end here
-
--- what is left is an entry more
-pub rest_behind : (x room y left : Moves) → AreJoined x room y left → (xs : List Moves) (i : ℕ) → i + 1 ≡ length xs → x ≡ get_or xs i x
-    → TellsOn (seen_moves room) xs (set xs i y ++ left ∷ [])
-rest_behind x room y left are xs i end here =
-    ap joined (map-append seen_moves (set xs i y) (left ∷ [])) ∙ behind_last x room y left are xs i end here
-
--- what moves tell behind entries that tell what others do, they tell behind those
-pub told_on : (list begun ready more : List Moves) (m : Moves) (a : Account) → TellsSame list begun → ready ≡ begun → TellsOn (seen_moves m) ready more → (seen_moves m).told ≡ a.told → (seen_moves m).wanted ≡ a.wanted
-    → TellsOn a list more
-told_on list begun ready more m a same is on told wanted =
-    let tells : seen_moves m ≡ a = λ i. record { told = told i; wanted = wanted i } in
-    on
-    ∙ ap (λ (l : List Moves). joined (map seen_moves l ++ seen_moves m ∷ [])) is
-    ∙ joined_behind (map seen_moves begun) (map seen_moves list) (seen_moves m ∷ []) (sym same)
-    ∙ ap (λ (b : Account). joined (map seen_moves list ++ b ∷ [])) tells
-
--- moves that tell what an account does, with what the runs wanted only where that is so
-pub told_where : (so : Bool) (m : Moves) (a : Account) → (seen_moves m).told ≡ a.told → (IsTrue so → (seen_moves m).wanted ≡ a.wanted) → (IsFalse so → (seen_moves m).wanted ≡ [])
-    → seen_moves m ≡ with_wants so a
+-- moves that tell the completions of an account, with what the runs wanted only where that is so
+pub told_where : (so : Bool) (m : Moves) (a : Account) → (seen_moves m).told ≡ filter is_completion a.told → (IsTrue so → (seen_moves m).wanted ≡ a.wanted) → (IsFalse so → (seen_moves m).wanted ≡ [])
+    → seen_moves m ≡ completing so a
 told_where true m a told all none = λ i. record { told = told i; wanted = all refl i }
 told_where false m a told all none = λ i. record { told = told i; wanted = none refl i }
+
+-- an event was handled, and of what the room told of it the completions came behind the rest
+pub handled_from_room : (so : Bool) (x : Numbered) (m n : Matching) (list ready more : List Moves) (room : Moves) (ms : List Told) → n.plan ≡ m.plan → IsAfter x m n → TellsEvent x m ms
+    → all_seen room.list.items ≡ filter is_completion ms → (IsTrue so → TellsWanted x m room.wanted) → (IsFalse so → room.wanted ≡ []) → Below (x.0 + 1) (runs_of n)
+    → TellsSame list ready → IsSettled ready → TellsSame (slice_set ready 1 room) more → HandledOn so x m n list more
+handled_from_room so x m n list ready more room ms plan stands event kept wanted none below same blank after = record {
+  plan = plan;
+  stands = stands;
+  told = λ s st.
+      told_from_room list ready more room (completing so (account m.plan s x)) same blank after
+      (told_where so room (account m.plan s x) (kept ∙ ap (filter is_completion) (event s st)) (λ yes. wanted yes s st) none);
+  below = below;
+}

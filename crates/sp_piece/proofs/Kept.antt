@@ -1,11 +1,12 @@
 -- What a piece keeps when it reads one event more.
-use Rattle.std.proofs.Common.{◌≡◌, ℕ, zero, suc, ◌+◌, ◌<◌, Bool, true, false, List, [], ◌∷◌, ◌++◌, get_or, length, map, Option, Some, refl, sym, ◌∙◌, ap, subst, arith}
-use Rattle.std.specs.Prelude.{slice_get, if◌then◌else◌, not, nat_lt, ◌&&◌}
+use Rattle.std.proofs.Common.{◌≡◌, ℕ, zero, suc, ◌+◌, ◌<◌, ◌≤◌, Bool, true, false, List, [], ◌∷◌, ◌++◌, get_or, length, map, Option, Some, refl, sym, ◌∙◌, ap, subst, arith}
+use Rattle.std.specs.Prelude.{filter, slice_get, if◌then◌else◌, not, nat_lt, ◌&&◌}
 use Rattle.std.proofs.lemmas.Bool.{ltb-true}
+use Rattle.std.proofs.lemmas.Bool.Decides.{nat_tests}
 use Rattle.std.specs.List.{All, AllZip}
 use Rattle.std.proofs.lemmas.List.{append-nil}
 use Rattle.std.proofs.lemmas.List.Concat.{flat_map-append}
-use Rattle.std.proofs.lemmas.List.Elements.{All-weaker}
+use Rattle.std.proofs.lemmas.List.Elements.{All-weaker, filter-append}
 use Rattle.sp_plan.specs.declared.event.Event.{Event}
 use Rattle.sp_plan.specs.declared.plan.Plan.{Plan}
 use Rattle.sp_plan.specs.Windows.{Numbered}
@@ -13,13 +14,14 @@ use Rattle.sp_plan.specs.Runs.{Pair, Started, State, handle, after_closing}
 use Rattle.sp_plan.specs.Reading.{after_event}
 use Rattle.sp_match.specs.declared.known.Known.{Known}
 use Rattle.sp_match.specs.public.Known.{IsKnown}
-use Rattle.sp_match.specs.public.Laws.{Below}
+use Rattle.sp_match.specs.public.Laws.{Below, is_completion}
 use Rattle.sp_match.specs.public.Matching.{IsAfter, Matching, Stands, TellsEvent, TellsWanted, runs_of, wanted_as_before}
 use Rattle.sp_match.specs.declared.moves.Moves.{Moves}
 use Rattle.sp_piece.specs.declared.job.Job.{Job}
-use Rattle.sp_piece.specs.Reading.{Loan, Account, account, joined, gathered, skips, read_on, accounts_on, event_accounts, seen_moves, with_wants}
-use Rattle.sp_piece.specs.Pieced.{Pieced, loan, has_event}
-use Rattle.sp_piece.specs.Keeping.{current, HandledOn, IsKept, TellsOn, wanted_where}
+use Rattle.sp_piece.specs.Reading.{Loan, Account, account, closing_account, completing, consumes, joined, gathered, skips, read_on, accounts_on, event_accounts, seen_moves}
+use Rattle.sp_piece.specs.Pieced.{Pieced, loan, has_closing, has_event}
+use Rattle.sp_piece.specs.Keeping.{ClosedOff, current, HandledOn, IsKept, TellsOn, TellsSame, wanted_where}
+use Rattle.sp_piece.proofs.MatchesTold.{closing_completes_none}
 
 -- an event passed over changes no runs, and tells nothing
 on_skipped : (l : Loan) (s : State) (n : ℕ) → skips l n ≡ true → read_on l s (n + 1) ≡ read_on l s n
@@ -65,21 +67,54 @@ pub joined_nothing : (xs : List Account) → joined (xs ++ (record { told = []; 
 joined_nothing xs = joined_both xs _ ∙ λ i. record { told = append-nil (joined xs).told i; wanted = append-nil (joined xs).wanted i }
 
 -- what is gathered of one account more comes behind what is gathered of the others
-pub gathered_behind : (so : Bool) (ms xs : List Account) (a : Account) → joined ms ≡ with_wants so (joined xs) → joined (ms ++ with_wants so a ∷ []) ≡ with_wants so (joined (xs ++ a ∷ []))
-gathered_behind true ms xs a same = joined_behind ms xs (a ∷ []) same
-gathered_behind false ms xs a same =
-    let before : (joined ms).told ≡ (joined xs).told = ap (λ (b : Account). b.told) same in
-    let none : (joined ms).wanted ≡ [] = ap (λ (b : Account). b.wanted) same in
-    let told : (joined (ms ++ with_wants false a ∷ [])).told ≡ (joined (xs ++ a ∷ [])).told =
-    ap (λ (b : Account). b.told) (joined_both ms (with_wants false a ∷ [])) ∙ ap (λ ts. ts ++ (joined (a ∷ [])).told) before ∙ sym (ap (λ (b : Account). b.told) (joined_both xs (a ∷ []))) in
-    let wanted : (joined (ms ++ with_wants false a ∷ [])).wanted ≡ [] =
-    ap (λ (b : Account). b.wanted) (joined_both ms (with_wants false a ∷ [])) ∙ ap (λ ws. ws ++ (joined (with_wants false a ∷ [])).wanted) none in
-    λ i. record { told = told i; wanted = wanted i }
+completed_behind : (xs : List Account) (a : Account) → filter is_completion (joined xs).told ++ (filter is_completion a.told ++ []) ≡ filter is_completion (joined (xs ++ a ∷ [])).told
+completed_behind xs a =
+    ap (λ ts. filter is_completion (joined xs).told ++ ts) (append-nil (filter is_completion a.told) ∙ sym (ap (filter is_completion) (append-nil a.told)))
+    ∙ sym (filter-append is_completion (joined xs).told (joined (a ∷ [])).told)
+    ∙ sym (ap (λ (b : Account). filter is_completion b.told) (joined_both xs (a ∷ [])))
+
+pub gathered_behind : (so : Bool) (ms xs : List Account) (a : Account) → joined ms ≡ completing so (joined xs) → joined (ms ++ completing so a ∷ []) ≡ completing so (joined (xs ++ a ∷ []))
+gathered_behind so ms xs a same = λ i. record { told = told i; wanted = wanted so same i }
+  where
+    told : (joined (ms ++ completing so a ∷ [])).told ≡ filter is_completion (joined (xs ++ a ∷ [])).told
+    told =
+        ap (λ (b : Account). b.told) (joined_both ms (completing so a ∷ []))
+        ∙ ap (λ (b : Account). b.told ++ (filter is_completion a.told ++ [])) same
+        ∙ completed_behind xs a
+
+    wanted : (b : Bool) → joined ms ≡ completing b (joined xs) → (joined (ms ++ completing b a ∷ [])).wanted ≡ (completing b (joined (xs ++ a ∷ []))).wanted
+    wanted true before =
+        ap (λ (c : Account). c.wanted) (joined_both ms (completing true a ∷ []))
+        ∙ ap (λ (c : Account). c.wanted ++ (a.wanted ++ [])) before
+        ∙ sym (ap (λ (c : Account). c.wanted) (joined_both xs (a ∷ [])))
+    wanted false before =
+        ap (λ (c : Account). c.wanted) (joined_both ms (completing false a ∷ []))
+        ∙ ap (λ (c : Account). c.wanted ++ []) before
 
 -- of an event that changes nothing it is what the open runs want
-gathered_quiet : (so : Bool) (m : Matching) (a : Account) → [] ≡ a.told → wanted_as_before m ≡ a.wanted → with_wants so a ≡ (record { told = []; wanted = wanted_where so m })
-gathered_quiet true m a told wanted = λ i. record { told = sym told i; wanted = sym wanted i }
-gathered_quiet false m a told wanted = λ i. record { told = sym told i; wanted = [] }
+gathered_quiet : (so : Bool) (m : Matching) (a : Account) → [] ≡ a.told → wanted_as_before m ≡ a.wanted → completing so a ≡ (record { told = []; wanted = wanted_where so m })
+gathered_quiet true m a told wanted = λ i. record { told = filter is_completion (sym told i); wanted = sym wanted i }
+gathered_quiet false m a told wanted = λ i. record { told = filter is_completion (sym told i); wanted = [] }
+
+-- nothing is gathered of the closing
+gathered_closed : (so : Bool) (q : Plan) (s : State) (xs : List Account) → completing so (joined xs) ≡ completing so (joined (xs ++ closing_account q s ∷ []))
+gathered_closed so q s xs = λ i. record { told = same i; wanted = wants so i }
+  where
+    shut : Account
+    shut = closing_account q s
+
+    same : filter is_completion (joined xs).told ≡ filter is_completion (joined (xs ++ shut ∷ [])).told
+    same =
+        sym (append-nil (filter is_completion (joined xs).told))
+        ∙ ap (λ ts. filter is_completion (joined xs).told ++ ts) (sym (append-nil (filter is_completion shut.told) ∙ closing_completes_none q s s.open_runs))
+        ∙ completed_behind xs shut
+
+    all : (joined xs).wanted ≡ (joined (xs ++ shut ∷ [])).wanted
+    all = sym (append-nil (joined xs).wanted) ∙ sym (ap (λ (c : Account). c.wanted) (joined_both xs (shut ∷ [])))
+
+    wants : (b : Bool) → (completing b (joined xs)).wanted ≡ (completing b (joined (xs ++ shut ∷ []))).wanted
+    wants true = all
+    wants false = refl
 
 abbrev is_below : ℕ → Pair → Type 0
 is_below n pair = pair.number < n
@@ -134,15 +169,45 @@ kept_handled job read false short now later list more e kept within seen there h
       tells = λ s stands.
           handled.told (read_on l s read) (kept.led.stands s stands)
           ∙ gathered_behind job.wants (map seen_moves list) (accounts_on l s read) (account (current now job.before).plan (read_on l s read) (job.first + read, e))
-          (kept.tells s stands ∙ ap (λ (so : Bool). with_wants so (joined (accounts_on l s read))) (sym job.wanting))
-          ∙ ap (λ (q : Plan). with_wants job.wants (joined (accounts_on l s read ++ account q (read_on l s read) (job.first + read, e) ∷ []))) plan
-          ∙ ap (λ (accounts : List Account). with_wants job.wants (joined accounts)) (sym (told_handled l s read e seen there))
-          ∙ ap (λ (so : Bool). with_wants so (joined (accounts_on l s (read + 1)))) job.wanting;
+          (kept.tells s stands ∙ ap (λ (so : Bool). completing so (joined (accounts_on l s read))) (sym job.wanting))
+          ∙ ap (λ (q : Plan). completing job.wants (joined (accounts_on l s read ++ account q (read_on l s read) (job.first + read, e) ∷ []))) plan
+          ∙ ap (λ (accounts : List Account). completing job.wants (joined accounts)) (sym (told_handled l s read e seen there))
+          ∙ ap (λ (so : Bool). completing so (joined (accounts_on l s (read + 1)))) job.wanting;
       below =
           let same : job.first + read + 1 ≡ job.first + (read + 1) = omega arith in
           subst (λ n. Below n (runs_of (current later job.before))) same handled.below;
       last = λ h. absurd (cc h);
     }
+
+-- the closing is read, by which no run completes
+pub kept_closed : (job : Job) (read : ℕ) (closed short : Bool) (now later : Option Matching) (list : List Moves) → IsKept (at job read closed short) now list
+    → closed ≡ false → read ≡ length job.events → job.closes ≡ true → ClosedOff (current now job.before) (current later job.before) → IsKept (at job read true short) later list
+kept_closed job read closed short now later list kept open_ all lent off =
+    let l = loan job in
+    let k : IsKept (at job read false short) now list = subst (λ (b : Bool). IsKept (at job read b short) now list) open_ kept in
+    record {
+      within = k.within;
+      led = record {
+        plan = off.plan ∙ k.led.plan;
+        stands = λ s stands. record { open_is = off.none; started_is = off.count ∙ (k.led.stands s stands).started_is };
+      };
+      tells = λ s stands. k.tells s stands ∙ gathered_closed (consumes job.before.plan) l.plan (read_on l s read) (accounts_on l s read);
+      below = record {
+        events = subst (All (holds_below (job.first + read))) (sym off.none) (λ i d less. absurd (omega (arith, less)));
+        started = subst (λ (n : ℕ). n < job.first + read) (sym off.count) k.below.started;
+      };
+      last = λ h. (all, lent);
+    }
+
+-- where it tells the same, nothing else changes
+pub kept_same : (p : Pieced) (now : Option Matching) (list more : List Moves) → IsKept p now list → TellsSame list more → IsKept p now more
+kept_same p now list more kept same = record {
+  within = kept.within;
+  led = kept.led;
+  tells = λ s stands. sym same ∙ kept.tells s stands;
+  below = kept.below;
+  last = kept.last;
+}
 
 -- it changes nothing: what the open runs want is told
 pub passed_by : (so : Bool) (x : Numbered) (m : Matching) (list more : List Moves) → IsAfter x m m → TellsEvent x m [] → TellsWanted x m (wanted_as_before m)
@@ -185,3 +250,17 @@ and_right false b both = absurd (cc)
 -- where an event is still to be read, fewer were read than lent
 pub read_within : (p : Pieced) → has_event p ≡ true → p.read < length p.job.events
 read_within p has = ltb-true _ _ (and_right (not p.short) (nat_lt p.read (length p.job.events)) has)
+
+all_four : (a b c d : Bool) → (not a && not b && not c && d) ≡ true → (b ≡ false) × (c ≡ false) × (d ≡ true)
+all_four true b c d all = absurd (cc)
+all_four false true c d all = absurd (cc)
+all_four false false true d all = absurd (cc)
+all_four false false false false all = absurd (cc)
+all_four false false false true all = (refl, refl, refl)
+
+-- where the closing is next, all lent events were read, and it is lent
+pub closing_next : (p : Pieced) → p.read ≤ length p.job.events → has_closing p ≡ true → (p.read ≡ length p.job.events) × (p.closed ≡ false) × (p.job.closes ≡ true)
+closing_next p within has =
+    let four = all_four p.short (nat_lt p.read (length p.job.events)) p.closed p.job.closes has in
+    let last = four.0 in
+    (grind (arith, nat_tests), four.1, four.2)

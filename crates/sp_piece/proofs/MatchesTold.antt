@@ -17,7 +17,7 @@ completions_append : (xs ys : List Account) → filter is_completion (all_told (
 completions_append xs ys = ap (filter is_completion) (flat_map-append (λ (a : Account). a.told) xs ys) ∙ filter-append is_completion (all_told xs) (all_told ys)
 
 -- the closing completes no run
-closing_completes_none : (q : Plan) (s : State) (runs : List Started) → filter is_completion (told q s (map abandoned runs)) ≡ []
+pub closing_completes_none : (q : Plan) (s : State) (runs : List Started) → filter is_completion (told q s (map abandoned runs)) ≡ []
 closing_completes_none q s [] = refl
 closing_completes_none q s (run ∷ runs) = closing_completes_none q (apply s (abandoned run)) runs
 

@@ -1,6 +1,6 @@
 -- What a piece keeps when it reads events that change nothing.
 use Rattle.std.proofs.Common.{◌≡◌, ℕ, zero, suc, ◌+◌, ◌-◌, ◌<◌, ◌≤◌, Bool, true, false, List, [], ◌∷◌, ◌++◌, length, map, Option, Some, refl, sym, ◌∙◌, ap, subst, arith}
-use Rattle.std.specs.Prelude.{slice_get, nat_lt, get_or}
+use Rattle.std.specs.Prelude.{filter, slice_get, nat_lt, get_or}
 use Rattle.std.specs.List.{AllZip}
 use Rattle.std.proofs.lemmas.List.{append-nil, append_assoc, length-map, nil_from_length}
 use Rattle.std.proofs.lemmas.Option.{get_or_from_slice_get}
@@ -12,13 +12,13 @@ use Rattle.sp_plan.specs.Runs.{Started, State, handle}
 use Rattle.sp_plan.specs.Moves.{left}
 use Rattle.sp_match.specs.declared.known.Known.{Known}
 use Rattle.sp_match.specs.public.Known.{IsKnown}
-use Rattle.sp_match.specs.public.Laws.{Below}
+use Rattle.sp_match.specs.public.Laws.{Below, is_completion}
 use Rattle.sp_match.specs.public.Matching.{Matching, Stands, runs_of, shown, wanted_as_before}
 use Rattle.sp_match.specs.public.Seen.{seen_run}
 use Rattle.sp_match.specs.declared.run.Run.{Run}
 use Rattle.sp_match.specs.declared.moves.Moves.{Moves}
 use Rattle.sp_piece.specs.declared.job.Job.{Job}
-use Rattle.sp_piece.specs.Reading.{Loan, Account, account, accounts_on, joined, read_on, seen_moves, skips, with_wants}
+use Rattle.sp_piece.specs.Reading.{Loan, Account, account, accounts_on, completing, joined, read_on, seen_moves, skips}
 use Rattle.sp_piece.specs.Pieced.{loan}
 use Rattle.sp_piece.specs.Keeping.{IsKept, NoneSkipped, PassesBy, TellsOn, current, going, wanted_where}
 use Rattle.sp_wants.specs.Stretches.{repeated}
@@ -59,18 +59,19 @@ joined_wants xs ws =
     ∙ λ i. record { told = append-nil (joined xs).told i; wanted = (joined xs).wanted ++ append-nil ws i }
 
 -- gathered of it, that is what they want where that is told
-quiet_behind : (so : Bool) (m : Matching) (a b : Account) (xs : List Account) → a ≡ with_wants so (joined xs) → [] ≡ b.told → wanted_as_before m ≡ b.wanted
-    → record a { wanted = a.wanted ++ wanted_where so m } ≡ with_wants so (joined (xs ++ b ∷ []))
-quiet_behind true m a b xs same told wanted =
-    ap {B = Account} (λ (c : Account). record { told = c.told; wanted = c.wanted ++ wanted_as_before m }) same
-    ∙ sym (joined_wants xs (wanted_as_before m))
-    ∙ ap (λ (c : Account). joined (xs ++ c ∷ [])) (λ i. record { told = told i; wanted = wanted i })
-quiet_behind false m a b xs same told wanted =
-    let all : (joined xs).told ≡ (joined (xs ++ b ∷ [])).told =
-    sym (append-nil (joined xs).told) ∙ ap (λ ts. (joined xs).told ++ ts) (told ∙ sym (append-nil b.told)) ∙ sym (ap (λ (c : Account). c.told) (joined_both xs (b ∷ []))) in
-    let first : a.told ≡ (joined (xs ++ b ∷ [])).told = ap (λ (c : Account). c.told) same ∙ all in
-    let wants : a.wanted ++ [] ≡ [] = ap (λ (c : Account). c.wanted ++ []) same in
-    λ i. record { told = first i; wanted = wants i }
+quiet_behind : (so : Bool) (m : Matching) (a b : Account) (xs : List Account) → a ≡ completing so (joined xs) → [] ≡ b.told → wanted_as_before m ≡ b.wanted
+    → record a { wanted = a.wanted ++ wanted_where so m } ≡ completing so (joined (xs ++ b ∷ []))
+quiet_behind so m a b xs same told wanted =
+    ap {B = Account} (λ (c : Account). record { told = c.told; wanted = c.wanted ++ wanted_where so m }) same
+    ∙ λ i. record { told = first i; wanted = wants so i }
+  where
+    first : filter is_completion (joined xs).told ≡ filter is_completion (joined (xs ++ b ∷ [])).told
+    first =
+        ap (filter is_completion) (sym (append-nil (joined xs).told) ∙ ap (λ ts. (joined xs).told ++ ts) (told ∙ sym (append-nil b.told)) ∙ sym (ap (λ (c : Account). c.told) (joined_both xs (b ∷ []))))
+
+    wants : (so : Bool) → (completing so (joined xs)).wanted ++ wanted_where so m ≡ (completing so (joined (xs ++ b ∷ []))).wanted
+    wants true = ap (λ ws. (joined xs).wanted ++ ws) (wanted ∙ sym (append-nil b.wanted)) ∙ sym (ap (λ (c : Account). c.wanted) (joined_both xs (b ∷ [])))
+    wants false = refl
 
 -- a lent event, and what is known of it
 record There (q : Plan) (events : List Event) (known : List Known) (i : ℕ) : Type 0 where
@@ -91,7 +92,7 @@ there q (e ∷ events) (k ∷ known) (suc i) all within =
 -- The matcher stands for the runs after the first n lent events, and this is told of them.
 record Goes (job : Job) (m : Matching) (a : Account) (n : ℕ) : Type 0 where
   stands : (s : State) → Stands job.before s → Stands m (read_on (loan job) s n)
-  tells : (s : State) → Stands job.before s → a ≡ with_wants job.wants (joined (accounts_on (loan job) s n))
+  tells : (s : State) → Stands job.before s → a ≡ completing job.wants (joined (accounts_on (loan job) s n))
   below : Below (job.first + n) (runs_of m)
 
 module _ (job : Job) (m : Matching) (plan : m.plan ≡ job.before.plan) where
@@ -109,8 +110,8 @@ module _ (job : Job) (m : Matching) (plan : m.plan ≡ job.before.plan) where
         tells = λ s stands.
             let t : State = read_on l s n in
             quiet_behind job.wants m a (account m.plan t x) (accounts_on l s n) (goes.tells s stands) (passes.told x sure t (goes.stands s stands)) (passes.wanted x sure t (goes.stands s stands))
-            ∙ ap (λ (q : Plan). with_wants job.wants (joined (accounts_on l s n ++ account q t x ∷ []))) plan
-            ∙ ap (λ (accounts : List Account). with_wants job.wants (joined accounts)) (sym (told_handled l s n e shown at));
+            ∙ ap (λ (q : Plan). completing job.wants (joined (accounts_on l s n ++ account q t x ∷ []))) plan
+            ∙ ap (λ (accounts : List Account). completing job.wants (joined accounts)) (sym (told_handled l s n e shown at));
         below =
             let next : job.first + n + 1 ≡ job.first + (n + 1) = omega arith in
             subst (λ (i : ℕ). Below i (runs_of m)) next (below_next (job.first + n) (runs_of m) goes.below);
@@ -145,7 +146,7 @@ kept_quiet job read quiet now list more kept order within shown passes on =
     let all : read + (quiet - read) ≡ quiet = omega arith in
     let goes : Goes job m a read = record {
       stands = kept.led.stands;
-      tells = λ s stands. kept.tells s stands ∙ ap (λ (so : Bool). with_wants so (joined (accounts_on (loan job) s read))) (sym job.wanting);
+      tells = λ s stands. kept.tells s stands ∙ ap (λ (so : Bool). completing so (joined (accounts_on (loan job) s read))) (sym job.wanting);
       below = kept.below;
     } in
     let after : Goes job m (record { told = a.told; wanted = a.wanted ++ ws }) quiet =
@@ -154,7 +155,7 @@ kept_quiet job read quiet now list more kept order within shown passes on =
     record {
       within = within;
       led = record { plan = kept.led.plan; stands = after.stands };
-      tells = λ s stands. on ∙ joined_wants (map seen_moves list) ws ∙ after.tells s stands ∙ ap (λ (so : Bool). with_wants so (joined (accounts_on (loan job) s quiet))) job.wanting;
+      tells = λ s stands. on ∙ joined_wants (map seen_moves list) ws ∙ after.tells s stands ∙ ap (λ (so : Bool). completing so (joined (accounts_on (loan job) s quiet))) job.wanting;
       below = after.below;
       last = λ h. absurd (cc h);
     }

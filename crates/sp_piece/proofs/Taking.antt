@@ -8,7 +8,7 @@ use Rattle.sp_match.specs.public.Matching.{Matching, SameRuns, Stands, runs_of}
 use Rattle.sp_match.specs.declared.moves.Moves.{Moves}
 use Rattle.sp_piece.specs.declared.job.Job.{Job}
 use Rattle.sp_piece.specs.Alike.{ReadAlike, SamePlansReadAlike, by_plan}
-use Rattle.sp_piece.specs.Reading.{Account, accounts_to, gathered, joined, read_to, seen_moves, with_wants}
+use Rattle.sp_piece.specs.Reading.{Account, accounts_to, completing, gathered, joined, read_to, seen_moves}
 use Rattle.sp_piece.specs.Pieced.{loan}
 use Rattle.sp_piece.specs.Keeping.{IsKept, current}
 use Rattle.sp_piece.specs.Done.{IsDone, Lent, LendsSame, lent_by, loan_of, under, whole}
@@ -56,7 +56,7 @@ module _ (alike : SamePlansReadAlike) (lent : Lent) (job : Job) (same : LendsSam
   tells s =
       (λ i. gathered lent.before.plan (joined (accounts_to (lends i) s (length (same.events i)) (same.like.closes i))))
       ∙ ap (λ (accounts : List Account). gathered lent.before.plan (joined accounts)) (both.told (loan job) s (length job.events) job.closes)
-      ∙ ap (λ (so : Bool). with_wants so (joined (accounts_to (loan job) s (length job.events) job.closes))) (consume_alike lent.before.plan job.before.plan same.before.plan)
+      ∙ ap (λ (so : Bool). completing so (joined (accounts_to (loan job) s (length job.events) job.closes))) (consume_alike lent.before.plan job.before.plan same.before.plan)
 
   -- a matcher with the runs to which the kept reading led, by the plan of the job
   led_on : (after now : Option Matching) (list entries : List Moves) → IsDone lent after list → (current now job.before).plan ≡ job.before.plan

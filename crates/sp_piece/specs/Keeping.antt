@@ -8,7 +8,7 @@ use Rattle.sp_match.specs.public.Laws.{Below}
 use Rattle.sp_match.specs.public.Matching.{IsAfter, Matching, Stands, TellsEvent, TellsWanted, runs_of, wanted_as_before}
 use Rattle.sp_match.specs.declared.moves.Moves.{Moves}
 use Rattle.sp_piece.specs.declared.job.Job.{Job}
-use Rattle.sp_piece.specs.Reading.{Account, account, closing_account, joined, seen_moves, skips, with_wants}
+use Rattle.sp_piece.specs.Reading.{Account, account, completing, joined, seen_moves, skips}
 use Rattle.sp_piece.specs.Pieced.{Pieced, LedTo, Tells, loan}
 
 -- the matcher that has read: the one of the job until there is another
@@ -36,24 +36,31 @@ TellsOn a list more = joined (map seen_moves more) ≡ joined (map seen_moves li
 abbrev pub IsJoined : {A : Type 0} → List A → List A → List A → List A → Type 0
 IsJoined list more joint left = ((joint ≡ list ++ more) × (left ≡ [])) ⊎ ((joint ≡ list) × (left ≡ more))
 
+-- Of two lists of moves the second one tells nothing.
+pub record IsSettled (entries : List Moves) : Type 0 where
+  pub told : Moves
+  pub room : Moves
+  pub are : entries ≡ told ∷ room ∷ []
+  pub list : room.list.items ≡ []
+  pub wanted : room.wanted ≡ []
+
 -- what is told that the open runs want where an event changes nothing
 abbrev pub wanted_where : Bool → Matching → List (ℕ × ℕ)
 wanted_where so m = if so then wanted_as_before m else []
 
--- What the handling of an event made of a matcher and a list of moves: what is told of it came behind the others, with what the runs wanted
--- only where that is so.
+-- What the handling of an event made of a matcher and a list of moves: the completions by it came behind the others, with what the runs
+-- wanted only where that is so.
 pub record HandledOn (so : Bool) (x : Numbered) (m n : Matching) (list more : List Moves) : Type 0 where
   pub plan : n.plan ≡ m.plan
   pub stands : (s : State) → Stands m s → Stands n (handle m.plan s x)
-  pub told : (s : State) → Stands m s → TellsOn (with_wants so (account m.plan s x)) list more
+  pub told : (s : State) → Stands m s → TellsOn (completing so (account m.plan s x)) list more
   pub below : Below (x.0 + 1) (runs_of n)
 
--- What the closing made of them.
-pub record ClosedOff (m n : Matching) (list more : List Moves) : Type 0 where
+-- What the closing made of a matcher. No run completes by it.
+pub record ClosedOff (m n : Matching) : Type 0 where
   pub plan : n.plan ≡ m.plan
   pub none : n.open_runs ≡ []
   pub count : n.started ≡ m.started
-  pub told : (s : State) → Stands m s → TellsOn (closing_account m.plan s) list more
 
 -- a piece that has read so many of the lent events, and was neither closed nor given up
 abbrev pub going : Job → ℕ → Pieced

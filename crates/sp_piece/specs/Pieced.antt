@@ -68,7 +68,7 @@ pub record LedTo (p : Pieced) (m : Matching) : Type 0 where
   pub plan : m.plan ≡ p.job.before.plan
   pub stands : (s : State) → Stands p.job.before s → Stands m (read_to (loan p.job) s p.read p.closed)
 
--- The moves, one after another, are what is gathered of what is told, from any runs for which the matcher of the job stands: of each event that was read and
--- not passed over, in their order, and of the closing. One entry may tell of several of these.
+-- The moves, one after another, are what is gathered of what is told, from any runs for which the matcher of the job stands: the completions
+-- by each event that was read and not passed over, in their order. One entry may tell of several of these.
 abbrev pub Tells : Pieced → List Moves → Type 0
 Tells p list = (s : State) → Stands p.job.before s → joined (map seen_moves list) ≡ gathered p.job.before.plan (joined (accounts_to (loan p.job) s p.read p.closed))

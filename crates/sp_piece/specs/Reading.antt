@@ -1,5 +1,5 @@
 -- Where the reading of lent events leads, and what is told of it.
-use Rattle.std.specs.Prelude.{ℕ, zero, suc, ◌+◌, Bool, List, [], ◌∷◌, ◌++◌, Option, Some, None, map, slice_get, if◌then◌else◌}
+use Rattle.std.specs.Prelude.{ℕ, zero, suc, ◌+◌, Bool, List, [], ◌∷◌, ◌++◌, Option, Some, None, map, filter, slice_get, if◌then◌else◌}
 use Rattle.std.specs.List.{flat_map, list_any}
 use Rattle.sp_base.specs.Numbers.{is_among}
 use Rattle.sp_plan.specs.declared.event.Event.{Event}
@@ -8,6 +8,7 @@ use Rattle.sp_plan.specs.Windows.{Numbered}
 use Rattle.sp_plan.specs.Runs.{State, after_closing}
 use Rattle.sp_plan.specs.Reading.{after_event}
 use Rattle.sp_plan.specs.Moves.{Told, told, moves, closing, still_wanted}
+use Rattle.sp_match.specs.public.Laws.{is_completion}
 use Rattle.sp_match.specs.public.Seen.{seen}
 use Rattle.sp_match.specs.declared.moves.Moves.{Moves}
 
@@ -75,14 +76,14 @@ joined accounts = record { told = flat_map (λ a. a.told) accounts; wanted = fla
 abbrev pub consumes : Plan → Bool
 consumes q = list_any (λ name. name.consumed) q.names
 
--- an account, with what the runs wanted only where that is so
-abbrev pub with_wants : Bool → Account → Account
-with_wants so a = if so then a else record a { wanted = [] }
+-- the completions that an account tells of, in their order, and what the runs wanted only where that is so
+abbrev pub completing : Bool → Account → Account
+completing so a = record { told = filter is_completion a.told; wanted = if so then a.wanted else [] }
 
--- what is gathered of an account: the moves, and what the runs wanted only where a match can consume an event, since no run has a group
--- where none can
+-- what is gathered of an account: the completions, and what the runs wanted only where a match can consume an event, since no run has a
+-- group where none can
 abbrev pub gathered : Plan → Account → Account
-gathered q a = with_wants (consumes q) a
+gathered q a = completing (consumes q) a
 
 -- moves as an account
 abbrev pub seen_moves : Moves → Account

@@ -1,15 +1,15 @@
 // Readings that are kept, for jobs that lend the same once more.
-ghost use Rattle.std.specs.Prelude.{◌≡◌, map, IsTrue, IfOk, IfSome};
+ghost use Rattle.std.specs.Prelude.{◌≡◌, IsTrue, IfOk, IfSome};
 ghost use Rattle.std.specs.Option.{option_map};
 ghost use Rattle.sp_plan.specs.Same.{SamePlan};
-ghost use Rattle.sp_piece.specs.Reading.{seen_moves};
 ghost use Rattle.sp_piece.specs.Keeping.{IsKept};
 ghost use Rattle.sp_piece.specs.Done.{LendsAs, LendsSame, under, whole};
 
 use crate::law::same_plans_read_alike;
+use crate::telling::Telling;
 use crate::{Job, Memory};
 use sp_base::Numbers;
-use sp_match::{Matcher, Moves};
+use sp_match::Matcher;
 use sp_plan::{Event, Listed};
 use sp_share::Shared;
 use std::alloc::Global;
@@ -27,7 +27,8 @@ pub struct Done {
     pub(crate) closes: bool,
     // where the reading led to; none where nothing changed the matcher
     pub(crate) after: Option<Matcher>,
-    pub(crate) entries: Vec<Moves>,
+    // what was told of it
+    pub(crate) telling: Telling,
 }
 
 impl Model for Done {
@@ -57,18 +58,7 @@ impl Model for Done {
       first = d.first;
       snapshot = d.snapshot.list;
       closes = d.closes;
-    }) d.after d.entries.items };
-}
-
-// What entries tell once more.
-pub(crate) fn copy_entries(alloc: Global, entries: &[Moves]) -> Result<Vec<Moves>, Memory>
-    ensures { IfOk result (λ copies. map seen_moves copies.items ≡ map seen_moves entries.now) }
-{
-    let mut copies = Vec::with_capacity(alloc, entries.len())?;
-    for entry in entries {
-        copies.push(entry.copy(alloc)?)?;
-    }
-    Ok(copies)
+    }) d.after d.telling.entries };
 }
 
 // The matcher after a reading, under the plan of the matcher before another reading of the same.
@@ -110,16 +100,12 @@ impl Done {
     }
 
     /// Where a job that lends the same leads, and what is told of it.
-    pub(crate) fn led(
-        &self,
-        alloc: Global,
-        job: &Job,
-    ) -> Result<(Option<Matcher>, Vec<Moves>), Memory>
+    pub(crate) fn led(&self, alloc: Global, job: &Job) -> Result<(Option<Matcher>, Telling), Memory>
         requires { LendsSame self.now job.now }
-        ensures { IfOk result (λ led. IsKept (whole job.now) led.0 led.1.items) }
+        ensures { IfOk result (λ led. IsKept (whole job.now) led.0 led.1.entries) }
     {
         same_plans_read_alike();
         let matcher = matcher_under(alloc, &self.after, job.before.get())?;
-        Ok((matcher, copy_entries(alloc, &self.entries)?))
+        Ok((matcher, self.telling.copy(alloc)?))
     }
 }

@@ -1,5 +1,5 @@
 // How a matcher and what is told of it go on.
-ghost use Rattle.std.specs.Prelude.{◌≡◌, ◌+◌, [], ◌++◌, true, OnOk, OnErr, IsTrue, IsFalse, map};
+ghost use Rattle.std.specs.Prelude.{◌≡◌, ◌+◌, [], true, OnOk, OnErr, IsTrue, IsFalse};
 ghost use Rattle.sp_plan.specs.Events.{fits};
 ghost use Rattle.sp_match.specs.public.Known.{IsKnown};
 ghost use Rattle.sp_match.specs.public.Laws.{Below};
@@ -10,7 +10,7 @@ ghost use Rattle.sp_wants.specs.Stretches.{repeated};
 
 use crate::Memory;
 use crate::own::{Own, Place};
-use crate::telling::Telling;
+use crate::telling::{Telling, keep_completions};
 use sp_match::{Known, Matcher, Moves};
 use sp_plan::Event;
 use std::alloc::Global;
@@ -26,10 +26,9 @@ pub(crate) struct Next<'a> {
     pub(crate) wants: bool,
 }
 
-/// What the open runs want where so many events change nothing comes behind what the last entry tells, where that is
-/// told. After want of memory no more is told than before.
+/// What the open runs want where so many events change nothing comes behind what is told, where that is told. After
+/// want of memory no more is told than before.
 pub(crate) fn add_wanted(
-    alloc: Global,
     led: &Matcher,
     wants: bool,
     times: u32,
@@ -37,8 +36,8 @@ pub(crate) fn add_wanted(
 ) -> Result<(), Memory>
     ensures ok { OnOk result
         (TellsOn (record { told = []; wanted = repeated times (wanted_where wants led.now) })
-        telling.old.entries.items telling.new.entries.items) }
-    ensures err { OnErr result (TellsSame telling.old.entries.items telling.new.entries.items) }
+        telling.old.entries telling.new.entries) }
+    ensures err { OnErr result (TellsSame telling.old.entries telling.new.entries) }
 {
     if !wants {
         return Ok(());
@@ -46,13 +45,15 @@ pub(crate) fn add_wanted(
     if led.open_runs().is_empty() {
         return Ok(());
     }
-    telling.begin(alloc)?;
-    let last = telling.entries.len() - 1;
-    let entry = &mut telling.entries[last];
-    led.add_wanted(times, &mut telling.room.wanted, &mut entry.wanted)
+    telling.settle()?;
+    let (told, room) = telling.entries.split_at_mut(1);
+    let added = led.add_wanted(times, &mut room[0].wanted, &mut told[0].wanted);
+    room[0].wanted.clear();
+    added
 }
 
-// The matcher handles the event, and the room holds what is told of it. After want of memory the matcher is as before.
+// The matcher handles the event, and the room holds what is told of it. After want of memory the matcher is as before,
+// and the room is empty.
 fn offer(alloc: Global, led: &mut Matcher, room: &mut Moves, next: &Next) -> Result<(), Memory>
     requires fits { fits led.old.plan next.now.event.now ≡ true }
     requires known { IsKnown led.old.plan next.now.event.now next.now.known }
@@ -66,6 +67,7 @@ fn offer(alloc: Global, led: &mut Matcher, room: &mut Moves, next: &Next) -> Res
     ensures below { OnOk result (Below (next.now.number + 1) (runs_of led.new)) }
     ensures plan { led.new.plan ≡ led.old.plan }
     ensures err { OnErr result (led.new ≡ led.old) }
+    ensures cleared { OnErr result ((room.new.list.items ≡ []) × (room.new.wanted ≡ [])) }
 {
     let number = next.number;
     if next.wants {
@@ -76,8 +78,8 @@ fn offer(alloc: Global, led: &mut Matcher, room: &mut Moves, next: &Next) -> Res
     Ok(())
 }
 
-// The matcher handles the event, and what is told of it comes behind the other moves. After want of memory
-// it stands for what it did.
+// The matcher handles the event, and the completions by it come behind the others. After want of memory it stands for
+// what it did.
 fn offer_event(
     alloc: Global,
     matcher: &mut Own,
@@ -91,25 +93,27 @@ fn offer_event(
     requires below { Below next.now.number (runs_of (current matcher.old before.now)) }
     ensures ok { OnOk result (HandledOn next.now.wants (next.now.number, next.now.event.now)
         (current matcher.old before.now) (current matcher.new before.now)
-        telling.old.entries.items telling.new.entries.items) }
+        telling.old.entries telling.new.entries) }
     ensures err { OnErr result (current matcher.new before.now ≡ current matcher.old before.now) }
     ensures err_moves { OnErr result
-        (TellsSame telling.old.entries.items telling.new.entries.items) }
+        (TellsSame telling.old.entries telling.new.entries) }
 {
-    telling.begin(alloc)?;
-    telling.entries.reserve(1)?;
+    telling.settle()?;
     matcher.begin(alloc, before)?;
     let Place::Begun(led) = &mut matcher.place else {
         unreachable!()
     };
-    offer(alloc, led, &mut telling.room, next)?;
-    telling.take_in(alloc);
+    let room = &mut telling.entries[1];
+    offer(alloc, led, room, next)?;
+    keep_completions(&mut room.list);
+    // What isn't moved is told from the room.
+    let _ = telling.settle();
     Ok(())
 }
 
-/// The next event is handled, and what is told of it comes behind what was told before. One that changes
-/// nothing needs no matcher of its own, and no entry. After want of memory the matcher stands for what it
-/// did, and no more is told than before.
+/// The next event is handled, and the completions by it come behind what was told before. One that changes
+/// nothing needs no matcher of its own. After want of memory the matcher stands for what it did, and no more
+/// is told than before.
 pub(crate) fn handle_event(
     alloc: Global,
     matcher: &mut Own,
@@ -123,41 +127,36 @@ pub(crate) fn handle_event(
     requires below { Below next.now.number (runs_of (current matcher.old before.now)) }
     ensures ok { OnOk result (HandledOn next.now.wants (next.now.number, next.now.event.now)
         (current matcher.old before.now) (current matcher.new before.now)
-        telling.old.entries.items telling.new.entries.items) }
+        telling.old.entries telling.new.entries) }
     ensures err { OnErr result (current matcher.new before.now ≡ current matcher.old before.now) }
     ensures err_moves { OnErr result
-        (TellsSame telling.old.entries.items telling.new.entries.items) }
+        (TellsSame telling.old.entries telling.new.entries) }
 {
     let so_far = matcher.led(before);
     if so_far.ignores(next.known) {
-        return add_wanted(alloc, so_far, next.wants, 1, telling);
+        return add_wanted(so_far, next.wants, 1, telling);
     }
     offer_event(alloc, matcher, telling, before, next)
 }
 
-/// The matcher reads the closing, and what is told of it comes behind the other moves. Where no run is open
-/// nothing is. After want of memory the matcher stands for what it did, and no more is told than before.
+/// The matcher reads the closing, by which no run completes: so nothing is told. After want of memory the matcher
+/// stands for what it did.
 pub(crate) fn handle_closing(
     alloc: Global,
     matcher: &mut Own,
-    telling: &mut Telling,
     before: &Matcher,
 ) -> Result<(), Memory>
     ensures ok { OnOk result (ClosedOff (current matcher.old before.now)
-        (current matcher.new before.now) telling.old.entries.items telling.new.entries.items) }
+        (current matcher.new before.now)) }
     ensures err { OnErr result (current matcher.new before.now ≡ current matcher.old before.now) }
-    ensures err_moves { OnErr result
-        (TellsSame telling.old.entries.items telling.new.entries.items) }
 {
     if matcher.led(before).open_runs().is_empty() {
         return Ok(());
     }
-    telling.entries.reserve(1)?;
     matcher.begin(alloc, before)?;
     let Place::Begun(led) = &mut matcher.place else {
         unreachable!()
     };
-    let told = led.close(alloc)?;
-    telling.entries.push_reserved(told);
+    led.close(alloc)?;
     Ok(())
 }

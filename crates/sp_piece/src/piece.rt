@@ -6,7 +6,6 @@ ghost use Rattle.sp_piece.specs.Keeping.{HasReadOn};
 ghost use Rattle.sp_piece.specs.Done.{lent_by};
 ghost use Rattle.sp_piece.specs.declared.stepped.Stepped.TheVariants as s;
 
-use crate::done::copy_entries;
 use crate::going::handle_closing;
 use crate::own::Own;
 use crate::reading::{read_all, read_next};
@@ -48,7 +47,7 @@ impl Model for Piece {
 
     ghost view = { λ p. record { job = p.job; read = p.read; closed = p.closed; short = p.short } };
 
-    ghost invariant = { λ p. IsKept (record { job = p.job; read = p.read; closed = p.closed; short = p.short }) p.matcher p.telling.entries.items };
+    ghost invariant = { λ p. IsKept (record { job = p.job; read = p.read; closed = p.closed; short = p.short }) p.matcher p.telling.entries };
 }
 
 impl Piece {
@@ -124,7 +123,7 @@ impl Piece {
             snapshot: job.snapshot.copy(alloc)?,
             closes: job.closes,
             after: self.matcher.copy(alloc)?,
-            entries: copy_entries(alloc, &self.telling.entries)?,
+            telling: self.telling.copy(alloc)?,
         }))
     }
 
@@ -140,9 +139,9 @@ impl Piece {
         if self.short || self.closed || self.read > 0 || !done.lends_same(&self.job) {
             return Ok(false);
         }
-        let (matcher, entries) = done.led(alloc, &self.job)?;
+        let (matcher, telling) = done.led(alloc, &self.job)?;
         self.matcher.set(matcher);
-        self.telling.entries = entries;
+        self.telling = telling;
         self.read = self.job.events.as_slice().len() as u32;
         self.closed = self.job.closes;
         Ok(true)
@@ -201,7 +200,7 @@ impl Piece {
     {
         let job = &self.job;
         let before = job.before.get();
-        handle_closing(alloc, &mut self.matcher, &mut self.telling, before)?;
+        handle_closing(alloc, &mut self.matcher, before)?;
         self.closed = true;
         Ok(Stepped::Closed)
     }
@@ -221,9 +220,8 @@ impl Piece {
         self.read
     }
 
-    /// What it did, in the order of the events that were read and not passed over, and of the closing behind
-    /// them. One entry may tell of several events: of those that changed nothing there is none of their own. What the
-    /// runs wanted is told only where a match can consume an event.
+    /// Which runs completed, in the order of the events that were read and not passed over; no other move is kept. One
+    /// entry may tell of several events. What the runs wanted is told only where a match can consume an event.
     pub fn moves(&self) -> &[Moves]
         ensures { Tells self.now result.now }
     {

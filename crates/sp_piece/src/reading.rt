@@ -38,10 +38,10 @@ pub(crate) fn read_next(
     matcher: &mut Own,
     telling: &mut Telling,
 ) -> Result<(), Memory>
-    requires kept { IsKept (going job.now read.old) matcher.old telling.old.entries.items }
+    requires kept { IsKept (going job.now read.old) matcher.old telling.old.entries }
     requires next { read.old < length job.now.events }
     requires shown { skips (loan job.now) read.old ≡ false }
-    ensures kept { IsKept (going job.now read.new) matcher.new telling.new.entries.items }
+    ensures kept { IsKept (going job.now read.new) matcher.new telling.new.entries }
     ensures ok { OnOk result (read.new ≡ read.old + 1) }
     ensures err { OnErr result (read.new ≡ read.old) }
 {
@@ -67,11 +67,11 @@ fn read_some(
     matcher: &mut Own,
     telling: &mut Telling,
 ) -> Result<(), Memory>
-    requires kept { IsKept (going job.now read.old) matcher.old telling.old.entries.items }
+    requires kept { IsKept (going job.now read.old) matcher.old telling.old.entries }
     requires next { read.old < end }
     requires within { end ≤ length job.now.events }
     requires shown { NoneSkipped job.now read.old end }
-    ensures kept { IsKept (going job.now read.new) matcher.new telling.new.entries.items }
+    ensures kept { IsKept (going job.now read.new) matcher.new telling.new.entries }
     ensures on { read.old ≤ read.new }
     ensures within { read.new ≤ end }
     ensures ok { OnOk result (read.old < read.new) }
@@ -81,7 +81,7 @@ fn read_some(
     if quiet == *read {
         return read_next(alloc, job, read, matcher, telling);
     }
-    add_wanted(alloc, so_far, job.wants, quiet - *read, telling)?;
+    add_wanted(so_far, job.wants, quiet - *read, telling)?;
     *read = quiet;
     Ok(())
 }
@@ -96,11 +96,11 @@ fn read_to(
     matcher: &mut Own,
     telling: &mut Telling,
 ) -> Result<(), Memory>
-    requires kept { IsKept (going job.now read.old) matcher.old telling.old.entries.items }
+    requires kept { IsKept (going job.now read.old) matcher.old telling.old.entries }
     requires order { read.old ≤ end }
     requires within { end ≤ length job.now.events }
     requires shown { NoneSkipped job.now read.old end }
-    ensures kept { IsKept (going job.now read.new) matcher.new telling.new.entries.items }
+    ensures kept { IsKept (going job.now read.new) matcher.new telling.new.entries }
     ensures on { read.old ≤ read.new }
     ensures ok { OnOk result (read.new ≡ end) }
 {
@@ -120,11 +120,11 @@ fn pass_over(
     matcher: &mut Own,
     telling: &mut Telling,
 ) -> Result<(), Memory>
-    requires kept { IsKept (going job.now read.old) matcher.old telling.old.entries.items }
+    requires kept { IsKept (going job.now read.old) matcher.old telling.old.entries }
     requires skipped { is_among job.now.snapshot.list number ≡ true }
     requires shown { (i : ℕ) → read.old ≤ i → i < length job.now.events → job.now.first + i < number
         → skips (loan job.now) i ≡ false }
-    ensures kept { IsKept (going job.now read.new) matcher.new telling.new.entries.items }
+    ensures kept { IsKept (going job.now read.new) matcher.new telling.new.entries }
     ensures on { read.old ≤ read.new }
     ensures ok { OnOk result (IsPast job.now read.new number) }
 {
@@ -146,8 +146,8 @@ pub(crate) fn read_all(
     matcher: &mut Own,
     telling: &mut Telling,
 ) -> Result<(), Memory>
-    requires kept { IsKept (going job.now read.old) matcher.old telling.old.entries.items }
-    ensures kept { IsKept (going job.now read.new) matcher.new telling.new.entries.items }
+    requires kept { IsKept (going job.now read.old) matcher.old telling.old.entries }
+    ensures kept { IsKept (going job.now read.new) matcher.new telling.new.entries }
     ensures on { read.old ≤ read.new }
     ensures ok { OnOk result (read.new ≡ length job.now.events) }
 {

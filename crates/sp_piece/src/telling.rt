@@ -1,20 +1,34 @@
 // What a reading tells, and how it is gathered.
-ghost use Rattle.std.specs.Prelude.{◌≡◌, ◌<◌, [], ◌++◌, length, vec_len, vec_capacity, IsTrue, OnOk};
-ghost use Rattle.sp_piece.specs.Reading.{seen_moves};
-ghost use Rattle.sp_piece.specs.Keeping.{IsJoined, TellsOn, TellsSame};
+ghost use Rattle.std.specs.Prelude.{◌≡◌, [], filter, map, IfOk, IsTrue, OnOk};
+ghost use Rattle.sp_match.specs.public.Laws.{is_completion};
+ghost use Rattle.sp_match.specs.public.Seen.{all_seen, seen};
+ghost use Rattle.sp_piece.specs.Reading.{joined, seen_moves};
+ghost use Rattle.sp_piece.specs.Keeping.{IsJoined, IsSettled, TellsSame};
 
 use crate::Memory;
-use sp_match::Moves;
-use std::alloc::Global;
-use std::mem;
+use sp_match::{Move, Moves};
+use std::alloc::{AllocError, Global};
 
-/// What a reading tells, entry by entry. What an event tells is gathered in a room that is used again, and moved
-/// behind the last entry: so an event takes no lists of its own.
+/// What a reading tells: which runs completed, and what the open ones wanted. The second entry is a room in which an
+/// event tells, and which is used again: what stands there is moved behind what the first one tells, or stays until there
+/// is memory for it. So neither an event nor the entries take lists of their own.
 #[derive(Drop)]
 pub(crate) struct Telling {
-    pub(crate) entries: Vec<Moves>,
-    /// What the event at hand tells.
-    pub(crate) room: Moves,
+    pub(crate) entries: [Moves; 2],
+}
+
+// Whether a run completes by the move.
+fn completes(one: &Move) -> bool
+    ensures { result ≡ is_completion (seen one.now) }
+{
+    matches!(one, Move::Completed { .. })
+}
+
+/// Drops all moves but the completions.
+pub(crate) fn keep_completions(moves: &mut Vec<Move>)
+    ensures { all_seen moves.new.items ≡ filter is_completion (all_seen moves.old.items) }
+{
+    moves.retain(|one| completes(one));
 }
 
 // Moves what `more` tells behind what the entry tells, and answers whether all of it was moved. A list for which
@@ -33,36 +47,34 @@ fn join(entry: &mut Moves, more: &mut Moves) -> bool
 impl Telling {
     /// Nothing is told. Takes no memory.
     pub(crate) fn new(alloc: Global) -> Telling
-        ensures { result.entries.items ≡ [] }
+        ensures { joined (map seen_moves result.entries) ≡ joined [] }
     {
         Telling {
-            entries: Vec::new(alloc),
-            room: Moves::new(alloc),
+            entries: [Moves::new(alloc), Moves::new(alloc)],
         }
     }
 
-    /// Sees to it that there is an entry. No more is told than before.
-    pub(crate) fn begin(&mut self, alloc: Global) -> Result<(), Memory>
-        ensures same { TellsSame self.old.entries.items self.new.entries.items }
-        ensures some { OnOk result (0 < length self.new.entries.items) }
+    /// The same once more.
+    pub(crate) fn copy(&self, alloc: Global) -> Result<Telling, Memory>
+        ensures { IfOk result
+            (λ copy. map seen_moves copy.entries ≡ map seen_moves self.now.entries) }
     {
-        if self.entries.is_empty() {
-            self.entries.push(Moves::new(alloc))?;
-        }
-        Ok(())
+        let [told, room] = &self.entries;
+        Ok(Telling {
+            entries: [told.copy(alloc)?, room.copy(alloc)?],
+        })
     }
 
-    /// What the room holds comes behind what the entries tell. There is an entry, and room for one more.
-    pub(crate) fn take_in(&mut self, alloc: Global)
-        requires some { 0 < length self.old.entries.items }
-        requires room { vec_len self.old.entries < vec_capacity self.old.entries }
-        ensures { TellsOn (seen_moves self.old.room) self.old.entries.items
-            self.new.entries.items }
+    /// Moves what the room tells behind the rest. No more and no less is told than before, also after want of memory.
+    pub(crate) fn settle(&mut self) -> Result<(), Memory>
+        ensures same { TellsSame self.old.entries self.new.entries }
+        ensures settled { OnOk result (IsSettled self.new.entries) }
     {
-        let last = self.entries.len() - 1;
-        if !join(&mut self.entries[last], &mut self.room) {
-            let left = mem::replace(&mut self.room, Moves::new(alloc));
-            self.entries.push_reserved(left);
+        let (told, room) = self.entries.split_at_mut(1);
+        if join(&mut told[0], &mut room[0]) {
+            Ok(())
+        } else {
+            Err(AllocError)
         }
     }
 }

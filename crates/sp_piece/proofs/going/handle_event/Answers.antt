@@ -12,8 +12,8 @@ pub returns-then-ignores-clause-ok : goal.returns-then-ignores-clause-ok
 returns-then-ignores-clause-ok c =
     let x : Numbered = (c.args.next.now.number, c.args.next.now.event.now) in
     let so_far = c.led-so_far.result.now in
-    let list = c.args.telling.now.entries.items in
-    let more = c.add_wanted.new.telling.entries.items in
+    let list = c.args.telling.now.entries in
+    let more = c.add_wanted.new.telling.entries in
     let same : so_far ≡ current c.args.matcher.now c.args.before.now = c.led-so_far.ensures in
     let known : IsKnown so_far.plan x.1 c.args.next.now.known = subst (λ (m : Matching). IsKnown m.plan x.1 c.args.next.now.known) (sym same) c.requires.known in
     let below : Below x.0 (runs_of so_far) = subst (λ (m : Matching). Below x.0 (runs_of m)) (sym same) c.requires.below in

@@ -10,5 +10,5 @@ returns-clause-kept c =
     let long : length c.as_slice.result.now ≡ length job.events = ap length c.as_slice.ensures in
     let is = c.in_ok-read_to.ensures.ok in
     let first : job.first ≤ c.args.number = omega (arith, low) in
-    kept_passed job c.read_to.new.read c.args.number c.read_to.new.matcher c.read_to.new.telling.entries.items c.read_to.ensures.kept c.requires.skipped first is
+    kept_passed job c.read_to.new.read c.args.number c.read_to.new.matcher c.read_to.new.telling.entries c.read_to.ensures.kept c.requires.skipped first is
     (omega (arith, low, high, long, is))

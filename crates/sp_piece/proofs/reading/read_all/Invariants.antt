@@ -5,4 +5,4 @@ use Rattle.sp_piece.proofs.reading.read_all.Given as goal
 -- the events of the numbers before the place are past
 abbrev pub invariant-loop-number : goal.invariant-loop-number
 invariant-loop-number l =
-    IsKept (going l.job l.read) l.matcher l.telling.entries.items × (l.initial.read ≤ l.read) × ((j : ℕ) → j < l.number-index → IsPast l.job l.read (get_or l.snapshot j 0))
+    IsKept (going l.job l.read) l.matcher l.telling.entries × (l.initial.read ≤ l.read) × ((j : ℕ) → j < l.number-index → IsPast l.job l.read (get_or l.snapshot j 0))

@@ -39,8 +39,8 @@ returns-clause-kept c =
     let there : slice_get job.events place ≡ Some c.index-as_slice-place.result =
     ap (λ l. slice_get l place) (sym c.as_slice.ensures) ∙ slice_get_read c.as_slice.result.now _ place _ (ap length (sym c.as_slice.ensures)) c.requires.next c.index-as_slice-place.is in
     let x : Numbered = (job.first + place, c.index-as_slice-place.result) in
-    let list = c.args.telling.now.entries.items in
-    let more = c.handle_event.new.telling.entries.items in
+    let list = c.args.telling.now.entries in
+    let more = c.handle_event.new.telling.entries in
     let handled : HandledOn job.wants x (current c.args.matcher.now job.before) (current c.handle_event.new.matcher job.before) list more =
     subst (λ (m : Matching). HandledOn job.wants x (current c.args.matcher.now m) (current c.handle_event.new.matcher m) list more) c.get.ensures c.in_ok-handle_event.ensures.ok in
     kept_handled job place _ _ c.args.matcher.now c.handle_event.new.matcher list more _

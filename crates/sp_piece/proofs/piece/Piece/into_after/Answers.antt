@@ -8,5 +8,5 @@ returns-in-Some-clause-unread c = λ none not_closed.
     let p = c.self.inside in
     c.led.ensures
     ∙ ap (λ o. current o p.job.before) (sym c.in-Some.is ∙ c.into_matcher.ensures)
-    ∙ unread _ p.matcher p.telling.entries.items c.self.invariant (ap (λ s. s.read) c.self.view_is ∙ none) (ap (λ s. s.closed) c.self.view_is ∙ not_closed)
+    ∙ unread _ p.matcher p.telling.entries c.self.invariant (ap (λ s. s.read) c.self.view_is ∙ none) (ap (λ s. s.closed) c.self.view_is ∙ not_closed)
     ∙ ap (λ s. s.job.before) c.self.view_is
