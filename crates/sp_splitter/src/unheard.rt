@@ -25,6 +25,22 @@ pub(crate) struct Readings {
     parted: u64,
 }
 
+// How many visits a piece was: as many as it tells what runs wanted; and where that isn't told, its events each met as many
+// runs as were open halfway between its beginning and its end.
+fn visits_of(piece: &Piece) -> u64 {
+    let job = piece.job();
+    if job.wants {
+        let mut told: u64 = 0;
+        for entry in piece.moves() {
+            told = told.saturating_add(entry.wanted.count());
+        }
+        return told;
+    }
+    let before = job.before.get().open_runs().len() as u64;
+    let after = piece.after().open_runs().len() as u64;
+    (piece.read() as u64).saturating_mul(before.saturating_add(after)) / 2
+}
+
 impl Readings {
     /// Nothing was read.
     pub(crate) fn none() -> Readings {
@@ -39,9 +55,7 @@ impl Readings {
     /// Takes in what a piece has read.
     pub(crate) fn add(&mut self, piece: &Piece) {
         self.events = self.events.saturating_add(piece.read() as u64);
-        for entry in piece.moves() {
-            self.visits = self.visits.saturating_add(entry.wanted.count());
-        }
+        self.visits = self.visits.saturating_add(visits_of(piece));
     }
 
     /// Takes in that a root's piece came home, which had children, and whether it has some still.
