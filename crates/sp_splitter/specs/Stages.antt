@@ -20,15 +20,15 @@ abbrev pub Goes : ℕ → Running → Running → Type 0
 Goes n old new = IsSpreading n old → IsSpreading n new
 
 -- With what came into the journal of a core there is still no state that it passes in which more tickets are out than may be for n instances,
--- and no lease that asks for more events than a batch.
-pub record StaysWithin (n batch : ℕ) (old new : Running) : Type 0 where
+-- and no lease that asks for more than so many events.
+pub record StaysWithin (n most : ℕ) (old new : Running) : Type 0 where
   pub never : out_count old.machine ≤ n + 1 → NeverMore old.plan old.bound n old.journal → NeverMore new.plan new.bound n new.journal
-  pub asked : AsksAtMost batch old.journal → AsksAtMost batch new.journal
+  pub asked : AsksAtMost most old.journal → AsksAtMost most new.journal
 
--- A stage, for n instances and a batch: nothing was fed, and matches may have been emitted; the journal is spread; no more tickets are out
--- for live versions than there may be, and were at no time, and none is for more events than a batch; no ticket's number is given twice; and
--- windows that are finished stay so.
-pub record Went (n batch : ℕ) (old new : Running) : Type 0 where
+-- A stage, for n instances and leases of so many events at most: nothing was fed, and matches may have been emitted; the journal is spread; no
+-- more tickets are out for live versions than there may be, and were at no time, and none is for more events; no ticket's number is given
+-- twice; and windows that are finished stay so.
+pub record Went (n most : ℕ) (old new : Running) : Type 0 where
   pub plan : new.plan ≡ old.plan
   pub bound : new.bound ≡ old.bound
   pub events : new.machine.events ≡ old.machine.events
@@ -38,7 +38,7 @@ pub record Went (n batch : ℕ) (old new : Running) : Type 0 where
   pub emitted : new.machine.emitted ≡ old.machine.emitted ++ more
   pub spread : IsSpreading n old → Spread new.plan new.bound n new.journal
   pub few : out_count old.machine ≤ n + 1 → out_count new.machine ≤ n + 1
-  pub within : StaysWithin n batch old new
+  pub within : StaysWithin n most old new
   pub tickets : old.machine.next_ticket ≤ new.machine.next_ticket
   pub finished : old.machine.finished ≤ new.machine.finished
 

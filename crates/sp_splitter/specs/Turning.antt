@@ -22,7 +22,7 @@ use Rattle.sp_splitter.specs.Stages.{Goes, ReadOfCollected, SendsNone, Went, mat
 -- and now.
 pub record Outlook : Type 1 where
   pub instances : ℕ
-  pub batch : ℕ
+  pub most : ℕ
   pub taught_before : List (ℕ × ℕ) → Type 0
   pub taught : List (ℕ × ℕ) → Type 0
   pub means : ℕ → ℕ → ℕ
@@ -44,13 +44,13 @@ pub record TidiedUp (old new : Running) (finished : List Emitted) : Type 0 where
   pub plants : Plants done new
 
 -- Children were made, then what is stale of the kept jobs was given back, then ready versions were leased, and each lease's job is kept.
-pub record SentOut (shares : ℕ → ℕ → ℕ) (n batch : ℕ) (old new : Running) (kept left : List Job) : Type 0 where
+pub record SentOut (shares : ℕ → ℕ → ℕ) (n most : ℕ) (old new : Running) (kept left : List Job) : Type 0 where
   pub bred : Running
   pub cleared : Running
   pub children : Breeds shares n old bred
   pub kept_then : List Job
   pub dropped : DropsStale bred cleared kept kept_then
-  pub leases : Leases shares n batch cleared new
+  pub leases : Leases shares n most cleared new
   pub jobs : length left + out_count cleared.machine ≡ length kept_then + out_count new.machine
 
 -- A turn of a core, which emits the matches of these windows.
@@ -74,12 +74,12 @@ pub record Turned (o : Outlook) (old new : Running) (finished : List Emitted) : 
   pub planted : Running
   pub tidied : TidiedUp home planted finished
   pub sends_none : SendsNone old planted
-  pub went : Went o.instances o.batch old planted
+  pub went : Went o.instances o.most old planted
   pub finished_then : planted.machine.emitted ≡ old.machine.emitted ++ matches_of finished
   pub settled_then : Settled planted.plan planted.machine
   -- then work was sent out
   pub sendable : List Job
-  pub sent : SentOut (share_of o.chances) o.instances o.batch planted new o.kept_before sendable
+  pub sent : SentOut (share_of o.chances) o.instances o.most planted new o.kept_before sendable
   -- each reading that came home has a ticket of its own that was collected; then each job was posted by a call, or is kept
   pub came : ReadOfCollected old new o.before collected
   pub each : o.by.calls + length o.kept ≡ collected.calls + length sendable

@@ -5,12 +5,13 @@ ghost use Rattle.sp_group.specs.declared.step.Step.TheVariants as s;
 ghost use Rattle.sp_group.specs.Steps.{out_count};
 ghost use Rattle.sp_core.specs.Faults.{IsFault};
 ghost use Rattle.sp_core.specs.Running.{IsDone, refused};
+ghost use Rattle.sp_splitter.specs.Lending as definitions;
 ghost use Rattle.sp_splitter.specs.Splitting.{IsBelowKept};
 ghost use Rattle.sp_splitter.specs.Stages.{Goes, ReadOfCollected, StaysWithin, Went};
 ghost use Rattle.sp_splitter.specs.Turning.{Turned};
 
 use crate::gathering::gather;
-use crate::lending::Asking;
+use crate::lending::{Asking, longest_lease};
 use crate::posting::post_kept;
 use crate::turning::{guess_and_send, tidy};
 use crate::unheard::Unheard;
@@ -34,7 +35,7 @@ pub struct Splitter<B: Lending> {
     pub core: Lender<B>,
     /// How many instances work for it, at most 16. One place more is the splitter's own.
     pub instances: u32,
-    /// How many events a lease asks for at most, 1 to 1,024.
+    /// How many events a lease asks for at most, 1 to 1,024, where a match can consume an event. Else it asks for up to 1,024.
     pub batch: u32,
     /// What holds open groups for likely or not. Nothing but the order of work rests on it.
     pub predictor: Box<dyn Predictor>,
@@ -158,7 +159,9 @@ impl<B: Lending + Send> Splitter<B> {
         requires open { by.old.closed ≡ false }
         requires last { IsBelowKept by.old.last self.old.kept.items
             self.old.core.machine.next_ticket }
-        ensures went { Went self.old.instances self.old.batch self.old.core self.new.core }
+        ensures went { Went self.old.instances
+            (definitions.longest_lease self.old.core.plan self.old.batch)
+            self.old.core self.new.core }
         ensures read { ReadOfCollected self.old.core self.new.core by.old by.new }
         ensures rest { (self.new.instances ≡ self.old.instances)
             × (self.new.batch ≡ self.old.batch) }
@@ -167,7 +170,7 @@ impl<B: Lending + Send> Splitter<B> {
         ensures open { by.new.closed ≡ false }
         ensures turned { IfOk result (λ finished. Turned (record {
           instances = self.old.instances;
-          batch = self.old.batch;
+          most = definitions.longest_lease self.old.core.plan self.old.batch;
           taught_before = taught self.old.predictor;
           taught = taught self.new.predictor;
           means = means self.new.predictor;
@@ -181,13 +184,14 @@ impl<B: Lending + Send> Splitter<B> {
         ensures last { OnOk result
             (IsBelowKept by.new.last self.new.kept.items self.new.core.machine.next_ticket) }
     {
+        let most = longest_lease(self.core.core().plan(), self.batch);
         let predictor = &mut *self.predictor;
         let read = gather(rt, alloc, &mut self.core, predictor, hub, by)?;
         self.unheard.learn(read);
         let finished = tidy(alloc, &mut self.core)?;
         let asking = Asking {
-            batch: self.batch,
-            shy: self.unheard.are_shy(self.batch),
+            most,
+            shy: self.unheard.are_shy(most),
         };
         self.chances = guess_and_send(
             alloc,

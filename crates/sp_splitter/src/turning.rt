@@ -51,10 +51,10 @@ fn send_out<B: Lending>(
     kept: &mut VecDeque<Loan<B>>,
 ) -> Result<(), Memory>
     requires instances { instances ≤ 16 }
-    requires some { 1 ≤ asking.batch }
-    requires most { asking.batch ≤ batch_limit }
+    requires some { 1 ≤ asking.most }
+    requires most { asking.most ≤ batch_limit }
     requires settled { Settled core.old.plan core.old.machine }
-    ensures went { Went instances asking.batch core.old core.new }
+    ensures went { Went instances asking.most core.old core.new }
     ensures goes { OnOk result (Goes instances core.old core.new) }
     ensures emitted { NoneEmitted core.old core.new }
     ensures read { NoneRead core.old core.new }
@@ -64,7 +64,7 @@ fn send_out<B: Lending>(
         → AreGuessed core.new.plan core.new.machine m (share_of chances.now)) }
     ensures wide { OnOk result (IsWide (share_of chances.now) instances core.new) }
     ensures lent { OnOk result (IsLentOut core.new.plan core.new.bound instances core.new.machine) }
-    ensures sent { OnOk result (SentOut (share_of chances.now) instances asking.batch
+    ensures sent { OnOk result (SentOut (share_of chances.now) instances asking.most
         core.old core.new kept.old.items kept.new.items) }
     ensures rising { (last : ℕ) → IsBelowKept last kept.old.items core.old.machine.next_ticket
         → IsBelowKept last kept.new.items core.new.machine.next_ticket }
@@ -85,10 +85,10 @@ pub(crate) fn guess_and_send<B: Lending>(
     kept: &mut VecDeque<Loan<B>>,
 ) -> Result<Chances, Memory>
     requires instances { instances ≤ 16 }
-    requires some { 1 ≤ asking.batch }
-    requires most { asking.batch ≤ batch_limit }
+    requires some { 1 ≤ asking.most }
+    requires most { asking.most ≤ batch_limit }
     requires settled { Settled core.old.plan core.old.machine }
-    ensures went { Went instances asking.batch core.old core.new }
+    ensures went { Went instances asking.most core.old core.new }
     ensures goes { OnOk result (Goes instances core.old core.new) }
     ensures emitted { NoneEmitted core.old core.new }
     ensures read { NoneRead core.old core.new }
@@ -97,7 +97,7 @@ pub(crate) fn guess_and_send<B: Lending>(
         (means predictor.now) (share_of chances)) }
     ensures wide { IfOk result (λ chances. IsWide (share_of chances) instances core.new) }
     ensures lent { OnOk result (IsLentOut core.new.plan core.new.bound instances core.new.machine) }
-    ensures sent { IfOk result (λ chances. SentOut (share_of chances) instances asking.batch
+    ensures sent { IfOk result (λ chances. SentOut (share_of chances) instances asking.most
         core.old core.new kept.old.items kept.new.items) }
     ensures rising { (last : ℕ) → IsBelowKept last kept.old.items core.old.machine.next_ticket
         → IsBelowKept last kept.new.items core.new.machine.next_ticket }

@@ -20,38 +20,38 @@ returns-clause-went g c =
     let ids = c.deref.result.now in
     let picked = picked_told (share_of c.args.chances.now) c.args.instances c.core.result.now c.args.core.now c.in_ok-ids.ids.items c.deref.result.now
     c.core.ensures c.deref.ensures.value c.in_ok-ids.ensures.picked in
-    went_part c.args.instances c.args.asking.batch ids c.args.core.now c.lend_all.new.core c.requires.spread_out
+    went_part c.args.instances c.args.asking.most ids c.args.core.now c.lend_all.new.core c.requires.spread_out
     (picked_few (share_of c.args.chances.now) c.args.instances c.args.core.now ids picked) c.lend_all.ensures.part
 
 pub returns-clause-emitted : goal.returns-clause-emitted
-returns-clause-emitted g c = (kept_part c.args.asking.batch c.deref.result.now c.args.core.now c.lend_all.new.core c.lend_all.ensures.part).emitted
+returns-clause-emitted g c = (kept_part c.args.asking.most c.deref.result.now c.args.core.now c.lend_all.new.core c.lend_all.ensures.part).emitted
 
 pub returns-clause-read : goal.returns-clause-read
-returns-clause-read g c = (kept_part c.args.asking.batch c.deref.result.now c.args.core.now c.lend_all.new.core c.lend_all.ensures.part).read
+returns-clause-read g c = (kept_part c.args.asking.most c.deref.result.now c.args.core.now c.lend_all.new.core c.lend_all.ensures.part).read
 
 pub returns-clause-goes : goal.returns-clause-goes
 returns-clause-goes g c =
     let picked = picked_told (share_of c.args.chances.now) c.args.instances c.core.result.now c.args.core.now c.in_ok-ids.ids.items c.deref.result.now
     c.core.ensures c.deref.ensures.value c.in_ok-ids.ensures.picked in
-    IfOk-weaker c.lend_all.result (λ _. Lends c.args.asking.shy c.args.asking.batch c.deref.result.now c.args.core.now c.lend_all.new.core)
+    IfOk-weaker c.lend_all.result (λ _. Lends c.args.asking.shy c.args.asking.most c.deref.result.now c.args.core.now c.lend_all.new.core)
     (λ _. Goes c.args.instances c.args.core.now c.lend_all.new.core)
-    (λ _ lends. goes_lends (share_of c.args.chances.now) c.args.instances c.args.asking.batch c.deref.result.now c.args.core.now c.lend_all.new.core c.requires.spread_out picked lends) c.lend_all.ensures.lends
+    (λ _ lends. goes_lends (share_of c.args.chances.now) c.args.instances c.args.asking.most c.deref.result.now c.args.core.now c.lend_all.new.core c.requires.spread_out picked lends) c.lend_all.ensures.lends
 
 pub returns-clause-settled : goal.returns-clause-settled
 returns-clause-settled g c =
-    IfOk-weaker c.lend_all.result (λ _. Lends c.args.asking.shy c.args.asking.batch c.deref.result.now c.args.core.now c.lend_all.new.core)
+    IfOk-weaker c.lend_all.result (λ _. Lends c.args.asking.shy c.args.asking.most c.deref.result.now c.args.core.now c.lend_all.new.core)
     (λ _. Settled c.lend_all.new.core.plan c.lend_all.new.core.machine)
     (λ _ lends. settled_kept c.args.core.now c.lend_all.new.core lends.keeps c.requires.settled) c.lend_all.ensures.lends
 
 pub returns-clause-guessed : goal.returns-clause-guessed
 returns-clause-guessed g c =
-    IfOk-weaker c.lend_all.result (λ _. Lends c.args.asking.shy c.args.asking.batch c.deref.result.now c.args.core.now c.lend_all.new.core)
+    IfOk-weaker c.lend_all.result (λ _. Lends c.args.asking.shy c.args.asking.most c.deref.result.now c.args.core.now c.lend_all.new.core)
     (λ _. (m share : ℕ → ℕ → ℕ) → AreGuessed c.args.core.now.plan c.args.core.now.machine m share → AreGuessed c.lend_all.new.core.plan c.lend_all.new.core.machine m share)
     (λ _ lends. λ m share. guessed_kept c.args.core.now c.lend_all.new.core m share lends.keeps) c.lend_all.ensures.lends
 
 pub returns-clause-wide : goal.returns-clause-wide
 returns-clause-wide g c =
-    IfOk-weaker c.lend_all.result (λ _. Lends c.args.asking.shy c.args.asking.batch c.deref.result.now c.args.core.now c.lend_all.new.core)
+    IfOk-weaker c.lend_all.result (λ _. Lends c.args.asking.shy c.args.asking.most c.deref.result.now c.args.core.now c.lend_all.new.core)
     (λ _. (share : ℕ → ℕ → ℕ) (n : ℕ) → IsWide share n c.args.core.now → IsWide share n c.lend_all.new.core)
     (λ _ lends. λ share n. wide_kept share n c.args.core.now c.lend_all.new.core lends.keeps) c.lend_all.ensures.lends
 
@@ -59,22 +59,22 @@ pub returns-clause-lent : goal.returns-clause-lent
 returns-clause-lent g c =
     let picked = picked_told (share_of c.args.chances.now) c.args.instances c.core.result.now c.args.core.now c.in_ok-ids.ids.items c.deref.result.now
     c.core.ensures c.deref.ensures.value c.in_ok-ids.ensures.picked in
-    IfOk-weaker c.lend_all.result (λ _. Lends c.args.asking.shy c.args.asking.batch c.deref.result.now c.args.core.now c.lend_all.new.core)
+    IfOk-weaker c.lend_all.result (λ _. Lends c.args.asking.shy c.args.asking.most c.deref.result.now c.args.core.now c.lend_all.new.core)
     (λ _. IsLentOut c.lend_all.new.core.plan c.lend_all.new.core.bound c.args.instances c.lend_all.new.core.machine)
-    (λ _ lends. lent_picked (share_of c.args.chances.now) c.args.instances c.args.asking.batch c.deref.result.now c.args.core.now c.lend_all.new.core picked lends) c.lend_all.ensures.lends
+    (λ _ lends. lent_picked (share_of c.args.chances.now) c.args.instances c.args.asking.most c.deref.result.now c.args.core.now c.lend_all.new.core picked lends) c.lend_all.ensures.lends
 
 pub returns-clause-leases : goal.returns-clause-leases
 returns-clause-leases g c =
     let picked = picked_told (share_of c.args.chances.now) c.args.instances c.core.result.now c.args.core.now c.in_ok-ids.ids.items c.deref.result.now
     c.core.ensures c.deref.ensures.value c.in_ok-ids.ensures.picked in
-    IfOk-weaker c.lend_all.result (λ _. Lends c.args.asking.shy c.args.asking.batch c.deref.result.now c.args.core.now c.lend_all.new.core)
-    (λ _. Leases (share_of c.args.chances.now) c.args.instances c.args.asking.batch c.args.core.now c.lend_all.new.core)
-    (λ _ lends. leases_picked (share_of c.args.chances.now) c.args.instances c.args.asking.batch c.deref.result.now c.args.core.now c.lend_all.new.core picked lends) c.lend_all.ensures.lends
+    IfOk-weaker c.lend_all.result (λ _. Lends c.args.asking.shy c.args.asking.most c.deref.result.now c.args.core.now c.lend_all.new.core)
+    (λ _. Leases (share_of c.args.chances.now) c.args.instances c.args.asking.most c.args.core.now c.lend_all.new.core)
+    (λ _ lends. leases_picked (share_of c.args.chances.now) c.args.instances c.args.asking.most c.deref.result.now c.args.core.now c.lend_all.new.core picked lends) c.lend_all.ensures.lends
 
 pub returns-clause-kept : goal.returns-clause-kept
 returns-clause-kept g c =
-    both_ok c.lend_all.result (Lends c.args.asking.shy c.args.asking.batch c.deref.result.now c.args.core.now c.lend_all.new.core)
+    both_ok c.lend_all.result (Lends c.args.asking.shy c.args.asking.most c.deref.result.now c.args.core.now c.lend_all.new.core)
     (length c.lend_all.new.kept.items ≡ length c.args.kept.now.items + length c.deref.result.now)
     (length c.lend_all.new.kept.items + out_count c.args.core.now.machine ≡ length c.args.kept.now.items + out_count c.lend_all.new.core.machine)
-    (kept_lends c.args.asking.batch (length c.args.kept.now.items) (length c.lend_all.new.kept.items) c.deref.result.now c.args.core.now c.lend_all.new.core)
+    (kept_lends c.args.asking.most (length c.args.kept.now.items) (length c.lend_all.new.kept.items) c.deref.result.now c.args.core.now c.lend_all.new.core)
     c.lend_all.ensures.lends c.lend_all.ensures.kept
