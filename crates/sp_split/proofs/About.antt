@@ -15,6 +15,8 @@ use Rattle.sp_ports.specs.Taking.{OutletState}
 use Rattle.sp_ports.specs.declared.stop.Stop.{Stop}
 use Rattle.sp_spread.specs.Journaled.{MakesNoChild}
 use Rattle.sp_spread.specs.Laws.{ReturnsFollowReadings}
+use Rattle.sp_spread.specs.Limiting.{AsksAtMost}
+use Rattle.sp_splitter.specs.Lending.{longest_lease}
 use Rattle.sp_split.specs.Driving.{CameAbout, FellShort, most_asked, seats_for}
 use Rattle.sp_split.specs.declared.crew.Crew.{Crew}
 use Rattle.sp_split.specs.declared.ended.Went as went
@@ -27,10 +29,10 @@ seats_are : (n : ℕ) → 0 < n → seats_for n ≡ n + 1
 seats_are zero some = absurd (omega (arith, some))
 seats_are (suc n) some = refl
 
--- with instances a lease asks for a batch at most
-pub most_is : (n batch : ℕ) → 0 < n → most_asked n batch ≡ batch
-most_is zero batch some = absurd (omega (arith, some))
-most_is (suc n) batch some = refl
+-- with instances a lease asks for as many events as the longest at most
+most_is : (q : Plan) (n batch : ℕ) → 0 < n → most_asked q n batch ≡ longest_lease q batch
+most_is q zero batch some = absurd (omega (arith, some))
+most_is q (suc n) batch some = refl
 
 pub came_about : (n : ℕ) (c : Running) (collected : ℕ) (h : History) → 0 < n → CameBy n c collected → WoundUp (n + 1) collected h → ReturnsFollowReadings → CameAbout n c h
 came_about n c collected h some came wound law = record {
@@ -91,7 +93,7 @@ pub ends_with : {V : Type 0} {T : V → Type 0} {E : Type 0} (gave : List Event 
 ends_with gave ended before behind kept n batch c old new (Ok w) collected history crew served some wound law = record {
   drove = served.drove;
   about = came_about n w.core collected history some served.came wound law;
-  asked = served.asked;
+  asked = subst (λ (most : ℕ). AsksAtMost most w.core.journal) (sym (most_is w.core.plan n batch some)) served.asked;
   short = tt;
 }
 ends_with gave ended before behind kept n batch c old new (Err e) collected history crew served some wound law = record { drove = tt; about = tt; asked = tt; short = served.short }

@@ -11,6 +11,7 @@ use Rattle.sp_hub.specs.State.{Posting, Sitting}
 use Rattle.sp_piece.specs.declared.job.Job.{Job}
 use Rattle.sp_spread.specs.Journaled.{MakesNoChild, makes_child, readings_entered}
 use Rattle.sp_spread.specs.Limiting.{AsksAtMost, NeverMore, asked_by}
+use Rattle.sp_splitter.specs.Lending.{longest_lease}
 use Rattle.sp_splitter.specs.Stages.{IsSpreading}
 use Rattle.sp_split.specs.Serving.{CanTurn, IsServing}
 use Rattle.sp_split.specs.Stages.{IsAlone}
@@ -68,7 +69,7 @@ module _ (c : Running) (fresh : c ≡ begun c.plan c.bound) where
   serving_first n batch kept by seat can free = record {
     spreading = spreading_first n;
     never = never_first n;
-    asked = asked_first batch;
+    asked = asked_first (longest_lease c.plan batch);
     few = few_first n;
     read = read_first (length by.got);
     can = can;

@@ -16,6 +16,7 @@ use Rattle.sp_core.specs.Running.{Running}
 use Rattle.sp_ports.specs.Taking.{OutletState, Took, TookFirst, FailedAt}
 use Rattle.sp_ports.specs.declared.stop.Stop.{Stop}
 use Rattle.sp_ports.specs.Stopping.{Halts}
+use Rattle.sp_splitter.specs.Lending.{longest_lease}
 use Rattle.sp_split.specs.declared.ended.Went.{Went}
 use Rattle.sp_split.specs.declared.ended.Why.TheVariants as why
 use Rattle.sp_spread.specs.Journaled.{fed, returns_read, MakesNoChild}
@@ -64,11 +65,11 @@ pub record FellShort (gave : List Event → Type 0) (ended : Bool) (q : Plan) (o
   pub took : TookFirst q (whole q events input_ended).matches old new
   pub no_fault : new.faults ≡ old.faults
 
--- How many events a lease of a run asks for at most: with instances a batch; without one, where each version is a root that stands alone, as
--- many as any lease may.
-abbrev pub most_asked : ℕ → ℕ → ℕ
-most_asked zero batch = batch_limit
-most_asked (suc n) batch = batch
+-- How many events a lease of a run of this plan asks for at most: with instances a batch, but where nothing can be consumed as many as any lease
+-- may; and so without one, where each version is a root that stands alone.
+abbrev pub most_asked : Plan → ℕ → ℕ → ℕ
+most_asked q zero batch = batch_limit
+most_asked q (suc n) batch = longest_lease q batch
 
 -- how many seats a run has at its hub: one for each instance and one of the splitter's own; without an instance it has no hub
 abbrev pub seats_for : ℕ → ℕ

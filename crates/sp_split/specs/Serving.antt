@@ -16,13 +16,14 @@ use Rattle.sp_ports.specs.Taking.{OutletState}
 use Rattle.sp_ports.specs.declared.stop.Stop.{Stop}
 use Rattle.sp_spread.specs.Journaled.{readings_entered}
 use Rattle.sp_spread.specs.Limiting.{AsksAtMost, NeverMore}
+use Rattle.sp_splitter.specs.Lending.{longest_lease}
 use Rattle.sp_splitter.specs.Splitting.{IsBelowKept}
 use Rattle.sp_splitter.specs.Stages.{Goes, IsSpreading, StaysWithin}
 use Rattle.sp_split.specs.declared.crew.Crew.{Crew}
 use Rattle.sp_split.specs.declared.ended.Ended as ended_as
 use Rattle.sp_split.specs.declared.ended.Went as went
 use Rattle.sp_split.specs.declared.ended.Why.{Why}
-use Rattle.sp_split.specs.Driving.{CameAbout, Drove, FellShort}
+use Rattle.sp_split.specs.Driving.{CameAbout, Drove, FellShort, most_asked}
 use Rattle.sp_split.specs.Stages.{FedOn}
 
 -- The core was fed, and no more: as many tickets are out, nothing that was read came home, and the journal is as spread as before, and goes
@@ -33,7 +34,7 @@ pub record Filled (old new : Running) : Type 0 where
   pub out : out_count new.machine ≡ out_count old.machine
   pub read : readings_entered new.journal ≡ readings_entered old.journal
   pub goes : (n : ℕ) → Goes n old new
-  pub within : (n batch : ℕ) → StaysWithin n batch old new
+  pub within : (n most : ℕ) → StaysWithin n most old new
 
 -- A splitter may take a turn: it has at most 16 instances; it leases for 1 to 1,024 events; its poster has not closed the hub, and has room for one ticket more than
 -- there are instances; and the ticket that was posted last is below those of the jobs that are kept.
@@ -60,20 +61,20 @@ pub record CameBy (n : ℕ) (c : Running) (collected : ℕ) : Type 0 where
   pub read : readings_entered c.journal ≤ collected
 
 -- A splitter may be fed, and take a turn: its journal is spread, no more tickets are out than there may be, nor were at any time, and no lease
--- asked for more than a batch; its poster collected a ticket for each reading, and may post; and its seat holds nothing.
+-- asked for more events than the longest may; its poster collected a ticket for each reading, and may post; and its seat holds nothing.
 pub record IsServing (instances batch : ℕ) (kept : List Job) (c : Running) (by : Posting) (seat : Sitting) : Type 0 where
   pub spreading : IsSpreading instances c
   pub never : NeverMore c.plan c.bound instances c.journal
-  pub asked : AsksAtMost batch c.journal
+  pub asked : AsksAtMost (longest_lease c.plan batch) c.journal
   pub few : out_count c.machine ≤ instances + 1
   pub read : readings_entered c.journal ≤ length by.got
   pub can : CanTurn instances batch kept c.machine.next_ticket by
   pub free : seat.holding ≡ None
 
--- How a splitter came to where it stands: no lease asked for more than a batch, and its poster has not closed the hub.
+-- How a splitter came to where it stands: no lease asked for more events than the longest may, and its poster has not closed the hub.
 pub record CameServing (instances batch : ℕ) (c : Running) (by : Posting) : Type 0 where
   pub came : CameBy instances c (length by.got)
-  pub asked : AsksAtMost batch c.journal
+  pub asked : AsksAtMost (longest_lease c.plan batch) c.journal
   pub unclosed : by.closed ≡ false
 
 pub serving_came : (instances batch : ℕ) (kept : List Job) (c : Running) (by : Posting) (seat : Sitting) → IsServing instances batch kept c by seat → CameServing instances batch c by
@@ -97,7 +98,7 @@ pub record WoundUp (seats collected : ℕ) (h : History) : Type 0 where
 pub record Serves {E : Type 0} (gave : List Event → Type 0) (ended : Bool) (before behind : ℕ) (kept : Option Stop) (n batch : ℕ) (c : Running) (old new : OutletState) (end : Result went.Went E) (collected : ℕ) : Type 0 where
   pub drove : IfOk end (λ went. Drove gave ended before behind kept c old new went)
   pub came : IfOk end (λ went. CameBy n went.core collected)
-  pub asked : IfOk end (λ went. AsksAtMost batch went.core.journal)
+  pub asked : IfOk end (λ went. AsksAtMost (longest_lease went.core.plan batch) went.core.journal)
   pub short : OnErr end (FellShort gave ended c.plan old new)
 
 -- A splitter may begin to serve: its core has done no step, its seat holds nothing, and the ways in and out are those of its plan.
@@ -113,11 +114,11 @@ abbrev pub went_by : {E : Type 0} → Running → Result Why E → Result went.W
 went_by c (Ok why) = Ok (record { core = c; why = why })
 went_by c (Err e) = Err e
 
--- A run with n instances, of which no lease asked for more events than so many, ended so, with what its hub did.
-pub record Ends {V : Type 0} {T : V → Type 0} {E : Type 0} (gave : List Event → Type 0) (ended : Bool) (before behind : ℕ) (kept : Option Stop) (n most : ℕ) (c : Running) (old new : OutletState) (end : Result (ended_as.Ended V T) E) : Type 0 where
+-- A run with n instances by a batch ended so, with what its hub did.
+pub record Ends {V : Type 0} {T : V → Type 0} {E : Type 0} (gave : List Event → Type 0) (ended : Bool) (before behind : ℕ) (kept : Option Stop) (n batch : ℕ) (c : Running) (old new : OutletState) (end : Result (ended_as.Ended V T) E) : Type 0 where
   pub drove : IfOk end (λ e. Drove gave ended before behind kept c old new (record { core = e.core; why = e.why }))
   pub about : IfOk end (λ e. CameAbout n e.core e.history)
-  pub asked : IfOk end (λ e. AsksAtMost most e.core.journal)
+  pub asked : IfOk end (λ e. AsksAtMost (most_asked e.core.plan n batch) e.core.journal)
   pub short : OnErr end (FellShort gave ended c.plan old new)
 
 -- how a run ended, with what its hub did and those that are left of its crew

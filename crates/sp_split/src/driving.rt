@@ -65,7 +65,8 @@ pub fn drive<I: Intake, O: Outlet, G: Gate, R: Threads + Wait + Sync>(
         core (O.state outlet.old) (O.state outlet.new)
         (record { core = end.core; why = end.why })) }
     ensures about { IfOk result (λ end. CameAbout instances end.core end.history) }
-    ensures asked { IfOk result (λ end. AsksAtMost (most_asked instances batch) end.core.journal) }
+    ensures asked { IfOk result
+        (λ end. AsksAtMost (most_asked end.core.plan instances batch) end.core.journal) }
     ensures crew { IfOk result (λ end. Relayed (λ one. named one) crew end.crew end.why
         end.core.machine.finished) }
     ensures short { OnErr result
@@ -107,7 +108,7 @@ fn drive_lone<I: Intake, O: Outlet>(
     requires outlet_plan { O.plan outlet.old ≡ core.plan }
     ensures ends { Ends (λ events. I.gave intake.old events intake.new) (I.ended intake.new)
         (I.stops intake.old) (I.stops intake.new) (I.cause intake.new)
-        0 batch_limit core (O.state outlet.old) (O.state outlet.new) result }
+        0 batch core (O.state outlet.old) (O.state outlet.new) result }
     ensures crew { IfOk result (λ end. Relayed (λ one. named one) crew end.crew end.why
         end.core.machine.finished) }
     ensures prompt { IsPrompt (I.asked intake.old) intake.new core.plan (O.state outlet.old)

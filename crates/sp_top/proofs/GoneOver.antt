@@ -53,7 +53,7 @@ module _ {V : Type 0} {T : V → Type 0} (c : Running) (old new : ListIntake) (b
       (all.0 ∙ ap (λ (l : Listing). l.left) came, stopped.1 ∙ sym stopped.0.1.1 ∙ ap is_end all.1 ∙ ap (λ (l : Listing). is_end l.stop) came)
 
   module _ (kept : IsSequential e.core.plan m) (replays : replay e.core.plan e.core.bound e.core.journal ≡ m) (speed : Speed) (bound : c.bound ≡ speed.live)
-      (about : CameAbout speed.instances e.core e.history) (asked : AsksAtMost (most_asked speed.instances speed.batch) e.core.journal) where
+      (about : CameAbout speed.instances e.core e.history) (asked : AsksAtMost (most_asked e.core.plan speed.instances speed.batch) e.core.journal) where
     -- what was found, where each window that the events closed is finished
     found : AllFed → m.finished ≡ closed c.plan m.events m.ended → m.emitted ≡ (whole q events (is_end stop)).matches
     found fed finished =

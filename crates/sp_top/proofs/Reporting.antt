@@ -99,7 +99,7 @@ module _ {V : Type 0} {T : V → Type 0} (c : Running) (l : Lateness) (origin : 
     (before after : OutletState) (speed : Speed) (end : Ended V T)
     (drove : Drove (λ events. Gives first events last) (is_whole (stop_in last.state)) stops_before stops_behind (stop_in last.state) c before after (record { core = end.core; why = end.why }))
     (bound : c.bound ≡ speed.live) (replays : replay end.core.plan end.core.bound end.core.journal ≡ end.core.machine) (about : CameAbout speed.instances end.core end.history)
-    (asked : AsksAtMost (most_asked speed.instances speed.batch) end.core.journal) where
+    (asked : AsksAtMost (most_asked end.core.plan speed.instances speed.batch) end.core.journal) where
   reported_by : (w : Why) → end.why ≡ w → number_of (status_of_end l.rule (late_in last) w) ≡ 0 → ReportsPlan c.plan l speed origin.left last.source.left end
   reported_by why.Whole is done =
       let m = end.core.machine in

@@ -38,7 +38,7 @@ module _ {V : Type 0} {T : V → Type 0} where
     -- and the entries of the hub which instances had a part in it
     pub about : CameAbout speed.instances e.core e.history
     -- and no lease asks for more events than a run of this speed may
-    pub asked : AsksAtMost (most_asked speed.instances speed.batch) e.core.journal
+    pub asked : AsksAtMost (most_asked e.core.plan speed.instances speed.batch) e.core.journal
 
   -- The words are a run by one tree, which tells lines or lists proofs, or a drill, and it ended so: a run by a plan of the query that stands there,
   -- over the bytes that were taken; a drill by a plan of its query, over the rows that it generated.

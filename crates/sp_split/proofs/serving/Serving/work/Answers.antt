@@ -22,7 +22,7 @@ pub returns-in_err-finished-clause-short : goal.returns-in_err-finished-clause-s
 returns-in_err-finished-clause-short g c =
     let old = c.args.self.now.desk.splitter in
     let went = c.turn.ensures.went in
-    err_any _ c.from_residual.result (went.more, advanced_by old.instances old.batch old.core c.turn.new.self.core went.more went went.emitted)
+    err_any _ c.from_residual.result (went.more, advanced_by old.instances _ old.core c.turn.new.self.core went.more went went.emitted)
 
 pub returns-in_err-finished-clause-came : goal.returns-in_err-finished-clause-came
 returns-in_err-finished-clause-came g c =
@@ -45,7 +45,7 @@ returns-clause-done g c =
     let old = c.args.self.now.desk.splitter in
     let new = c.turn.new.self in
     subst (λ z. Advanced old.core z.core (matches_of c.in_ok-finished.finished.items)) (sym c.relieve.ensures.rest)
-    (advanced_by old.instances old.batch old.core new.core _ c.turn.ensures.went c.in_ok-finished.ensures.turned.emitted)
+    (advanced_by old.instances _ old.core new.core _ c.turn.ensures.went c.in_ok-finished.ensures.turned.emitted)
 
 pub returns-clause-ready : goal.returns-clause-ready
 returns-clause-ready g c =
