@@ -108,7 +108,6 @@ HINTS = [
     Hint(1, r"[/%]", None, "There is no division: x > 2 * y stands for x / 2 > y. There are no comments either."),
     Hint(1, r";", None, "Nothing stands between the clauses, or behind the last one."),
     Hint(1, r"[&|]", None, "The words are AND and OR."),
-    Hint(1, r"#", None, "There are no comments."),
     Hint(1, r"[{}?]", None, "Elements are names, names with +, SETs of names and negated names; none is counted, and none may be absent."),
     Hint(1, "[\u2018\u2019\u201c\u201d`\u00b4]", None, "The quote of a text is the straight one, '."),
     Hint(1, "[\u00a0\u2007\u202f\ufeff]", None, "It looks like a blank, and is none: blanks, tabs and line ends are."),
