@@ -59,7 +59,7 @@ SHOWN, BEFORE, BEHIND = 40, 60, 40
 
 def shown_word(word):
     """A word as a shell takes it, with what can't be seen in it, and not too much of it."""
-    text = shlex.quote(word) if word.isprintable() else ascii(word)
+    text = shlex.quote(word) if word.isprintable() else re.sub(r"\\udc([89a-f][0-9a-f])", r"\\x\1", repr(word))
     return text if len(text) <= SHOWN else text[: SHOWN - 2] + ".."
 
 
@@ -158,7 +158,7 @@ class Reading:
         self.words, self.uses = words, {}
         self.command = words[0] if words and words[0] in COMMANDS else None
         # The option that was met last: it counts when the next one is met, or at the end.
-        self.pending, self.is_closed = None, False
+        self.pending, self.closed_at = None, None
         self.fault = unreadable(words) or wrong_command(words) or self.drilled() or self.walked() or self.compared()
 
     def values(self):
@@ -191,10 +191,10 @@ class Reading:
 
     def read(self, at):
         word = self.words[at]
-        if self.is_closed:
-            return Fault(at, at + 1, ["Behind -- no word may stand: leave it out."], [without(self.words, at, at + 1)])
+        if self.closed_at is not None:
+            return self.closed(at)
         if word == "--":
-            self.is_closed = True
+            self.closed_at = at
         elif word.startswith("-") and word != "-":
             return self.read_option(at)
         elif self.pending and self.pending.value is None:
@@ -202,6 +202,12 @@ class Reading:
         else:
             return stray(self, at)
         return None
+
+    def closed(self, at):
+        """The fault of a word behind --, which closes the options."""
+        if self.words[at].startswith("-") or (self.pending and self.pending.value is None):
+            return Fault(at, at + 1, ["Behind -- no word may stand: leave the -- out."], [without(self.words, self.closed_at, self.closed_at + 1)])
+        return Fault(at, at + 1, ["Behind -- no word may stand: leave out what stands there."], [self.words[:at]])
 
     def read_option(self, at):
         option, value = self.option_in(self.words[at])
@@ -383,18 +389,18 @@ def stray(reading, at):
     """The fault of a word that is neither an option nor the value of one."""
     words, command = reading.words, reading.command
     word, left = words[at], without(words, at, at + 1)
+    has_source = any(re.match(r"-[qf]|--(query|file)\b", it) for it in words)
+    if "query" in COMMANDS[command] and not has_source and source_letter(word):
+        letter = source_letter(word)
+        what = "the text of the query" if letter == "q" else "the file of a query"
+        return Fault(at, at + 1, [f"{shown_word(word)} looks like {what}. Then -{letter} stands in front of it."], [[*words[:at], f"-{letter}", *words[at:]]])
     new = hyphenated(command, word)
     if new:
         says = "The hyphens are others than the ASCII one." if word.startswith(tuple(HYPHENS)) else f"{shown_word(word)} is a word too many."
         return Fault(at, at + 1, [f"{says} Is it {shown_word(new)}?"], [[*words[:at], new, *words[at + 1 :]]])
     before = reading.pending.option if reading.pending else None
     if before is None and words[at - 1] == "--proof":
-        return Fault(at, at + 1, ["--proof stands alone, without a value: leave this word out."], [left])
-    has_source = any(re.match(r"-[qf]|--(query|file)\b", it) for it in words)
-    if "query" in COMMANDS[command] and not has_source and source_letter(word):
-        letter = source_letter(word)
-        what = "the text of the query" if letter == "q" else "the file of a query"
-        return Fault(at, at + 1, [f"{shown_word(word)} looks like {what}. Then -{letter} stands in front of it."], [[*words[:at], f"-{letter}", *words[at:]]])
+        return Fault(at, at + 1, [f"--proof stands alone, without a value: leave {shown_word(word)} out."], [left])
     if os.path.isfile(word) and command != "drill":
         return Fault(at, at + 1, [f"{shown_word(word)} is a word too many: a table comes on standard input, < {shown_word(word)}"], [left])
     says = [f"{shown_word(word)} is a word too many: {command} takes {'two numbers, and then ' if command == 'drill' else ''}options. Leave it out."]

@@ -14,7 +14,7 @@ REASONS = {
     errno.EPERM: NO_PERMISSION,
     errno.ENOTDIR: "a part of its path is a file, and no folder",
     errno.ELOOP: "its links lead round in a circle",
-    errno.ENAMETOOLONG: "its name is too long: is it the text itself?",
+    errno.ENAMETOOLONG: "its name is too long: -f has a file's name, and -q a text",
 }
 
 
@@ -33,11 +33,11 @@ def nearest_in(folder, name):
 def missing(name):
     """What is said of a name that isn't there: the part of its path that is missing, and the one that was meant."""
     if not name:
-        return ["its name is empty: is a variable of the shell empty?"]
+        return ["its name is empty", "Is a variable of the shell empty?"]
     if os.path.islink(name):
         return [f"it is a link to {os.readlink(name)!r}, which isn't there"]
     if name.startswith("~") and os.path.exists(os.path.expanduser(name)):
-        return [f"~ was left as it is, as the shell does behind = and in quotes: it is {os.path.expanduser(name)!r}"]
+        return ["the shell leaves a ~ as it is behind = and in quotes", f"Is it {os.path.expanduser(name)!r}?"]
     part = name.rstrip("/") or name
     while os.path.dirname(part) and not os.path.isdir(os.path.dirname(part)) and os.path.dirname(part) != part:
         part = os.path.dirname(part)
