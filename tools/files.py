@@ -34,6 +34,8 @@ def missing(name):
     """What is said of a name that isn't there: the part of its path that is missing, and the one that was meant."""
     if not name:
         return ["its name is empty", "Is a variable of the shell empty?"]
+    if name == "-":
+        return ["a hyphen is a file's name here; the standard input has the table"]
     if os.path.islink(name):
         return [f"it is a link to {os.readlink(name)!r}, which isn't there"]
     if name.startswith("~") and os.path.exists(os.path.expanduser(name)):
