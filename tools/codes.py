@@ -89,9 +89,11 @@ STATUS_LINES = {
     "listing window": Meaning("status 9", "the listing is not that of the query over this table: it first differs, has an entry missing or has one too many", LISTINGS),
 }
 
+# The most bytes of a text of a query.
+TEXT_LIMIT = 16_384
 # What the number of a limit is of.
 LIMIT_NUMBERS = {
-    16_384: "the query's text or file, or of a graph the second query or what is returned, has more than 16,384 bytes",
+    TEXT_LIMIT: "the query's text or file, or of a graph the second query or what is returned, has more than 16,384 bytes",
     1_048_576: "the input has more than 1,048,576 events, or of a graph its first query more matches, or the schedule's file more bytes than this",
     10**15: "a match of a graph's first query returns a number past 10^15, in units of its column, on either side of 0",
     16_777_216: "the listing's file has more than 16,777,216 bytes",
