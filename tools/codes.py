@@ -89,9 +89,11 @@ STATUS_LINES = {
     "listing window": Meaning("status 9", "the listing is not that of the query over this table: it first differs, has an entry missing or has one too many", LISTINGS),
 }
 
+# The most bytes of a text of a query.
+TEXT_LIMIT = 16_384
 # What the number of a limit is of.
 LIMIT_NUMBERS = {
-    16_384: "the query's text or file, or of a graph the second query or what is returned, has more than 16,384 bytes",
+    TEXT_LIMIT: "the query's text or file, or of a graph the second query or what is returned, has more than 16,384 bytes",
     1_048_576: "the input has more than 1,048,576 events, or of a graph its first query more matches, or the schedule's file more bytes than this",
     10**15: "a match of a graph's first query returns a number past 10^15, in units of its column, on either side of 0",
     16_777_216: "the listing's file has more than 16,777,216 bytes",
@@ -108,7 +110,6 @@ HINTS = [
     Hint(1, r"[/%]", None, "There is no division: x > 2 * y stands for x / 2 > y. There are no comments either."),
     Hint(1, r";", None, "Nothing stands between the clauses, or behind the last one."),
     Hint(1, r"[&|]", None, "The words are AND and OR."),
-    Hint(1, r"#", None, "There are no comments."),
     Hint(1, r"[{}?]", None, "Elements are names, names with +, SETs of names and negated names; none is counted, and none may be absent."),
     Hint(1, "[\u2018\u2019\u201c\u201d`\u00b4]", None, "The quote of a text is the straight one, '."),
     Hint(1, "[\u00a0\u2007\u202f\ufeff]", None, "It looks like a blank, and is none: blanks, tabs and line ends are."),
