@@ -22,9 +22,9 @@ WHOLE = re.compile(rb"([+-]?)0*(\d{1,16})(?:\.0+)?")
 
 # By how much a time may be below the greatest one before it, and which of the rules is for one that is further below.
 Lateness = namedtuple("Lateness", "slack rule")
-# Where the events end before the table does: the line of the row, and why. Of one that comes too late, which is `late`,
-# also its time and the greatest one before it.
-Stop = namedtuple("Stop", "line why time greatest", defaults=[None, None])
+# Where the events end before the table does: the line of the row, and what is wrong with it; None where it comes too late,
+# and then its time and the greatest one before it.
+Stop = namedtuple("Stop", "line fault time greatest", defaults=[None, None])
 
 
 def time_in(cells, place):
@@ -54,14 +54,15 @@ def times_of(stretch, place):
 
 
 class InOrder:
-    """Puts events in the order in which the program takes them. `place` is the place of the time's cell in a row. `stop` tells
-    where they ended before the table did, once they were all asked for."""
+    """Puts events in the order in which the program takes them. `place` is the place of the time's cell in a row. Once they were
+    all asked for, `stop` tells where they ended before the table did, and `late` how many were passed over."""
 
     def __init__(self, stretches, place, lateness):
         self.stretches = stretches
         self.place = place
         self.lateness = lateness
         self.stop = None
+        self.late = 0
         # The greatest time that came. No time is below 0, so none is late before the first one.
         self.greatest = 0
         # Of the events that wait for their place: their times, the lines of their rows, and the rows; whether they are in
@@ -108,8 +109,9 @@ class InOrder:
         timely = [time >= before - self.lateness.slack for time, before in zip(times, greatest)]
         if self.lateness.rule == "refuse" and False in timely:
             late = timely.index(False)
-            self.stop = Stop(lines[late], "late", times[late], greatest[late])
+            self.stop = Stop(lines[late], None, times[late], greatest[late])
             return timely[:late]
+        self.late += timely.count(False)
         return timely
 
     def given(self, last):
