@@ -98,7 +98,7 @@ class InOrder:
             self.is_sorted = False
             timely = self.timely(times, lines)
             times, lines, contents = (list(itertools.compress(it, timely)) for it in (times, lines, contents))
-        self.greatest = max(times, default=self.greatest)
+        self.greatest = max(self.greatest, max(times, default=0))
         self.times.extend(times)
         self.lines.extend(lines[: len(times)])
         self.contents.extend(contents[: len(times)])
