@@ -34,10 +34,13 @@ def time_in(cells, place):
     return time if 0 <= time <= GREATEST else None
 
 
-def times_of_digits(contents, place):
-    """The times in rows whose cells the commas part; None where one of them isn't digits alone."""
+def times_of_digits(stretch, place):
+    """The times of a stretch's events; None where one of them isn't digits alone."""
     with contextlib.suppress(IndexError, ValueError):
-        cells = [content.split(b",", place + 1)[place] for content in contents]
+        if stretch.is_plain:
+            cells = [content.split(b",", place + 1)[place] for content in stretch.contents]
+        else:
+            cells = [tables.cells_of(content)[place] for content in stretch.contents]
         times = list(map(int, cells)) if b"".join(cells).isdigit() else []
         if times and max(times) <= GREATEST:
             return times
@@ -46,7 +49,7 @@ def times_of_digits(contents, place):
 
 def times_of(stretch, place):
     """The times of a stretch's events, up to the first one that has none."""
-    times = times_of_digits(stretch.contents, place) if stretch.is_plain else None
+    times = times_of_digits(stretch, place)
     if times is not None:
         return times
     read = (time_in(tables.cells_of(content), place) for content in stretch.contents)
@@ -96,23 +99,22 @@ class InOrder:
             self.stop = Stop(lines[len(times)], "its time can't be read")
         if times != sorted(times) or times[:1] < [self.greatest]:
             self.is_sorted = False
-            timely = self.timely(times, lines)
-            times, lines, contents = (list(itertools.compress(it, timely)) for it in (times, lines, contents))
+            kept = self.kept_of(times, lines)
+            times, lines, contents = ([it[at] for at in kept] for it in (times, lines, contents))
         self.greatest = max(self.greatest, max(times, default=0))
         self.times.extend(times)
         self.lines.extend(lines[: len(times)])
         self.contents.extend(contents[: len(times)])
 
-    def timely(self, times, lines):
-        """Of each event whether it is kept, up to one that ends them."""
+    def kept_of(self, times, lines):
+        """The places of those of the events that are kept, up to one that ends them."""
         greatest = list(itertools.accumulate(times, max, initial=self.greatest))
-        timely = [time >= before - self.lateness.slack for time, before in zip(times, greatest)]
-        if self.lateness.rule == "refuse" and False in timely:
-            late = timely.index(False)
-            self.stop = Stop(lines[late], None, times[late], greatest[late])
-            return timely[:late]
-        self.late += timely.count(False)
-        return timely
+        late = [at for at, time in enumerate(times) if time < greatest[at] - self.lateness.slack]
+        if late and self.lateness.rule == "refuse":
+            self.stop = Stop(lines[late[0]], None, times[late[0]], greatest[late[0]])
+            return range(late[0])
+        self.late += len(late)
+        return sorted(set(range(len(times))) - set(late)) if late else range(len(times))
 
     def given(self, last):
         """Those of the events that wait whose time is up to this one, which leave."""

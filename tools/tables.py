@@ -139,13 +139,16 @@ def blocks_of(file):
         yield rest
 
 
-def plain_contents(block):
-    """The rows of a block, blank ones too, where each is a line and the commas alone part its cells; None where some may
+def lines_as_rows(block):
+    """The rows of a block, blank ones too, where each is a line, and is blank only where it has no byte; None where some may
     be otherwise."""
     lines = block.replace(b"\r\n", b"\n") if b"\r" in block else block
-    if b'"' in lines or b"\r" in lines or MARK in lines or not lines.endswith(b"\n"):
+    if b"\r" in lines or MARK in lines or not lines.endswith(b"\n"):
         return None
-    return lines[:-1].split(b"\n")
+    contents = lines[:-1].split(b"\n")
+    if b'"' in lines and any(content.count(b'"') % 2 for content in contents):
+        return None
+    return contents
 
 
 def is_filled(content):
@@ -177,14 +180,14 @@ def stretches_of(file):
     the line at which it begins."""
     line = 1
     for block in blocks_of(file):
-        contents = plain_contents(block)
+        contents = lines_as_rows(block)
         if contents is None:
             yield from careful_stretches(block, line)
         else:
             lines = range(line, line + len(contents))
             if b"" in contents:
                 lines, contents = list(itertools.compress(lines, contents)), list(filter(None, contents))
-            yield Stretch(lines, contents, True)
+            yield Stretch(lines, contents, b'"' not in block)
         line += block.count(b"\n")
 
 
