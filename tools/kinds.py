@@ -13,6 +13,8 @@ DECIMALS = 6
 MISSING = ("", "na", "n/a", "#n/a", "nan", "null", "none", "-")
 # What may part the thousands of a number, beside the mark that isn't the decimal one: apostrophes, and blanks of any kind.
 THOUSANDS = "'\u2019 \u00a0\u202f\u2009"
+# When a column has so many numbers, it remembers no more of them.
+SEEN = 10_000
 MINUS = "\u2212"
 
 
@@ -41,7 +43,7 @@ class Numbers:
 
     def plain(self, cell):
         """The number as the program reads it; None where the cell is none, or is missing."""
-        if self.takes_plain and PLAIN.fullmatch(cell):
+        if self.takes_plain and (cell.isdigit() and cell.isascii() or PLAIN.fullmatch(cell)):
             return None if cell.strip() in self.missing else cell
         found = None if self.is_missing(cell) else self.form.fullmatch(cell.strip().replace(MINUS, "-"))
         if found is None:
@@ -52,33 +54,53 @@ class Numbers:
         return number if found["power"] is None else format(Decimal(f"{number}e{found['power']}"), "f")
 
 
+def are_short(cells):
+    """Whether the cells are whole numbers of eight digits at most, none of which is near a limit."""
+    digits = "".join(cells)
+    return digits.isdigit() and digits.isascii() and max(map(len, cells)) <= 8
+
+
 class Column:
     """What the cells of a column have been: numbers alone, or a text among them."""
 
     def __init__(self, numbers):
         self.numbers = numbers
-        # The line of the first text that is no number, and of the first number.
-        self.text_line = self.number_line = None
-        # How many values were missing, and the line of the first one.
-        self.missing, self.missing_line = 0, None
+        # Numbers that came, and need no second look.
+        self.seen = set()
+        self.has_text = self.has_number = False
+        # Whether all cells can stay as they are.
+        self.is_plain = numbers.takes_plain
+        # How many values were missing, and what stood for them.
+        self.missing, self.missing_texts = 0, set()
         # The most decimals as they stand, and without zeros at the end; the greatest magnitude.
         self.written = self.needed = 0
         self.greatest = Decimal(0)
 
-    def look_at(self, cell, line):
-        if self.text_line is not None:
-            return
-        number = self.numbers.plain(cell)
-        if number is not None:
-            self.take(number.strip(), line)
-        elif not self.numbers.is_missing(cell):
-            self.text_line = line
+    def look_at(self, cells):
+        """Takes cells in, each text once, and nothing behind the first text that is no number."""
+        new = set(cells) - self.seen
+        if self.numbers.takes_plain and not new & self.numbers.missing and are_short(new):
+            self.has_number = True
         else:
-            self.missing += 1
-            self.missing_line = self.missing_line or line
+            for cell in new:
+                self.look_at_one(cell)
+        if len(self.seen) < SEEN:
+            self.seen |= new - self.missing_texts
+        self.missing += sum(map(cells.count, self.missing_texts))
 
-    def take(self, number, line):
-        self.number_line = self.number_line or line
+    def look_at_one(self, cell):
+        number = self.numbers.plain(cell)
+        if number is not cell:
+            self.is_plain = False
+        if number is not None:
+            self.take(number.strip())
+        elif self.numbers.is_missing(cell):
+            self.missing_texts.add(cell)
+        else:
+            self.has_text = True
+
+    def take(self, number):
+        self.has_number = True
         whole, _, decimals = number.partition(".")
         if len(decimals) > self.written:
             self.written = len(decimals)
@@ -89,7 +111,7 @@ class Column:
             self.greatest = max(self.greatest, abs(Decimal(number)))
 
     def is_number(self):
-        return self.text_line is None and self.number_line is not None
+        return self.has_number and not self.has_text
 
     def decimals(self):
         """How many decimals its kind has; None where no kind of numbers holds all of its cells."""

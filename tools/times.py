@@ -8,21 +8,39 @@ from datetime import date
 # How many decimals of a second each unit has.
 UNITS = {"s": 0, "ms": 3, "us": 6, "ns": 9}
 DAY_ZERO = date(1970, 1, 1).toordinal()
+DATE = r"(\d{4})-(\d\d)-(\d\d)"
 HOUR, SIXTIETH = r"[01]\d|2[0-3]", r"[0-5]\d"
 ZONE_FORM = rf"[Zz]|[+-](?:{HOUR})(?::?{SIXTIETH})?"
-# A date; an hour and a minute; a second, and its fraction; a zone.
-CALENDAR = re.compile(
-    rf"(\d{{4}})-(\d\d)-(\d\d)(?:[Tt ]({HOUR}):({SIXTIETH})(?::({SIXTIETH})(?:[.,](\d+))?)?)?(?: ?({ZONE_FORM}))?", re.ASCII
-)
+MINUTE = re.compile(rf"{DATE}[Tt ]({HOUR}):({SIXTIETH})", re.ASCII)
+# What stands behind the seconds: a fraction and a zone.
+REST = re.compile(rf"(?:[.,](\d+))?(?: ?({ZONE_FORM}))?", re.ASCII)
+# A date without a time of day or with one, which may lack its seconds.
+WHOLE = re.compile(rf"{DATE}(?:[Tt ]({HOUR}):({SIXTIETH})(?::({SIXTIETH})(?:[.,](\d+))?)?)?(?: ?({ZONE_FORM}))?", re.ASCII)
 ZONE = re.compile(ZONE_FORM, re.ASCII)
+# A plain number; longer ones are no time.
 COUNT = re.compile(r"([+-]?\d{1,20})(?:[.,](\d{1,100}))?", re.ASCII)
-# The characters of a date, an hour and a minute: such a front comes again and again, and so does what stands behind it.
-FRONT = len("2026-03-01T00:00")
+# Where the seconds of a time begin, with the colon before them, and where they end.
+SECONDS, BEHIND = len("2026-03-01T00:00"), len("2026-03-01T00:00:00")
 REMEMBERED = 100_000
 
 
 class Unreadable(Exception):
     """A text that is no time."""
+
+
+class Known(dict):
+    """What texts mean, each worked out when it is asked for first: the same minutes and fractions come again and again."""
+
+    def __init__(self, meaning):
+        super().__init__()
+        self.meaning = meaning
+
+    def __missing__(self, text):
+        value = self.meaning(text)
+        if len(self) >= REMEMBERED:
+            self.clear()
+        self[text] = value
+        return value
 
 
 def seconds_of(zone):
@@ -34,71 +52,73 @@ def seconds_of(zone):
     return -ahead if zone[0] == "-" else ahead
 
 
+def found_in(form, text):
+    """The parts of a text of this form; an Unreadable where it is none."""
+    found = form.fullmatch(text)
+    if found is None:
+        raise Unreadable
+    return found.groups()
+
+
 class Clock:
     """Reads times in one unit. `zone` is how many seconds a time without a zone is ahead of UTC, `counted` the unit of a
     time that is a plain number, `since` the text of the time from which is counted."""
 
-    def __init__(self, unit, zone=0, counted="s", since="1970-01-01T00:00Z"):
+    def __init__(self, unit, zone=0, counted="s", since=None):
         self.decimals = UNITS[unit]
         self.second = 10**self.decimals
         self.zone = zone
         self.shift = self.decimals - UNITS[counted]
-        # The units of each front, and of each end, that came.
-        self.fronts, self.ends = {}, {}
-        # Whether a time had no zone.
-        self.lacked_zone = False
+        self.seconds = {f":{second:02}": second * self.second for second in range(60)}
         self.origin = 0
-        self.origin = self.read(since)
-        self.fronts.clear()
+        self.origin = 0 if since is None else self.whole(since)
+        self.minutes, self.rests, self.wholes = Known(self.minute), Known(self.rest), Known(self.whole)
+        # Whether a time had no zone.
         self.lacked_zone = False
 
     def units_of(self, text):
         """The time in units; an Unreadable where it is none."""
         try:
-            return self.fronts[text[:FRONT]] + self.ends[text[FRONT:]]
-        except KeyError:
-            return self.read(text.strip())
+            return self.minutes[text[:SECONDS]] + self.seconds[text[SECONDS:BEHIND]] + self.rests[text[BEHIND:]]
+        except (KeyError, Unreadable):
+            return self.wholes[text.strip()]
 
-    def read(self, text):
-        """The same of a time whose front or end did not come yet."""
-        found = CALENDAR.fullmatch(text)
-        if found is None:
-            return self.read_count(text)
-        *front, second, fraction, zone = found.groups()
-        units, more = self.front_units(front), self.end_units(second, fraction, zone)
-        # Of a date with a zone and no hour, the zone stands in the front.
-        if front[3] or not zone:
-            self.remember(text, units, more)
-        return units + more
+    def minute(self, text):
+        """The units up to the beginning of a minute."""
+        return self.day_units(*found_in(MINUTE, text)) - self.origin
 
-    def read_count(self, text):
+    def rest(self, text):
+        """The units of a fraction, less those by which the zone behind it is ahead of UTC."""
+        fraction, zone = found_in(REST, text)
+        return self.finer(fraction) - self.ahead(zone)
+
+    def whole(self, text):
+        """The units of a whole time of any form."""
+        if COUNT.fullmatch(text):
+            return self.counted(text) - self.origin
+        *day, second, fraction, zone = found_in(WHOLE, text)
+        return self.day_units(*day) + int(second or 0) * self.second + self.finer(fraction) - self.ahead(zone) - self.origin
+
+    def counted(self, text):
         """The units of a plain number, which counts from 1970."""
-        found = COUNT.fullmatch(text)
-        if found is None:
-            raise Unreadable
-        whole, fraction = found.groups(default="")
+        whole, fraction = (part or "" for part in found_in(COUNT, text))
         digits, shift = int(whole + fraction), self.shift - len(fraction)
-        return (digits * 10**shift if shift >= 0 else digits // 10**-shift) - self.origin
+        return digits * 10**shift if shift >= 0 else digits // 10**-shift
 
-    def front_units(self, front):
-        """The units up to a minute, of its year, month, day, hour and minute; the last two may be missing."""
-        year, month, day, hour, minute = (int(part or 0) for part in front)
+    def day_units(self, year, month, day, hour, minute):
         try:
-            days = date(year, month, day).toordinal() - DAY_ZERO
+            days = date(int(year), int(month), int(day)).toordinal() - DAY_ZERO
         except ValueError:
             raise Unreadable from None
-        return (days * 1440 + hour * 60 + minute) * 60 * self.second - self.origin
+        return (days * 1440 + int(hour or 0) * 60 + int(minute or 0)) * 60 * self.second
 
-    def end_units(self, second, fraction, zone):
-        """The units behind a minute, less those by which the zone is ahead of UTC."""
+    def finer(self, fraction):
+        """The units of a fraction of a second."""
+        return int((fraction or "")[: self.decimals].ljust(self.decimals, "0") or 0)
+
+    def ahead(self, zone):
+        """The units by which a zone, or none, is ahead of UTC."""
         if zone is None:
             self.lacked_zone = True
-        ahead = self.zone if zone is None else seconds_of(zone)
-        finer = int((fraction or "")[: self.decimals].ljust(self.decimals, "0") or 0)
-        return (int(second or 0) - ahead) * self.second + finer
-
-    def remember(self, text, units, more):
-        for known, part, value in ((self.fronts, text[:FRONT], units), (self.ends, text[FRONT:], more)):
-            if len(known) >= REMEMBERED:
-                known.clear()
-            known[part] = value
+            return self.zone * self.second
+        return seconds_of(zone) * self.second
