@@ -15,9 +15,17 @@ LETTERS = str.maketrans({
 })  # fmt: skip
 
 
+def count_of(heading, separator):
+    """Into how many cells a separator parts the text of a heading; none where that can't be read."""
+    try:
+        return len(next(csv.reader([heading], delimiter=separator)))
+    except csv.Error:
+        return 0
+
+
 def separator_of(heading):
     """What parts the text of a heading into most cells; a comma where nothing does."""
-    return max(SEPARATORS, key=lambda separator: len(next(csv.reader([heading], delimiter=separator), [])))
+    return max(SEPARATORS, key=lambda separator: count_of(heading, separator))
 
 
 def is_name(text):
