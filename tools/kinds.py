@@ -14,7 +14,7 @@ MISSING = ("", "na", "n/a", "#n/a", "nan", "null", "none", "-")
 # What may part the thousands of a number, beside the mark that isn't the decimal one: apostrophes, and blanks of any kind.
 THOUSANDS = "'\u2019 \u00a0\u202f\u2009"
 # When a column has so many numbers, it remembers no more of them.
-SEEN = 10_000
+SEEN = 50_000
 MINUS = "\u2212"
 
 
@@ -37,6 +37,8 @@ class Numbers:
         self.takes_plain = mark in (None, ".")
         self.form = form_of(mark or ".", thousands)
         self.missing = frozenset(MISSING) | {text.strip().lower() for text in missing}
+        # Whether digits alone are always a number, and never stand for a missing one.
+        self.takes_digits = self.takes_plain and not any(text.isdigit() for text in self.missing)
 
     def is_missing(self, cell):
         return cell.strip().lower() in self.missing
@@ -57,7 +59,7 @@ class Numbers:
 def are_short(cells):
     """Whether the cells are whole numbers of eight digits at most, none of which is near a limit."""
     digits = "".join(cells)
-    return digits.isdigit() and digits.isascii() and max(map(len, cells)) <= 8
+    return digits.isdigit() and digits.isascii() and "" not in cells and max(map(len, cells)) <= 8
 
 
 class Column:
@@ -78,12 +80,12 @@ class Column:
 
     def look_at(self, cells):
         """Takes cells in, each text once, and nothing behind the first text that is no number."""
-        new = set(cells) - self.seen
-        if self.numbers.takes_plain and not new & self.numbers.missing and are_short(new):
+        if self.numbers.takes_digits and are_short(cells):
             self.has_number = True
-        else:
-            for cell in new:
-                self.look_at_one(cell)
+            return
+        new = set(cells) - self.seen
+        for cell in new:
+            self.look_at_one(cell)
         if len(self.seen) < SEEN:
             self.seen |= new - self.missing_texts
         self.missing += sum(map(cells.count, self.missing_texts))
