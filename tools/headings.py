@@ -1,0 +1,59 @@
+"""The heading of a table: what parts its cells, and names of the language for its columns."""
+
+import csv
+import re
+import unicodedata
+
+import queries
+
+SEPARATORS = (",", ";", "\t", "|")
+NAME = re.compile(r"[A-Za-z_][A-Za-z0-9_]*")
+# Letters that have no ASCII letter in them by Unicode.
+LETTERS = str.maketrans({
+    "ß": "ss", "æ": "ae", "Æ": "AE", "œ": "oe", "Œ": "OE", "ø": "o", "Ø": "O", "ł": "l", "Ł": "L", "đ": "d", "Đ": "D",
+    "ð": "d", "þ": "th", "ı": "i", "\u00b5": "u", "\u03bc": "u",
+})  # fmt: skip
+
+
+def count_of(heading, separator):
+    """Into how many cells a separator parts the text of a heading; none where that can't be read."""
+    try:
+        return len(next(csv.reader([heading], delimiter=separator)))
+    except csv.Error:
+        return 0
+
+
+def separator_of(heading):
+    """What parts the text of a heading into most cells; a comma where nothing does."""
+    return max(SEPARATORS, key=lambda separator: count_of(heading, separator))
+
+
+def is_name(text):
+    """Whether a text is a name of the language."""
+    return NAME.fullmatch(text) is not None and text not in queries.WORDS
+
+
+def name_of(heading, place):
+    """A name for the column at a place, from 1."""
+    plain = unicodedata.normalize("NFKD", heading.translate(LETTERS))
+    letters = "".join(letter for letter in plain if not unicodedata.combining(letter))
+    name = re.sub("_+", "_", re.sub("[^A-Za-z0-9_]", "_", letters)).strip("_") if not NAME.fullmatch(heading) else heading
+    if not name:
+        return f"column_{place}"
+    if name[0].isdigit():
+        return "_" + name
+    return name + "_" if name in queries.WORDS else name
+
+
+def names_of(headings, renamed):
+    """A name for each heading, none of them twice. `renamed` has those that were asked for, by their place from 0."""
+    names, taken = dict(renamed), set(renamed.values())
+    for place, heading in enumerate(headings):
+        if place not in names:
+            wanted = name = name_of(heading, place + 1)
+            number = 2
+            while name in taken:
+                name, number = f"{wanted}_{number}", number + 1
+            names[place] = name
+            taken.add(name)
+    return [names[place] for place in range(len(headings))]
