@@ -100,6 +100,10 @@ LIMIT_NUMBERS = {
     2_097_152: "the input has more than 2,097,152 rows, the header and blank ones counted",
 }
 
+# Those that a long table meets, and the page that says how it is read then.
+LIMITS_OF_ROWS = (1_048_576, 2_097_152)
+LONGER = 'docs/recipes.md, "Past a million rows"'
+
 # ---- What is written as in other languages, and refused. A hint is shown where the code is this one, what stands at the
 # place begins as said, and the grammar takes there what is said (all of it, where nothing is).
 Hint = namedtuple("Hint", "code begins wants words")
@@ -114,7 +118,7 @@ HINTS = [
     Hint(1, "[\u2018\u2019\u201c\u201d`\u00b4]", None, "The quote of a text is the straight one, '."),
     Hint(1, "[\u00a0\u2007\u202f\ufeff]", None, "It looks like a blank, and is none: blanks, tabs and line ends are."),
     Hint(1, "[\u2013\u2014\u2212]", None, "The minus is the ASCII one, -."),
-    Hint(1, r"[\u0080-\U0010ffff]", "name", "A name has ASCII letters, digits and _ alone: change the table's heading."),
+    Hint(1, r"(?![\0-\x7f])\w", None, "A name has ASCII letters, digits and _ alone: tools/prepare renames the table's headings (docs/prepare.md)."),
     Hint(11, r"=", "literal", "Equal is one =."),
     Hint(11, r"!", "=", "`Not equal` is <>."),
     Hint(11, r"!", "literal", "A ! stands in front of a name of the pattern; a predicate is negated by NOT."),

@@ -50,6 +50,8 @@ COMMANDS = {
 }
 # Those that have to be there where a command has them.
 NEEDED = {"schedule", "list", "then", "return"}
+# What the launcher answers.
+HELPS = ["--help", "--version", "help", "version"]
 # What stands behind `drill`, before its options.
 DRILL = [("how many events", Number(1, 1_048_576, 10)), ("the seed", Number(0, 4_294_967_295, 10))]
 HYPHENS = "\u2010\u2011\u2012\u2013\u2014\u2212"
@@ -317,6 +319,9 @@ def wrong_command(words):
     word, every = words[0], listed(list(COMMANDS), "or")
     if word in COMMANDS:
         return None
+    answered = nearest(word, HELPS)
+    if answered and len(words) <= 2 and nearest(word, list(COMMANDS)) is None:
+        return Fault(0, 1, [f"There is no {'option' if word.startswith('-') else 'command'} {shown_word(word)}. Is it {answered}?"])
     at = next((at for at, it in enumerate(words) if it in COMMANDS), None)
     if word.startswith("-") and at is not None:
         return Fault(0, 1, [f"The command stands first: spectre {words[at]} .."], [[words[at], *without(words, at, at + 1)]])

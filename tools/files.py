@@ -1,12 +1,15 @@
-"""Why a file can't be read, in words, and which name was meant."""
+"""Why a file can't be read, in words, and which name was meant; and how the tools and the pages are called here."""
 
 import difflib
 import errno
 import itertools
 import os
 
-# How many names of a folder are looked at.
+# What tools/install put somewhere has a list of its files in the folder above the tools, and no pages.
+IS_INSTALLED = os.path.isfile(os.path.join(os.path.dirname(os.path.dirname(os.path.realpath(__file__))), "installed"))
+# How many names of a folder are looked at, and how alike two names are at least, and so without their endings.
 NAMES = 10_000
+LIKENESS = 0.6
 NO_PERMISSION = "there is no permission to read it: `ls -l` shows whose it is"
 REASONS = {
     errno.EISDIR: "it is a folder, and no file: name a file in it",
@@ -18,6 +21,22 @@ REASONS = {
 }
 
 
+def tool(name):
+    """A tool as it can be typed."""
+    return f"spectre-{name}" if IS_INSTALLED else f"tools/{name}"
+
+
+def page(name):
+    """A page as it can be found."""
+    return f"{name}, in the folder of the sources" if IS_INSTALLED else name
+
+
+def is_near(name, other):
+    """Whether two names look alike, and that not by their endings alone."""
+    stems = (os.path.splitext(name)[0], os.path.splitext(other)[0])
+    return all(difflib.SequenceMatcher(None, *pair).ratio() >= LIKENESS for pair in ((name, other), stems))
+
+
 def nearest_in(folder, name):
     """The name in a folder that looks like this one; None where none does."""
     try:
@@ -26,8 +45,9 @@ def nearest_in(folder, name):
     except OSError:
         return None
     folded = {other.lower(): other for other in names if other != name}
-    close = difflib.get_close_matches(name.lower(), sorted(folded), n=1)
-    return folded[close[0]] if close else None
+    close = difflib.get_close_matches(name.lower(), sorted(folded), n=10, cutoff=LIKENESS)
+    near = next((it for it in close if is_near(name.lower(), it)), None)
+    return None if near is None else folded[near]
 
 
 def missing(name):
