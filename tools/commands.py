@@ -319,8 +319,10 @@ def wrong_command(words):
     word, every = words[0], listed(list(COMMANDS), "or")
     if word in COMMANDS:
         return None
+    if word in ("--help", "-h") and len(words) > 1 and words[1] not in COMMANDS:
+        return Fault(1, len(words), [f"Behind {word} stands one command, or nothing; it is {every}."])
     answered = nearest(word, HELPS)
-    if answered and len(words) <= 2 and nearest(word, list(COMMANDS)) is None:
+    if answered not in (None, word) and len(words) <= 2 and nearest(word, list(COMMANDS)) is None:
         return Fault(0, 1, [f"There is no {'option' if word.startswith('-') else 'command'} {shown_word(word)}. Is it {answered}?"])
     at = next((at for at, it in enumerate(words) if it in COMMANDS), None)
     if word.startswith("-") and at is not None:
