@@ -103,6 +103,9 @@ LIMIT_NUMBERS = {
 # Those that a long table meets, and the page that says how it is read then.
 LIMITS_OF_ROWS = (1_048_576, 2_097_152)
 LONGER = 'docs/recipes.md, "Past a million rows"'
+# Two more pages that are named.
+NEGATED = 'docs/language.md, "Negated names"'
+NO_LINE = 'docs/recipes.md, "No line, and why"'
 
 # ---- What is written as in other languages, and refused. A hint is shown where the code is this one, what stands at the
 # place begins as said, and the grammar takes there what is said (all of it, where nothing is).
