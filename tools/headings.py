@@ -3,6 +3,7 @@
 import csv
 import re
 import unicodedata
+from collections import namedtuple
 
 import queries
 
@@ -13,6 +14,9 @@ LETTERS = str.maketrans({
     "ß": "ss", "æ": "ae", "Æ": "AE", "œ": "oe", "Œ": "OE", "ø": "o", "Ø": "O", "ł": "l", "Ł": "L", "đ": "d", "Đ": "D",
     "ð": "d", "þ": "th", "ı": "i", "\u00b5": "u", "\u03bc": "u",
 })  # fmt: skip
+
+# What stands over a table: how many lines behind the first, how many cells the table's first line has, what parts these.
+Title = namedtuple("Title", "more cells separator")
 
 
 def count_of(heading, separator):
@@ -26,6 +30,16 @@ def count_of(heading, separator):
 def separator_of(heading):
     """What parts the text of a heading into most cells; a comma where nothing does."""
     return max(SEPARATORS, key=lambda separator: count_of(heading, separator))
+
+
+def title_over(lines, separators):
+    """Whether these lines are of a table, and a line of one cell before them so its title: before which of them, from 0, the table
+    begins, how many cells that one has, and what parts them. None where most lines have one cell too."""
+    separator = max(separators, key=lambda mark: sum(count_of(line, mark) > 1 for line in lines))
+    counts = [count_of(line, separator) for line in lines]
+    parted = [place for place, count in enumerate(counts) if count > 1]
+    is_over = len(parted) * 2 > sum(count > 0 for count in counts)
+    return Title(parted[0], counts[parted[0]], separator) if is_over else None
 
 
 def is_name(text):

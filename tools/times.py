@@ -1,6 +1,7 @@
 """Times as people write them, as whole units since 1970 or another time, by whole numbers alone.
 
-A time is ISO 8601, or a plain number of seconds. What is finer than the unit is cut off downwards."""
+A time is ISO 8601, or a plain number of seconds, or of the form that was asked for. What is finer than the unit is cut off
+downwards."""
 
 import re
 from datetime import date
@@ -22,10 +23,26 @@ COUNT = re.compile(r"([+-]?\d{1,20})(?:[.,](\d{1,100}))?", re.ASCII)
 # Where the seconds of a time begin, with the colon before them, and where they end.
 SECONDS, BEHIND = len("2026-03-01T00:00"), len("2026-03-01T00:00:00")
 REMEMBERED = 100_000
+# Of each letter of a form the part of a time that it stands for, and the texts that it takes.
+ONE_OR_TWO, TWO = r"\d\d?", r"\d\d"
+LETTERS = {
+    "Y": ("year", r"\d{4}"), "y": ("year", TWO), "m": ("month", ONE_OR_TWO), "b": ("month", "[a-z]+"), "B": ("month", "[a-z]+"),
+    "d": ("day", ONE_OR_TWO), "H": ("hour", ONE_OR_TWO), "I": ("hour", ONE_OR_TWO), "p": ("half", "[ap]m"), "M": ("minute", ONE_OR_TWO),
+    "S": ("second", ONE_OR_TWO), "f": ("fraction", r"\d+"), "z": ("zone", ZONE_FORM),
+}  # fmt: skip
+DIGITS = frozenset("YymdHIMSf")
+PARTS = ("year", "month", "day", "hour", "half", "minute", "second", "fraction", "zone")
+MONTHS = ("january", "february", "march", "april", "may", "june", "july", "august", "september", "october", "november", "december")
+# A date with the day or the month first, and the time of day behind it, as a form would have to take them.
+OTHER_DATE = re.compile(r"\d{1,2}([./-])\d{1,2}\1\d{4}(?:([T ])\d{1,2}:\d\d(:\d\d)?(?:([.,])\d+)?)?", re.ASCII)
 
 
 class Unreadable(Exception):
     """A text that is no time."""
+
+
+class BadForm(Exception):
+    """A form of times that can't be meant; the text says why."""
 
 
 class Known(dict):
@@ -122,3 +139,101 @@ class Clock:
             self.lacked_zone = True
             return self.zone * self.second
         return seconds_of(zone) * self.second
+
+
+# ---- Times of another form.
+
+
+def form_like(text):
+    """The forms by which a text may be a time that isn't ISO 8601, as the words of the call have them; None where it has none
+    of the usual ones."""
+    found = OTHER_DATE.fullmatch(text.strip())
+    if found is None:
+        return None
+    mark, between, seconds, point = found.groups()
+    behind = f"{between}%H:%M{':%S' if seconds else ''}{f'{point}%f' if point else ''}" if between else ""
+    orders = ("dmY",) if mark == "." else ("dmY", "mdY")
+    return " or ".join("'" + mark.join("%" + letter for letter in order) + behind + "'" for order in orders)
+
+
+def pieces_of(form):
+    """The pieces of a form: each a letter behind a %, and none, or a text that stands for itself, and no letter."""
+    pieces = re.findall(r"%(.?)|([^%]+)", form, re.DOTALL)
+    pieces = [("", "%") if letter == "%" else (letter, text) for letter, text in pieces]
+    for letter, text in pieces:
+        if not text and letter not in LETTERS:
+            raise BadForm(f"--form has %{letter}, and takes " + " ".join("%" + known for known in LETTERS) + " and %%")
+    return pieces
+
+
+def pattern_of(form):
+    """What finds the parts of a time of this form. One that the form lacks is found as an empty text."""
+    pieces = pieces_of(form.strip())
+    parts = [LETTERS[letter][0] for letter, _ in pieces if letter]
+    if len(set(parts)) < len(parts):
+        raise BadForm("--form names a part of the time twice")
+    if not {"year", "month", "day"} <= set(parts):
+        raise BadForm("--form needs a year, a month and a day, as '%d.%m.%Y'")
+    if ("half" in parts) != any(letter == "I" for letter, _ in pieces):
+        raise BadForm("--form takes %I and %p together, or neither")
+    pattern = "".join(piece_pattern(pieces, place) for place in range(len(pieces)))
+    return re.compile(pattern + "".join(f"(?P<{part}>)" for part in PARTS if part not in parts), re.ASCII | re.IGNORECASE)
+
+
+def piece_pattern(pieces, place):
+    """The pattern of one piece of a form. Digits right beside others are always two, so that a text has one reading."""
+    letter, text = pieces[place]
+    if not letter:
+        return r"\s+".join(map(re.escape, re.split(r"\s+", text)))
+    part, takes = LETTERS[letter]
+    is_beside = any(other in DIGITS for other, _ in pieces[max(place - 1, 0) : place] + pieces[place + 1 : place + 2])
+    return f"(?P<{part}>{TWO if is_beside and takes == ONE_OR_TWO else takes})"
+
+
+def month_in(text):
+    """The number of a month that is a number, or an English name or the first three letters of one."""
+    if text.isdigit():
+        return int(text)
+    for number, name in enumerate(MONTHS, 1):
+        if text.lower() in (name, name[:3]):
+            return number
+    raise Unreadable
+
+
+def year_in(text):
+    """The year; one of two digits is from 1969 to 2068."""
+    year = int(text)
+    return year if len(text) > 2 else year + (1900 if year >= 69 else 2000)
+
+
+class FormClock(Clock):
+    """Reads times of one form alone, that of Python's strptime, with any number of digits behind the second."""
+
+    def __init__(self, form, *others, **more):
+        super().__init__(*others, **more)
+        self.find = pattern_of(form).fullmatch
+        self.begun, self.behind = Known(self.minute_of), Known(self.rest_of)
+
+    def units_of(self, text):
+        found = self.find(text.strip())
+        if found is None:
+            raise Unreadable
+        year, month, day, hour, half, minute, second, fraction, zone = found.group(*PARTS)
+        return self.begun[year, month, day, hour, half, minute] + self.behind[second, fraction, zone]
+
+    def minute_of(self, parts):
+        """The units up to the beginning of a minute."""
+        year, month, day, hour, half, minute = parts
+        hour, minute = int(hour or 0), int(minute or 0)
+        if minute > 59 or hour > 23 or half and not 1 <= hour <= 12:
+            raise Unreadable
+        if half:
+            hour = hour % 12 + (12 if half.lower() == "pm" else 0)
+        return self.day_units(year_in(year), month_in(month), day, hour, minute) - self.origin
+
+    def rest_of(self, parts):
+        """The units behind the beginning of a minute."""
+        second, fraction, zone = parts
+        if int(second or 0) > 59:
+            raise Unreadable
+        return int(second or 0) * self.second + self.finer(fraction) - self.ahead(zone or None)
