@@ -52,6 +52,8 @@ COMMANDS = {
 NEEDED = {"schedule", "list", "then", "return"}
 # What the launcher answers.
 HELPS = ["--help", "--version", "help", "version"]
+# What is written for these as of other programs.
+HELP_LETTERS = {"-v": "--version", "-H": "--help", "-?": "--help"}
 # What stands behind `drill`, before its options.
 DRILL = [("how many events", Number(1, 1_048_576, 10)), ("the seed", Number(0, 4_294_967_295, 10))]
 HYPHENS = "\u2010\u2011\u2012\u2013\u2014\u2212"
@@ -321,7 +323,8 @@ def wrong_command(words):
         return None
     if word in ("--help", "-h") and len(words) > 1 and words[1] not in COMMANDS:
         return Fault(1, len(words), [f"Behind {word} stands one command, or nothing; it is {every}."])
-    answered = nearest(word, HELPS)
+    answered = HELP_LETTERS.get(word) if len(words) == 1 else None
+    answered = answered or nearest(word, HELPS)
     if answered not in (None, word) and len(words) <= 2 and nearest(word, list(COMMANDS)) is None:
         return Fault(0, 1, [f"There is no {'option' if word.startswith('-') else 'command'} {shown_word(word)}. Is it {answered}?"])
     at = next((at for at, it in enumerate(words) if it in COMMANDS), None)

@@ -4,6 +4,8 @@ import difflib
 import errno
 import itertools
 import os
+import shutil
+import sys
 
 # What tools/install put somewhere has a list of its files in the folder above the tools, and no pages.
 IS_INSTALLED = os.path.isfile(os.path.join(os.path.dirname(os.path.dirname(os.path.realpath(__file__))), "installed"))
@@ -24,6 +26,14 @@ REASONS = {
 def tool(name):
     """A tool as it can be typed."""
     return f"spectre-{name}" if IS_INSTALLED else f"tools/{name}"
+
+
+def called(name):
+    """This tool as it was called: by its name alone, where the PATH leads to it."""
+    if IS_INSTALLED:
+        return tool(name)
+    bare = os.path.basename(sys.argv[0])
+    return bare if shutil.which(bare) == sys.argv[0] else sys.argv[0]
 
 
 def page(name):
