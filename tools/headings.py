@@ -15,6 +15,9 @@ LETTERS = str.maketrans({
     "ð": "d", "þ": "th", "ı": "i", "\u00b5": "u", "\u03bc": "u",
 })  # fmt: skip
 
+# What begins a comment, in files of some programs.
+COMMENT = "#"
+
 # What stands over a table: how many lines behind the first, how many cells the table's first line has, what parts these.
 Title = namedtuple("Title", "more cells separator")
 
@@ -32,13 +35,18 @@ def separator_of(heading):
     return max(SEPARATORS, key=lambda separator: count_of(heading, separator))
 
 
-def title_over(lines, separators):
-    """Whether these lines are of a table, and a line of one cell before them so its title: before which of them, from 0, the table
-    begins, how many cells that one has, and what parts them. None where most lines have one cell too."""
+def title_over(first, lines, separators):
+    """Whether these lines are of a table, and the first one, which stands before them, its title, with those of one cell behind
+    it: before which of the lines, from 0, the table begins, how many cells that one has, and what parts them. None where most
+    have one cell too. A first line that begins as a comment is a title also where it has some cells, if another comment follows
+    it, or if most lines have another count of cells."""
     separator = max(separators, key=lambda mark: sum(count_of(line, mark) > 1 for line in lines))
-    counts = [count_of(line, separator) for line in lines]
+    counts = [0 if line.startswith(COMMENT) else count_of(line, separator) for line in lines]
     parted = [place for place, count in enumerate(counts) if count > 1]
     is_over = len(parted) * 2 > sum(count > 0 for count in counts)
+    own = count_of(first, separator)
+    if own > 1 and not any(line.startswith(COMMENT) for line in lines[:1]):
+        is_over = is_over and sum(count != own for count in counts if count) * 2 > sum(count > 0 for count in counts)
     return Title(parted[0], counts[parted[0]], separator) if is_over else None
 
 

@@ -34,7 +34,11 @@ DIGITS = frozenset("YymdHIMSf")
 PARTS = ("year", "month", "day", "hour", "half", "minute", "second", "fraction", "zone")
 MONTHS = ("january", "february", "march", "april", "may", "june", "july", "august", "september", "october", "november", "december")
 # A date with the day or the month first, and the time of day behind it, as a form would have to take them.
-OTHER_DATE = re.compile(r"\d{1,2}([./-])\d{1,2}\1\d{4}(?:([T ])\d{1,2}:\d\d(:\d\d)?(?:([.,])\d+)?)?", re.ASCII)
+OTHER_DATE = re.compile(
+    r"(\d{1,2})([./-])(\d{1,2})\2(\d{4}|\d\d)(?:([T ])\d{1,2}:\d\d(:\d\d)?(?:([.,])\d+)?(?:( ?)[AP]M)?)?", re.ASCII | re.IGNORECASE
+)
+# A time of day without its date.
+DAY_TIME = re.compile(r"\d{1,2}:\d\d(:\d\d([.,]\d+)?)?( ?[AP]M)?", re.ASCII | re.IGNORECASE)
 
 
 class Unreadable(Exception):
@@ -87,11 +91,11 @@ class Clock:
         self.zone = zone
         self.shift = self.decimals - UNITS[counted]
         self.seconds = {f":{second:02}": second * self.second for second in range(60)}
-        self.origin = 0
+        self.origin, self.had_hours = 0, False
         self.origin = 0 if since is None else self.whole(since)
         self.minutes, self.rests, self.wholes = Known(self.minute), Known(self.rest), Known(self.whole)
-        # Whether a time had no zone.
-        self.lacked_zone = False
+        # Whether a time had no zone, and whether one was more than a date alone.
+        self.lacked_zone = self.had_hours = False
 
     def units_of(self, text):
         """The time in units; an Unreadable where it is none."""
@@ -102,7 +106,9 @@ class Clock:
 
     def minute(self, text):
         """The units up to the beginning of a minute."""
-        return self.day_units(*found_in(MINUTE, text)) - self.origin
+        units = self.day_units(*found_in(MINUTE, text)) - self.origin
+        self.had_hours = True
+        return units
 
     def rest(self, text):
         """The units of a fraction, less those by which the zone behind it is ahead of UTC."""
@@ -112,8 +118,10 @@ class Clock:
     def whole(self, text):
         """The units of a whole time of any form."""
         if COUNT.fullmatch(text):
+            self.had_hours = True
             return self.counted(text) - self.origin
         *day, second, fraction, zone = found_in(WHOLE, text)
+        self.had_hours = self.had_hours or day[-1] is not None
         return self.day_units(*day) + int(second or 0) * self.second + self.finer(fraction) - self.ahead(zone) - self.origin
 
     def counted(self, text):
@@ -144,16 +152,22 @@ class Clock:
 # ---- Times of another form.
 
 
-def form_like(text):
-    """The forms by which a text may be a time that isn't ISO 8601, as the words of the call have them; None where it has none
-    of the usual ones."""
+def forms_like(text):
+    """The forms by which a text may be a time that isn't ISO 8601; none where it has none of the usual ones. Where a number is
+    no month, it is the day; else with points the day comes first, and with other marks either may."""
     found = OTHER_DATE.fullmatch(text.strip())
     if found is None:
-        return None
-    mark, between, seconds, point = found.groups()
-    behind = f"{between}%H:%M{':%S' if seconds else ''}{f'{point}%f' if point else ''}" if between else ""
-    orders = ("dmY",) if mark == "." else ("dmY", "mdY")
-    return " or ".join("'" + mark.join("%" + letter for letter in order) + behind + "'" for order in orders)
+        return []
+    first, mark, second, year, between, seconds, point, before_half = found.groups()
+    if mark == "-" and len(year) == 2:
+        return []
+    hours = "%H:%M" if before_half is None else "%I:%M"
+    half = "" if before_half is None else before_half + "%p"
+    behind = f"{between}{hours}{':%S' if seconds else ''}{f'{point}%f' if point else ''}{half}" if between else ""
+    fits = {"dm": 1 <= int(second) <= 12, "md": 1 <= int(first) <= 12}
+    orders = [order for order, fit in fits.items() if fit][: 1 if mark == "." else 2]
+    letter = "Y" if len(year) == 4 else "y"
+    return [mark.join("%" + it for it in order + letter) + behind for order in orders]
 
 
 def pieces_of(form):
@@ -224,6 +238,7 @@ class FormClock(Clock):
     def minute_of(self, parts):
         """The units up to the beginning of a minute."""
         year, month, day, hour, half, minute = parts
+        self.had_hours = self.had_hours or hour != ""
         hour, minute = int(hour or 0), int(minute or 0)
         if minute > 59 or hour > 23 or half and not 1 <= hour <= 12:
             raise Unreadable
