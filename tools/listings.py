@@ -18,6 +18,8 @@ TOLD = 4
 # numbers of each name behind it, in pairs.
 Head = namedtuple("Head", "line window first last skipped used")
 Match = namedtuple("Match", "line window number bound used")
+# What a query says of a match: the names of each element that isn't negated, and those whose events are used up.
+Pattern = namedtuple("Pattern", "elements consumed")
 # What is false: at which line of the listing, and in words.
 Fault = namedtuple("Fault", "line says")
 
@@ -38,7 +40,7 @@ def head_in(line, text):
     if found is None:
         return None
     window, first, last = map(int, found.groups()[:3])
-    return Head(line, window, first, last, numbers_in(found[4]), numbers_in(found[5]))
+    return Head(line, window, first, last, frozenset(numbers_in(found[4])), frozenset(numbers_in(found[5])))
 
 
 def match_in(line, text):
@@ -66,10 +68,10 @@ def elements_of(query):
     return elements
 
 
-def consumed_names(query):
-    """The names whose events a match uses up."""
-    words = [piece.text for piece in queries.clauses_of(query)["CONSUME"][1:]]
-    return [name for element in elements_of(query) for name in element if name in words or words == ["ALL"]]
+def pattern_of(query):
+    """The pattern of a query."""
+    elements, words = elements_of(query), [piece.text for piece in queries.clauses_of(query)["CONSUME"][1:]]
+    return Pattern(elements, [name for element in elements for name in element if name in words or words == ["ALL"]])
 
 
 def wrong_span(query, head):
@@ -84,18 +86,18 @@ def wrong_span(query, head):
         yield f"it has {head.last + 1 - head.first} events from {head.first} to {head.last}, and a window at most {length[0]}"
 
 
-def wrong_order(query, match):
+def wrong_order(pattern, match):
     """What is false in the order and the use of a match's events by its query, in words."""
-    elements, bound = elements_of(query), dict(match.bound)
-    if [name for name, _ in match.bound] != [name for element in elements for name in element]:
+    bound = dict(match.bound)
+    if list(bound) != [name for element in pattern.elements for name in element]:
         return
     before = 0
-    for element in elements:
+    for element in pattern.elements:
         events = sorted(event for name in element for event in bound[name])
         if events and events[0] <= before:
             yield f"{events[0]}, of {' and '.join(element)}, doesn't come behind {before}, of a name before"
         before = max([before, *events])
-    used = sorted(event for name in consumed_names(query) for event in bound[name])
+    used = sorted(event for name in pattern.consumed for event in bound[name])
     if used != match.used:
         yield f"by the query it uses {told(used) or 'nothing'}, and not {told(match.used) or 'nothing'}"
 
@@ -110,7 +112,7 @@ def wrong_head(head, before, consumed):
     if before and head.first < before.first:
         yield f"it begins at event {head.first}, and window {before.window} at {before.first}"
     skipped = {event for event in consumed if head.first <= event <= head.last}
-    lacking, extra = sorted(skipped - set(head.skipped)), sorted(set(head.skipped) - skipped)
+    lacking, extra = sorted(skipped - head.skipped), sorted(head.skipped - skipped)
     if lacking:
         yield f"skip= lacks {told(lacking)}, used up by windows before it"
     if extra:
@@ -120,7 +122,7 @@ def wrong_head(head, before, consumed):
 def wrong_use(head, matches):
     """What is false in what a window's matches use, in words."""
     used = {event for match in matches for event in match.used}
-    lacking, extra = sorted(used - set(head.used)), sorted(set(head.used) - used)
+    lacking, extra = sorted(used - head.used), sorted(head.used - used)
     if lacking:
         yield f"used= lacks {told(lacking)}, which a match below it uses"
     if extra:
@@ -153,9 +155,9 @@ def wrong_match(match, head, due, taken):
 
 def wrong_matches(head, matches, counted, query):
     """The first fault of each line of a match."""
-    due, taken, ended = counted + 1, set(), 0
+    due, taken, ended, pattern = counted + 1, set(), 0, pattern_of(query) if query else None
     for match in matches:
-        found = [*wrong_match(match, head, due, taken), *(wrong_order(query, match) if query else ())]
+        found = [*wrong_match(match, head, due, taken), *(wrong_order(pattern, match) if pattern else ())]
         last = max((event for _, numbers in match.bound for event in numbers), default=0)
         if not found and last < ended:
             found = [f"it is complete at event {last}, and the match in front of it at {ended}"]
