@@ -209,7 +209,9 @@ impl Bench<'_> {
     ) -> Result<(), AllocError> {
         let given = self.core.give_back(alloc, piece);
         out.number("return ", i128::from(ticket));
-        push_given(&given, out)
+        let pushed = push_given(&given, out);
+        drop(given);
+        pushed
     }
 
     // The piece of a ticket is given back.

@@ -1,5 +1,5 @@
 // Jobs that are like others but for one thing.
-ghost use Rattle.std.specs.Prelude.{◌≡◌, ◌∷◌, []};
+ghost use Rattle.std.specs.Prelude.{◌≡◌, ◌∷◌, [], IfOk};
 ghost use Rattle.sp_match.specs.declared.known.Known.TheVariants.{Any};
 ghost use Rattle.sp_piece.specs.Lending.{IsLendable};
 ghost use Rattle.sp_piece.specs.Reading.{consumes};
@@ -7,26 +7,37 @@ ghost use Rattle.sp_piece.specs.Reading.{consumes};
 use sp_match::{Known, Matcher};
 use sp_piece::Job;
 use sp_plan::{Event, Listed};
-use sp_share::{Held, Spares};
+use sp_share::{Held, Shared, Spares};
 use std::alloc::{AllocError, Global};
 
+// A handle of a matcher.
+fn handle_of(alloc: Global, matcher: Matcher) -> Result<Shared, AllocError>
+    ensures { IfOk result (λ shared. shared ≡ matcher) }
+{
+    let mut spares = Spares::new(alloc)?;
+    let mut held = Held::new(matcher);
+    let handle = held.lend(alloc, &mut spares);
+    drop(held);
+    drop(spares);
+    Ok(handle?)
+}
+
 // The job with this matcher and one event.
-fn with(alloc: Global, job: &Job, before: Matcher, event: Event) -> Result<Job, AllocError>
+fn with(alloc: Global, job: &Job, before: Shared, event: Event) -> Result<Job, AllocError>
     requires lendable { IsLendable before (event ∷ []) (Any ∷ []) job.now.first }
     requires wants { job.now.wants ≡ consumes before.plan }
 {
     let events = vec![in alloc; event]?;
     let known = vec![in alloc; Known::Any]?;
-    let mut held = Held::new(before);
-    let mut spares = Spares::new(alloc)?;
+    let snapshot = job.snapshot.copy(alloc)?;
     Ok(Job {
         ticket: job.ticket,
         version: job.version,
         first: job.first,
-        before: held.lend(alloc, &mut spares)?,
+        before,
         events: Listed::of(events),
         known: Listed::of(known),
-        snapshot: job.snapshot.copy(alloc)?,
+        snapshot,
         closes: job.closes,
         wants: job.wants,
     })
@@ -45,7 +56,8 @@ pub(crate) fn with_other_event(alloc: Global, job: &Job) -> Result<Option<Job>, 
         time: 0,
         values: event.values.copy(alloc)?,
     };
-    Ok(Some(with(alloc, job, job.before.get().copy(alloc)?, other)?))
+    let before = handle_of(alloc, job.before.get().copy(alloc)?)?;
+    Ok(Some(with(alloc, job, before, other)?))
 }
 
 /// A job of one event once more, with a matcher that has no run. None of a job without events.
@@ -55,5 +67,5 @@ pub(crate) fn with_other_matcher(alloc: Global, job: &Job) -> Result<Option<Job>
     };
     let mut before = job.before.get().copy(alloc)?;
     before.clear();
-    Ok(Some(with(alloc, job, before, event.copy(alloc)?)?))
+    Ok(Some(with(alloc, job, handle_of(alloc, before)?, event.copy(alloc)?)?))
 }

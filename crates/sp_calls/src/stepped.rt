@@ -86,16 +86,30 @@ fn read(alloc: Global, piece: &mut Piece) -> Result<(), AllocError> {
     Ok(())
 }
 
+// Gives a piece back; answers whether there was memory for it.
+fn give(alloc: Global, core: &mut Core, piece: Piece) -> bool {
+    let given = core.give_back(alloc, piece);
+    let is_given = given.is_ok();
+    drop(given);
+    is_given
+}
+
+// Has a piece read whole, and gives it back.
+fn read_and_give(alloc: Global, core: &mut Core, piece: Piece) -> Result<(), AllocError> {
+    let mut piece = piece;
+    let read = read(alloc, &mut piece);
+    if give(alloc, core, piece) {
+        read
+    } else {
+        Err(AllocError)
+    }
+}
+
 // Lends a version its next events, has them read, and gives the piece back.
 fn read_on(alloc: Global, core: &mut Core, version: u64) -> Result<(), AllocError> {
-    let Ok(job) = core.lease(alloc, version, LENT) else {
-        return Ok(());
-    };
-    let mut piece = Piece::start(alloc, job);
-    read(alloc, &mut piece)?;
-    match core.give_back(alloc, piece) {
-        Ok(_) => Ok(()),
-        Err(_) => Err(AllocError),
+    match core.lease(alloc, version, LENT) {
+        Ok(job) => read_and_give(alloc, core, Piece::start(alloc, job)),
+        Err(_) => Ok(()),
     }
 }
 
