@@ -8,6 +8,7 @@ use crate::drill::{generated, summary};
 use crate::given::{events_of, plan_of};
 use crate::guessing::guess;
 use crate::lines::{read_line, written_line};
+use crate::listing::listing;
 use crate::loads::loads;
 use crate::machine::machine;
 use crate::matching::moves;
@@ -16,6 +17,7 @@ use crate::predicates::predicates;
 use crate::predicting::predict;
 use crate::queries::{printed, same};
 use crate::rows::rows;
+use crate::scanning::scan;
 use crate::schedule::schedule;
 use crate::sequence::matches;
 use crate::stepped::stepped;
@@ -101,6 +103,7 @@ fn answer_of_plan(
         "rows" => rows(alloc, plan, input, out),
         "line" => read_line(alloc, plan, input, out),
         "match" => written_line(alloc, plan, words, out),
+        "listing" => listing(alloc, plan, input, out),
         "stepped" => stepped(alloc, plan, words, out),
         _ => {
             let events = events_of(alloc, plan, input)?;
@@ -126,6 +129,7 @@ fn answer_of_events(
         // The input has ended where there is a second word.
         "plain" => matches(alloc, plan, events, words.len() > 1, out),
         "holds" => predicates(alloc, plan, events, out),
+        "scan" => scan(alloc, plan, events, words, out),
         "machine" => machine(alloc, plan, events, words, out),
         _ => Ok(out.text("no such call\n")),
     }

@@ -5,26 +5,31 @@ ghost use Rattle.sp_plan.specs.Compiled.{IsCompiled};
 ghost use Rattle.sp_plan.specs.Events.{AllFit, NeverGoesBack};
 
 use crate::text::AnswerText;
-use sp_plan::{Event, Match, Plan};
+use sp_plan::{Event, Match, Places, Plan};
 use sp_seq::plain;
 use std::alloc::{AllocError, Global};
 use std::sync::Arc;
+
+/// Appends the events of each name that a match binds, and those that it consumes.
+pub(crate) fn push_bound(bound: &[(u8, Places)], used: &Places, out: &mut AnswerText) {
+    for (name, places) in bound {
+        out.number(" ", *name as i128);
+        out.list(" ", places.list());
+    }
+    out.list(" uses ", used.list());
+    out.text("\n");
+}
 
 // Appends a match: its window, its own number, the events of each name, and those that it consumes.
 fn push_match(one: &Match, out: &mut AnswerText) {
     out.number("", one.window as i128);
     out.number(" ", one.number as i128);
     out.text(":");
-    for (name, places) in one.bound.as_slice() {
-        out.number(" ", *name as i128);
-        out.list(" ", places.list());
-    }
-    out.list(" uses ", one.used.list());
-    out.text("\n");
+    push_bound(one.bound.as_slice(), &one.used, out);
 }
 
-// Whether all events fit the plan.
-fn all_fit(plan: &Plan, events: &[Event]) -> bool
+/// Whether all events fit the plan.
+pub(crate) fn all_fit(plan: &Plan, events: &[Event]) -> bool
     ensures { IsTrue result → AllFit plan.now events.now }
 {
     for event in events {

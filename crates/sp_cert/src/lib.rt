@@ -12,8 +12,6 @@ mod pass;
 mod proving;
 mod same;
 mod spans;
-#[cfg(test)]
-mod tests;
 
 pub use checking::{Verdict, check};
 pub use law::{local_and_pass_are_proofs, proofs_tell_the_run};

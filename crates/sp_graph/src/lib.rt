@@ -6,8 +6,6 @@ mod bind;
 pub mod law;
 mod outcome;
 mod table;
-#[cfg(test)]
-mod tests;
 mod texts;
 
 pub use law::returned_texts_are_there;

@@ -10,8 +10,6 @@ mod limit;
 mod line;
 mod proof;
 mod read;
-#[cfg(test)]
-mod tests;
 mod write;
 
 pub use fault::ListFault;

@@ -12,8 +12,6 @@ mod pairs;
 mod run;
 mod runs;
 mod scan;
-#[cfg(test)]
-mod tests;
 mod turns;
 
 pub use found::Found;

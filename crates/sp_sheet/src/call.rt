@@ -37,8 +37,10 @@ pub struct Call {
     /// Files with their names.
     pub files: Vec<(String, Vec<u8>)>,
     pub failing: Failing,
-    /// Which of a run's jobs are delayed.
+    /// Which of a run's jobs are delayed or held.
     pub delayed: Delayed,
+    /// Whether a run may choose among three predictors that count, and not among the usual ones.
+    pub counts_predictors: bool,
     /// What of a run's journal stands behind the output.
     pub told: Told,
     /// Whether the row says what the input has left.
@@ -78,9 +80,11 @@ impl Call {
         Ok(alone)
     }
 
-    /// The command `plain` with the same query, which is a word, over the same input.
+    /// The command `plain` with the same query, which is a word, over the same input, with nothing told but the lines.
     pub(crate) fn as_plain(&self, alloc: Global) -> Result<Call, AllocError> {
         let mut plain = self.clone()?;
+        plain.delayed = Delayed::None;
+        plain.counts_predictors = false;
         plain.words.truncate(3);
         if let Some(first) = plain.words.first_mut() {
             *first = String::from_str(alloc, "plain")?;

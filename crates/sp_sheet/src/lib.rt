@@ -16,7 +16,7 @@ mod telling;
 mod told;
 
 pub use call::{Call, Failing, Outcome};
-pub use delayed::Delayed;
+pub use delayed::{Delayed, Pair};
 pub use row::Row;
 pub use sheet::{Way, read_sheet};
 pub use told::Told;

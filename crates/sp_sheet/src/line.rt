@@ -161,6 +161,10 @@ pub(crate) fn put(
             row.is_as_plain = true;
             Ok(())
         }
+        "counting" => {
+            row.call.counts_predictors = true;
+            Ok(())
+        }
         _ => match str::from_utf8(text.bytes.as_slice()) {
             Ok(text) => put_text(alloc, key, times, text, row),
             Err(_) => Err(Fault("bytes that are no text")),

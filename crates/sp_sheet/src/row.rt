@@ -35,6 +35,7 @@ impl Row {
                     tells: Vec::new(alloc),
                 },
                 delayed: Delayed::None,
+                counts_predictors: false,
                 told: Told::Nothing,
                 tells_left: false,
             },

@@ -9,7 +9,7 @@ use std::{fs, io};
 /// The calls that a row may have made, in this order.
 #[derive(Clone, Copy, Drop)]
 pub enum Way {
-    /// `plain` with the same query, whose output is the one that is expected of the others.
+    /// `plain` with the same query, whose output is expected of the others, in front of what the row says.
     Plain,
     /// Without an instance, where the row's words leave their number open.
     Alone,
@@ -53,7 +53,9 @@ impl Row {
         came: Outcome,
     ) -> io::Result<bool> {
         if let Way::Plain = way {
-            self.expected.output = came.output;
+            let mut output = came.output;
+            output.extend_from_slice(&self.expected.output)?;
+            self.expected.output = output;
             return Ok(true);
         }
         let is_well = came == self.expected;

@@ -1,9 +1,8 @@
-// Calls of a store, of labels and of a tree, with ample memory.
+// Calls of a store and of labels, with ample memory.
 ghost use Rattle.std.specs.Prelude.{◌≡◌};
 
-use sp_group::{Label, Outcome, Refusal};
+use sp_group::{Label, Refusal};
 use sp_store::{PutFault, Store};
-use sp_tree::Tree;
 use std::alloc::Global;
 use std::process::Abort;
 use std::test::*;
@@ -49,28 +48,5 @@ fn change<R: Abort>(rt: &R, alloc: Global, label: Label) -> Result<(), Fail> {
     assert!(rt; matches!(label.runs(), [2, 3]));
     label.clear();
     assert!(rt; label.same(&Label::empty(alloc)));
-    Ok(())
-}
-
-// A root and a child of the empty label fill a tree of two; a third version is refused.
-#[test]
-fn a_tree_of_two_is_full_with_two(rt: HostRuntime) -> Result<(), Fail> {
-    let alloc = rt.alloc();
-    let mut tree = Tree::new(alloc, 2)?;
-    let Ok(root) = tree.add(alloc, None, Label::empty(alloc), 'a') else {
-        return Err("a root".into());
-    };
-    let Ok(child) = tree.add(alloc, Some(root), Label::empty(alloc), 'b') else {
-        return Err("a child".into());
-    };
-    assert!(rt; matches!(tree.walk(alloc)?.as_slice(), [1, 2]));
-    let third = tree.add(alloc, Some(child), Label::empty(alloc), 'c');
-    let Err(PutFault::Full { live, bound, value }) = third else {
-        return Err("a full tree".into());
-    };
-    assert!(rt; live == 2 && bound == 2 && value == 'c');
-    tree.open_group(alloc, root, 1)?;
-    assert!(rt; tree.decide(root, 1, Outcome::Completed) == 1);
-    assert!(rt; tree.child(root, &Label::empty(alloc)).is_none());
     Ok(())
 }

@@ -2,6 +2,7 @@
 //! describes them.
 #![tactic(auto)]
 
+mod counting;
 mod gates;
 mod hostile;
 mod program;

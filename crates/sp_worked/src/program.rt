@@ -1,7 +1,8 @@
 // The program and single calls, over objects in memory.
 ghost use Rattle.std.specs.Prelude.{◌≡◌, ◌<◌};
 
-use crate::gates::Delays;
+use crate::counting::Counts;
+use crate::gates::Gates;
 use crate::hostile::{Fickle, Greatest, Zero};
 use sp_base::limits::PIECE_LIMIT;
 use sp_calls::{answer, beginning_of, counts_of};
@@ -48,11 +49,26 @@ fn answered(alloc: Global, call: Call) -> Result<Outcome, AllocError> {
     })
 }
 
-// What the program leaves, whose runs may choose among these predictors.
+// What the program leaves.
 fn call_program<R: Threads + Wait + Sync>(
     threads: &R,
     alloc: Global,
     call: Call,
+) -> Result<Outcome, AllocError> {
+    let counts = Counts::new(alloc)?;
+    if call.counts_predictors {
+        call_counting(threads, alloc, call, &counts)
+    } else {
+        call_usual(threads, alloc, call, &counts)
+    }
+}
+
+// The same, whose runs may choose among these predictors.
+fn call_usual<R: Threads + Wait + Sync>(
+    threads: &R,
+    alloc: Global,
+    call: Call,
+    counts: &Counts,
 ) -> Result<Outcome, AllocError> {
     let mut predictors: Vec<Box<dyn Predictor>> = Vec::new(alloc);
     predictors.push(Box::new(alloc, Even::new())?)?;
@@ -61,23 +77,39 @@ fn call_program<R: Threads + Wait + Sync>(
     predictors.push(Box::new(alloc, Zero)?)?;
     predictors.push(Box::new(alloc, Greatest)?)?;
     predictors.push(Box::new(alloc, Fickle { learned: 0 })?)?;
-    call_with(threads, alloc, call, predictors)
+    call_with(threads, alloc, call, counts, predictors)
 }
 
-// The same with the predictors.
+// The same with one predictor of the name `other`, and two of the name `counting`.
+fn call_counting<R: Threads + Wait + Sync>(
+    threads: &R,
+    alloc: Global,
+    call: Call,
+    counts: &Counts,
+) -> Result<Outcome, AllocError> {
+    let mut predictors: Vec<Box<dyn Predictor>> = Vec::new(alloc);
+    predictors.push(Box::new(alloc, counts.other()?)?)?;
+    predictors.push(Box::new(alloc, counts.first()?)?)?;
+    predictors.push(Box::new(alloc, counts.later()?)?)?;
+    call_with(threads, alloc, call, counts, predictors)
+}
+
+// The same with the predictors, whose calls are counted there where they count.
 fn call_with<R: Threads + Wait + Sync>(
     threads: &R,
     alloc: Global,
     call: Call,
+    counts: &Counts,
     predictors: Vec<Box<dyn Predictor>>,
 ) -> Result<Outcome, AllocError> {
     let failing = call.failing;
+    let told = (call.told, call.counts_predictors);
     let tells_left = call.tells_left;
     let mut out = MemSink::new(alloc, failing.writes, ROOM)?;
     let mut err = MemSink::new(alloc, failing.tells, ROOM)?;
     let mut input = MemSource::new(call.input, call.piece.max(1), failing.reads);
     let mut files = MemFiles::new(call.files, failing.loads);
-    let gate = Delays::new(call.delayed);
+    let gate = Gates::new(call.delayed);
     let mut report = None;
     let status = spectre(
         threads,
@@ -91,13 +123,38 @@ fn call_with<R: Threads + Wait + Sync>(
         predictors,
         &mut report,
     );
-    let journal = journal_of(alloc, call.told, &report);
-    drop(report);
-    let mut came = outcome_of(alloc, status, &out, &err, journal?.as_str())?;
+    let behind = behind_of(alloc, told, report, gate.told(), counts);
+    let mut came = outcome_of(alloc, status, &out, &err, behind?.as_str())?;
     if tells_left {
         came.left = rest_of(alloc, &mut input)?;
     }
     Ok(came)
+}
+
+// What stands behind the output: what is told of a report's journal, the word of a gate, and of predictors that count.
+fn behind_of(
+    alloc: Global,
+    told: (Told, bool),
+    report: Option<Ended>,
+    met: &str,
+    counts: &Counts,
+) -> Result<String, AllocError> {
+    let (told, counts_predictors) = told;
+    let journal = journal_of(alloc, told, &report);
+    let kept = counts.kept();
+    drop(report);
+    let mut behind = journal?;
+    behind.push_str(met)?;
+    if counts_predictors {
+        behind.push_str(counted(alloc, counts, kept)?.as_str())?;
+    }
+    Ok(behind)
+}
+
+// What is told of predictors that count, of which so many were kept by a report, and the others since it is gone.
+fn counted(alloc: Global, counts: &Counts, kept: usize) -> Result<String, AllocError> {
+    let (called, taught, left) = (counts.called(), counts.taught(), counts.kept());
+    format!(in alloc; "called={called} taught={taught} kept={kept} left={left}\n")
 }
 
 // All that a source gives from here on.
