@@ -8,11 +8,12 @@ use Rattle.sp_plan.specs.declared.found.Match.{Match}
 use Rattle.sp_plan.specs.Windows.{windows}
 use Rattle.sp_plan.specs.Runs.{Run, State, used, state, matched_runs}
 use Rattle.sp_plan.specs.Sequential.{seq, match_of, visible, after_window}
-use Rattle.sp_match.specs.public.Matching.{Matching}
 use Rattle.sp_seq.specs.Marked.{IsMarked}
 use Rattle.sp_seq.specs.Unconsumed.{unconsumed}
 use Rattle.sp_seq.specs.Completed.{with_matches}
+use Rattle.sp_seq.specs.Learned.{AllKnown}
 use Rattle.sp_seq.specs.Spans.{IsSpan, IsSwept}
+use Rattle.sp_seq.specs.declared.sweep.Sweep.{Sweep}
 
 -- what the matches of runs use
 used_of_matches : (q : Plan) (window first : ℕ) (runs : List Run) → flat_map (λ (one : Match). one.used) (map (match_of q window) (enumerate_from first runs)) ≡ flat_map (used q) runs
@@ -45,7 +46,8 @@ swept_more q events count first end ms ms' flags flags' swept span matched marks
     } in
     subst (λ (n : ℕ). IsSwept q events n ms' flags') (sym one) next
 
--- all that holds from window to window: beside this the matcher has the plan
-pub record Sweeping (q : Plan) (events : List Event) (count : ℕ) (ms : List Match) (flags : List Bool) (m : Matching) : Type 0 where
-  pub swept : IsSwept q events count ms flags
-  pub plan_is : m.plan ≡ q
+-- all that holds from window to window
+pub record Sweeping (q : Plan) (events : List Event) (count : ℕ) (sweep : Sweep) : Type 0 where
+  pub swept : IsSwept q events count sweep.matches.items sweep.consumed.items
+  pub known : AllKnown q events sweep.known.items
+  pub plan_is : sweep.matcher.plan ≡ q

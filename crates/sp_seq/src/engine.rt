@@ -1,5 +1,5 @@
 // The windows one after another.
-ghost use Rattle.std.specs.Prelude.{◌≡◌, ◌≤◌, ◌<◌, length, drop, IfOk};
+ghost use Rattle.std.specs.Prelude.{◌≡◌, ◌≤◌, ◌<◌, length, IfOk, OnOk};
 ghost use Rattle.std.specs.Arc.{arc_value};
 ghost use Rattle.sp_base.specs.Limits.{event_limit};
 ghost use Rattle.sp_plan.specs.Compiled.{IsCompiled};
@@ -7,11 +7,11 @@ ghost use Rattle.sp_plan.specs.Events.{AllFit, NeverGoesBack};
 ghost use Rattle.sp_plan.specs.Sequential.{whole};
 ghost use Rattle.sp_plan.specs.Windows.{closed};
 ghost use Rattle.sp_window.specs.Standing.{Stands};
-ghost use Rattle.sp_seq.specs.Spans.{IsSpan};
+ghost use Rattle.sp_seq.specs.Learned.{AllKnown};
+ghost use Rattle.sp_seq.specs.Spans.{IsSpan, IsSwept};
 
-use crate::learning::learn;
-use crate::window::{Seats, Window, consume, match_window};
-use sp_match::{Matcher, Moves};
+use crate::sweep::Sweep;
+use crate::window::Window;
 use sp_plan::{Event, Match, Memory, Plan};
 use sp_window::Windows;
 use std::alloc::Global;
@@ -67,55 +67,31 @@ fn closed_window(windows: &Windows, events: &[Event], number: u32) -> Window
     }
 }
 
-// The matches behind so many.
-fn behind(matches: &[Match], count: usize) -> &[Match]
-    requires { count ≤ length matches.now }
-    ensures { result.now ≡ drop count matches.now }
-{
-    &matches[count..]
-}
-
-// The matches of the closed windows. The flags of the consumed events, what is known of each event, and the
-// matcher are made once for all windows.
+// Goes through the closed windows, of which none was gone through.
 fn match_windows(
     alloc: Global,
-    plan: Arc<Plan>,
+    plan: &Plan,
     windows: &Windows,
     events: &[Event],
-) -> Result<Vec<Match>, Memory>
-    requires compiled { IsCompiled (arc_value plan) }
-    requires plan { windows.now.plan ≡ arc_value plan }
+    sweep: &mut Sweep,
+) -> Result<(), Memory>
+    requires compiled { IsCompiled plan.now }
+    requires plan { windows.now.plan ≡ plan.now }
     requires stands { Stands windows.now events.now windows.now.ended }
     requires few { length events.now ≤ event_limit }
-    requires fit { AllFit (arc_value plan) events.now }
-    ensures { IfOk result
-        (λ matches. matches.items ≡ (whole (arc_value plan) events.now windows.now.ended).matches) }
+    requires fit { AllFit plan.now events.now }
+    requires swept { IsSwept plan.now events.now 0
+        sweep.old.matches.items sweep.old.consumed.items }
+    requires known { AllKnown plan.now events.now sweep.old.known.items }
+    requires matcher { sweep.old.matcher.plan ≡ plan.now }
+    ensures { OnOk result
+        (sweep.new.matches.items ≡ (whole plan.now events.now windows.now.ended).matches) }
 {
-    let mut matcher = Matcher::new(alloc, plan.clone()?)?;
-    let mut moves = Moves::new(alloc);
-    let mut known = Vec::with_capacity(alloc, events.len())?;
-    let mut consumed = vec![in alloc; false; events.len()]?;
-    let mut matches = Vec::new(alloc);
     for count in 0..windows.closed() {
-        let earlier = matches.len();
         let window = closed_window(windows, events, count + 1);
-        learn(alloc, &plan, events, window.first, window.end, &mut known)?;
-        let seats = Seats {
-            events,
-            known: &known,
-            consumed: &consumed,
-        };
-        match_window(
-            alloc,
-            &mut matcher,
-            &mut moves,
-            &seats,
-            window,
-            &mut matches,
-        )?;
-        consume(&mut consumed, behind(&matches, earlier));
+        sweep.add_window(alloc, plan, events, window)?;
     }
-    Ok(matches)
+    Ok(())
 }
 
 /// The matches of all windows that are closed, one window after another, each with its number from 1
@@ -136,5 +112,7 @@ pub fn plain(
         (λ matches. matches.items ≡ (whole (arc_value plan) events.now ended).matches) }
 {
     let windows = windows_of(alloc, plan.clone()?, events, ended)?;
-    match_windows(alloc, plan, &windows, events)
+    let mut sweep = Sweep::new(alloc, plan.clone()?, events)?;
+    match_windows(alloc, &plan, &windows, events, &mut sweep)?;
+    Ok(sweep.matches)
 }

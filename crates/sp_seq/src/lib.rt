@@ -6,6 +6,7 @@
 mod engine;
 mod found;
 mod learning;
+mod sweep;
 mod window;
 
 pub use engine::plain;
