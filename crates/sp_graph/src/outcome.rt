@@ -1,8 +1,9 @@
-ghost use Rattle.std.specs.Prelude.{◌≡◌, ◌≤◌, pos, length, map, string_bytes, unsigned_abs, IfOk, OnOk};
+ghost use Rattle.std.specs.Prelude.{◌≡◌, ◌≤◌, [], fold, pos, length, map, string_bytes, unsigned_abs, IfOk, OnOk};
 ghost use Rattle.std.specs.List.{All};
 ghost use Rattle.sp_base.specs.Limits.{event_limit};
 ghost use Rattle.sp_plan.specs.Bounds.{IsSmall, AllSmall, StaysWithin};
 ghost use Rattle.sp_plan.specs.Events.{AllFit, NeverGoesBack};
+ghost use Rattle.sp_plan.specs.Texts.{with_text};
 ghost use Rattle.sp_graph.specs.Derived.{derived, given, nothing, text_at, value_of};
 ghost use Rattle.sp_graph.specs.Answers.{IsDerived, IsMade, IsPlaced, events_in};
 ghost use Rattle.sp_graph.specs.Tables.{IsTable};
@@ -10,7 +11,7 @@ ghost use Rattle.sp_graph.specs.Tables.{IsTable};
 use crate::bind::bind_last;
 use crate::table::Table;
 use sp_base::limits::{EVENT_LIMIT, NUMBER_LIMIT};
-use sp_plan::{Bound, Column, Event, Expr, Kind, Match, Memory, Plan, Value, Values, value};
+use sp_plan::{Bound, Event, Expr, Kind, Match, Memory, Plan, Value, Values, value};
 use std::alloc::Global;
 
 /// The events that the matches of a query give.
@@ -23,13 +24,14 @@ pub enum Derived {
     UpTo { events: Vec<Event>, limit: u64 },
 }
 
-// What gives the event of a match: the columns of the second query, an expression for each, and the texts of
-// the first input by their numbers.
+// What gives the event of a match: the events of the first input and its texts by their numbers, the second
+// query, and an expression for each of its columns.
 #[derive(Drop)]
 struct Layout<'a> {
-    columns: &'a [Column],
-    returns: &'a [Expr],
+    events: &'a [Event],
     texts: &'a [String],
+    second: &'a Plan,
+    returns: &'a [Expr],
 }
 
 // The place of the text that has this number. A number that none has is a place behind all.
@@ -74,18 +76,20 @@ fn event_of(
     bound: &Bound,
     table: &mut Table,
 ) -> Result<Option<Event>, Memory>
-    requires count { length layout.now.returns.now ≡ length layout.now.columns.now }
+    requires count { length layout.now.returns.now ≡ length layout.now.second.now.schema.columns }
     requires within { All StaysWithin layout.now.returns.now }
     requires none { none.now ≡ nothing }
     requires small { AllSmall bound.now }
     requires table { IsTable (map string_bytes layout.now.texts.now) table.old }
     ensures event { IfOk result (λ event. IsMade (map string_bytes layout.now.texts.now)
-        table.old.known (given layout.now.columns.now layout.now.returns.now bound.now)
+        table.old.known
+        (given layout.now.second.now.schema.columns layout.now.returns.now bound.now)
         event table.new.known) }
     ensures table { OnOk result (IsTable (map string_bytes layout.now.texts.now) table.new) }
 {
-    let mut values = Values::with_capacity(alloc, layout.columns.len())?;
-    for (place, column) in layout.columns.iter().enumerate() {
+    let columns = layout.second.schema.columns.as_slice();
+    let mut values = Values::with_capacity(alloc, columns.len())?;
+    for (place, column) in columns.iter().enumerate() {
         let number = value(&layout.returns[place], none, bound);
         let Some(own) = place_value(alloc, layout.texts, column.kind, number, table)? else {
             return Ok(None);
@@ -93,6 +97,73 @@ fn event_of(
         values.push(own)?;
     }
     Ok(Some(Event { time: 0, values }))
+}
+
+// What goes from match to match beside the events: the texts of the second input, and what is made once.
+#[derive(Drop)]
+struct Carried {
+    table: Table,
+    // what the match at hand binds
+    bound: Bound,
+    // stands for the event at hand, of which there is none
+    none: Event,
+}
+
+impl Carried {
+    // No match was taken.
+    fn new(alloc: Global, layout: &Layout<'_>) -> Result<Carried, Memory>
+        ensures known { IfOk result
+            (λ carried. carried.table.known ≡ fold with_text [] layout.now.second.now.texts) }
+        ensures table { IfOk result
+            (λ carried. IsTable (map string_bytes layout.now.texts.now) carried.table) }
+        ensures none { IfOk result (λ carried. carried.none ≡ nothing) }
+    {
+        let second = layout.second.texts.as_slice();
+        Ok(Carried {
+            table: Table::new(alloc, layout.texts.len(), second)?,
+            bound: Bound::new(alloc),
+            none: Event {
+                time: 0,
+                values: Values::with_capacity(alloc, 0)?,
+            },
+        })
+    }
+}
+
+// Adds the events of these matches, the first ones, up to one that passes a limit, which is told then.
+fn take_matches(
+    alloc: Global,
+    layout: &Layout<'_>,
+    matches: &[Match],
+    carried: &mut Carried,
+    own: &mut Vec<Event>,
+) -> Result<Option<u64>, Memory>
+    requires count { length layout.now.returns.now ≡ length layout.now.second.now.schema.columns }
+    requires within { All StaysWithin layout.now.returns.now }
+    requires small { All IsSmall layout.now.events.now }
+    requires known { carried.old.table.known ≡ fold with_text [] layout.now.second.now.texts }
+    requires table { IsTable (map string_bytes layout.now.texts.now) carried.old.table }
+    requires none { carried.old.none ≡ nothing }
+    requires first { own.old.items ≡ [] }
+    ensures limit { IfOk result (λ limit. limit
+        ≡ (derived layout.now.returns.now layout.now.events.now
+        (map string_bytes layout.now.texts.now) layout.now.second.now matches.now).limit) }
+    ensures events { OnOk result (own.new.items
+        ≡ (derived layout.now.returns.now layout.now.events.now
+        (map string_bytes layout.now.texts.now) layout.now.second.now matches.now).events) }
+{
+    for found in matches {
+        bind_last(alloc, layout.events, found, &mut carried.bound)?;
+        let table = &mut carried.table;
+        let Some(event) = event_of(alloc, layout, &carried.none, &carried.bound, table)? else {
+            return Ok(Some(NUMBER_LIMIT));
+        };
+        if own.len() == EVENT_LIMIT as usize {
+            return Ok(Some(u64::from(EVENT_LIMIT)));
+        }
+        own.push(event)?;
+    }
+    Ok(None)
 }
 
 /// The events that the matches of one query give to a second, one a match, at time 0: for each column of the
@@ -118,32 +189,18 @@ pub fn derive(
     ensures order { IfOk result (λ own. NeverGoesBack (events_in own)) }
 {
     let layout = Layout {
-        columns: second.schema.columns.as_slice(),
-        returns,
+        events,
         texts,
+        second,
+        returns,
     };
-    let none = Event {
-        time: 0,
-        values: Values::with_capacity(alloc, 0)?,
-    };
-    let mut table = Table::new(alloc, texts.len(), second.texts.as_slice())?;
-    let mut bound = Bound::new(alloc);
     let mut own = Vec::with_capacity(alloc, matches.len().min(EVENT_LIMIT as usize))?;
-    for found in matches {
-        bind_last(alloc, events, found, &mut bound)?;
-        let Some(event) = event_of(alloc, &layout, &none, &bound, &mut table)? else {
-            return Ok(Derived::UpTo {
-                events: own,
-                limit: NUMBER_LIMIT,
-            });
-        };
-        if own.len() == EVENT_LIMIT as usize {
-            return Ok(Derived::UpTo {
-                events: own,
-                limit: u64::from(EVENT_LIMIT),
-            });
-        }
-        own.push(event)?;
+    let passed = {
+        let mut carried = Carried::new(alloc, &layout)?;
+        take_matches(alloc, &layout, matches, &mut carried, &mut own)
+    };
+    match passed? {
+        Some(limit) => Ok(Derived::UpTo { events: own, limit }),
+        None => Ok(Derived::All(own)),
     }
-    Ok(Derived::All(own))
 }

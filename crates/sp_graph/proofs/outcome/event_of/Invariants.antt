@@ -7,6 +7,6 @@ use Rattle.sp_graph.proofs.outcome.event_of.Given as goal
 abbrev pub invariant-loop-place : goal.invariant-loop-place
 invariant-loop-place l = record {
   table : IsTable (map string_bytes l.layout.texts.now) l.table;
-  within : list_any is_past (take l.place (given l.layout.columns.now l.layout.returns.now l.bound)) ≡ false;
-  values : (l.values, l.table.known) ≡ renumbered (map string_bytes l.layout.texts.now) l.initial.table.known (take l.place (given l.layout.columns.now l.layout.returns.now l.bound));
+  within : list_any is_past (take l.place (given l.columns l.layout.returns.now l.bound)) ≡ false;
+  values : (l.values, l.table.known) ≡ renumbered (map string_bytes l.layout.texts.now) l.initial.table.known (take l.place (given l.columns l.layout.returns.now l.bound));
 }
