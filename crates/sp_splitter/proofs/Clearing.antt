@@ -28,8 +28,8 @@ use Rattle.sp_splitter.specs.Knowing.{Known}
 use Rattle.sp_splitter.specs.Keeping.{Clears}
 use Rattle.sp_splitter.specs.Lending.{returned_all}
 use Rattle.sp_splitter.specs.Splitting.{RiseBetween, IsBelowKept}
-use Rattle.sp_splitter.specs.Stages.{Went}
-use Rattle.sp_splitter.proofs.Stepping.{back_done, goes_back, goes_then, went_back, within_itself, within_then}
+use Rattle.sp_splitter.specs.Stages.{NoneEmitted, NoneRead, Went}
+use Rattle.sp_splitter.proofs.Stepping.{back_done, goes_back, goes_then, none_emitted_back, none_read_back, went_back, within_itself, within_then}
 use Rattle.sp_splitter.proofs.Untouched.{kept_itself, kept_then, kept_stale, stale_effect, stale_refusal, went_kept}
 
 none_without : (n k : ℕ) (ts : List Ticket) → ticket_at ts k ≡ None → ticket_at (without n ts) k ≡ None
@@ -106,13 +106,6 @@ stale_ended old new p id (t, out, is, gone, same) =
     let stale : IsStale old.machine p.job.ticket = record { ticket = t; out = out; gone = ap (version_at old.machine.versions) is ∙ gone } in
     ap (λ (ts : List Ticket). ticket_at ts p.job.ticket) (stale_tickets p.job.ticket old new stale same) ∙ not_within p.job.ticket old.machine.tickets
 
-pub ended_given : (old new : Running) (p : Pieced) (given : Given) (id : ℕ) → given ≡ g.Stale id → IsGiven old new p given
-    → ticket_at new.machine.tickets p.job.ticket ≡ None
-ended_given old new p given id stale is = stale_ended old new p id (subst (λ (z : Given). IsGiven old new p z) stale is)
-
-pub clears_given : (old new : Running) (p : Pieced) (given : Given) (id : ℕ) → given ≡ g.Stale id → Known old → IsGiven old new p given → Clears old new
-clears_given old new p given id stale known is = stale_given old new p id known (subst (λ (z : Given). IsGiven old new p z) stale is)
-
 -- a piece whose ticket is not out changes nothing
 none_given : (old new : Running) (p : Pieced) (n : ℕ) → IsGiven old new p (g.NotOut n) → Clears old new
 none_given old new p n (is, out, same) = clears_none old new same
@@ -121,20 +114,9 @@ none_ended : (old new : Running) (p : Pieced) (n : ℕ) → IsGiven old new p (g
 none_ended old new p n (is, out, same) =
     ap (λ (z : Running). ticket_at z.machine.tickets p.job.ticket) same ∙ ap (ticket_at old.machine.tickets) (sym is) ∙ out
 
-pub ended_not_out : (old new : Running) (p : Pieced) (given : Given) (n : ℕ) → given ≡ g.NotOut n → IsGiven old new p given
-    → ticket_at new.machine.tickets p.job.ticket ≡ None
-ended_not_out old new p given n not_out is = none_ended old new p n (subst (λ (z : Given). IsGiven old new p z) not_out is)
-
-pub clears_not_out : (old new : Running) (p : Pieced) (given : Given) (n : ℕ) → given ≡ g.NotOut n → IsGiven old new p given → Clears old new
-clears_not_out old new p given n not_out is = none_given old new p n (subst (λ (z : Given). IsGiven old new p z) not_out is)
-
 -- the return of a piece that is not what was lent
 differs_given : (old new : Running) (p : Pieced) (lent : Lent) (back : Pieced) → IsGiven old new p (g.Differs lent back) → IsDone (s.Return p.job.ticket) old new
 differs_given old new p lent back (t, v, out, differs, is, same, done, left) = back_done p.job.ticket t old new out.out done
-
-pub back_given : (old new : Running) (p : Pieced) (given : Given) (lent : Lent) (back : Pieced) → given ≡ g.Differs lent back → IsGiven old new p given
-    → IsDone (s.Return p.job.ticket) old new
-back_given old new p given lent back differs is = differs_given old new p lent back (subst (λ (z : Given). IsGiven old new p z) differs is)
 
 next_home : (q : Plan) (m : Machine) (n : ℕ) (t : Ticket) (o : Option Version) → (home q m n t o).next_ticket ≡ m.next_ticket
 next_home q m n t None = refl
@@ -145,7 +127,7 @@ next_returned q m n None = refl
 next_returned q m n (Some t) = next_home q m n t (version_at m.versions t.version)
 
 -- a return gives no ticket
-pub next_back : (n : ℕ) (old new : Running) → IsDone (s.Return n) old new → new.machine.next_ticket ≡ old.machine.next_ticket
+next_back : (n : ℕ) (old new : Running) → IsDone (s.Return n) old new → new.machine.next_ticket ≡ old.machine.next_ticket
 next_back n old new done =
     ap (λ (z : Running). z.machine.next_ticket) done.1 ∙ next_returned old.plan old.machine n (ticket_at old.machine.tickets n)
 
@@ -153,6 +135,51 @@ next_back n old new done =
 pub went_clears : (n batch : ℕ) (old new : Running) → Clears old new → Went n batch old new
 went_clears n batch old new clears = went_kept n batch old new clears.keeps (λ spreading. (clears.goes n spreading).spread) (λ few. subst (λ (z : ℕ). z ≤ n + 1) (sym clears.out) few)
     (clears.within n batch)
+
+-- a piece was given back, and nothing that was read came home
+pub record Unread (old new : Running) : Type 0 where
+  pub went : (n batch : ℕ) → Went n batch old new
+  pub emitted : NoneEmitted old new
+  pub read : NoneRead old new
+  pub next : new.machine.next_ticket ≡ old.machine.next_ticket
+
+unread_clears : (old new : Running) → Clears old new → Unread old new
+unread_clears old new clears = record {
+  went = λ n batch. went_clears n batch old new clears;
+  emitted = clears.keeps.emitted;
+  read = clears.keeps.read;
+  next = clears.next_ticket;
+}
+
+unread_back : (n : ℕ) (old new : Running) → Known old → IsDone (s.Return n) old new → Unread old new
+unread_back n old new known done = record {
+  went = λ m batch. went_back m batch n old new known done;
+  emitted = none_emitted_back n old new done;
+  read = none_read_back n old new done;
+  next = next_back n old new done;
+}
+
+-- none comes home whose version is gone
+not_home : (old new : Running) (p : Pieced) → version_at old.machine.versions p.job.version ≡ None → ¬ IsGiven old new p g.Home
+not_home old new p gone (t, v, out, carries, is, taken) =
+    let live = sym (ap (version_at old.machine.versions) carries.version ∙ out.live) ∙ gone in cc
+
+-- what is given back of a version that is gone
+pub unread_given : (old new : Running) (p : Pieced) (given : Given) → Known old → version_at old.machine.versions p.job.version ≡ None → IsGiven old new p given
+    → Unread old new
+unread_given old new p g.Home known gone is = absurd (not_home old new p gone is)
+unread_given old new p (g.Stale id) known gone is = unread_clears old new (stale_given old new p id known is)
+unread_given old new p (g.NotOut n) known gone is = unread_clears old new (none_given old new p n is)
+unread_given old new p (g.Differs lent back) known gone is = unread_back p.job.ticket old new known (differs_given old new p lent back is)
+
+-- and where it is what was lent
+pub clears_given : (old new : Running) (p : Pieced) (given : Given) → Known old → version_at old.machine.versions p.job.version ≡ None
+    → ((lent : Lent) (back : Pieced) → ¬ (given ≡ g.Differs lent back)) → IsGiven old new p given
+    → Clears old new × (ticket_at new.machine.tickets p.job.ticket ≡ None)
+clears_given old new p g.Home known gone same is = absurd (not_home old new p gone is)
+clears_given old new p (g.Stale id) known gone same is = (stale_given old new p id known is, stale_ended old new p id is)
+clears_given old new p (g.NotOut n) known gone same is = (none_given old new p n is, none_ended old new p n is)
+clears_given old new p (g.Differs lent back) known gone same is = absurd (same lent back refl)
 
 dropped_at : {X : Type 0} (n : ℕ) (ys : List X) → n < length ys → drop n (remove ys n) ≡ drop (suc n) ys
 dropped_at zero [] below = absurd (omega arith)

@@ -32,15 +32,11 @@ fn give_back_unread<B: Lending>(
     ensures ended { OnOk result (ticket_at core.new.machine.tickets job.ticket ≡ None) }
 {
     law::known(core);
-    match core.give_back(alloc, Reading::start(job)) {
-        Ok(Given::Stale { .. }) => Ok(()),
-        Ok(Given::NotOut { .. }) => Ok(()),
-        // A job carries the version of its ticket, so none that is not live can come home.
-        Ok(Given::Home) => unreachable!(),
-        // No lease makes such a job.
-        Ok(Given::Differs { .. }) => Err(AllocError),
-        Err(_) => Err(AllocError),
-    }
+    let given = core.give_back(alloc, Reading::start(job))?;
+    // No lease makes a job that differs.
+    let differs = matches!(given, Given::Differs { .. });
+    drop(given);
+    if differs { Err(AllocError) } else { Ok(()) }
 }
 
 /// Gives back, unread, each kept job whose version is gone.

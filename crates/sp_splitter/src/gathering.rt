@@ -45,11 +45,8 @@ fn give_back<B: Lending>(
 {
     law::known(core);
     let short = piece.piece().short();
-    match core.give_back(alloc, piece) {
-        Ok(_) if short => Err(AllocError),
-        Ok(_) => Ok(()),
-        Err(_) => Err(AllocError),
-    }
+    drop(core.give_back(alloc, piece)?);
+    if short { Err(AllocError) } else { Ok(()) }
 }
 
 /// Collects every piece that is home and gives it back. What came home is learned from, in its order. Answers how much
