@@ -346,6 +346,8 @@ impl Core {
     {
         let ticket = piece.job().ticket;
         let Some(place) = self.place_of(ticket) else {
+            // By a call, since a proof has each part of what is let go at a way out.
+            drop(piece);
             return Ok(Given::NotOut { ticket });
         };
         let version = self.tickets[place].version;
@@ -354,13 +356,14 @@ impl Core {
             return Ok(Given::Home);
         }
         let live = self.tree.get(version).is_some();
-        match self.end_ticket(ticket) {
-            Ok(lent) if live => Ok(Given::Differs { lent, piece }),
-            Ok(_) => {
-                self.retire(piece);
-                Ok(Given::Stale { version })
-            }
-            Err(AllocError) => Err(piece),
+        let Ok(lent) = self.end_ticket(ticket) else {
+            return Err(piece);
+        };
+        if live {
+            return Ok(Given::Differs { lent, piece });
         }
+        drop(lent);
+        self.retire(piece);
+        Ok(Given::Stale { version })
     }
 }

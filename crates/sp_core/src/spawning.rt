@@ -1,7 +1,8 @@
 // Fresh versions: a root, or a child under a guess.
-ghost use Rattle.std.specs.Prelude.{◌≡◌, ◌+◌, None, Some, not, find, IfOk, IfErr, OnOk, OnErr};
+ghost use Rattle.std.specs.Prelude.{◌≡◌, ◌+◌, ◌<◌, None, Some, not, find, length, IfOk, IfErr, OnOk, OnErr};
 ghost use Rattle.sp_base.specs.Numbers.{is_among};
 ghost use Rattle.sp_group.specs.declared.step.Step.TheVariants as s;
+ghost use Rattle.sp_tree.specs.Grown.{CanStand, with_child};
 ghost use Rattle.sp_core.specs.Faults.{IsFault};
 ghost use Rattle.sp_core.specs.Running.{IsDone, after, refused};
 ghost use Rattle.sp_core.specs.Spawning.{spawned_window};
@@ -9,6 +10,7 @@ ghost use Rattle.sp_core.specs.Spawning.{spawned_window};
 use crate::rooms::{enter, make_room};
 use crate::{Core, CoreFault, Memory, law};
 use sp_group::{Label, Refusal, Step};
+use sp_tree::Tree;
 use sp_version::Version;
 use std::alloc::{AllocError, Global};
 
@@ -24,6 +26,35 @@ fn first_not_open(groups: &[u32], label: &[u32]) -> Option<u32>
     ensures { result ≡ find (λ run. not (is_among groups.now run)) label.now }
 {
     label.iter().find(|run| !is_open(groups, **run)).copied()
+}
+
+// Puts a version under a parent, and answers its id, and its label once more. One that isn't taken in is let go.
+fn plant(
+    alloc: Global,
+    tree: &mut Tree<Version>,
+    parent: Option<u64>,
+    label: Label,
+    version: Version,
+) -> Result<(u64, Label), Memory>
+    requires next { tree.old.next < 18446744073709551615 }
+    requires stands { CanStand tree.old parent label }
+    ensures id { IfOk result (λ pair. pair.0 ≡ tree.old.next) }
+    ensures label { IfOk result (λ pair. pair.1 ≡ label) }
+    ensures room { OnOk result (length tree.old.entries < tree.old.bound) }
+    ensures added { OnOk result (tree.new ≡ with_child tree.old parent label version) }
+    ensures err { OnErr result (tree.new ≡ tree.old) }
+{
+    let Ok(copy) = label.copy(alloc) else {
+        drop(version);
+        return Err(AllocError);
+    };
+    match tree.add(alloc, parent, label, version) {
+        Ok(id) => Ok((id, copy)),
+        Err(fault) => {
+            drop(fault);
+            Err(AllocError)
+        }
+    }
 }
 
 impl Core {
@@ -101,14 +132,10 @@ impl Core {
         let Some(place) = self.windows.get(window) else {
             unreachable!()
         };
-        let entered = label.copy(alloc)?;
         make_room(&mut self.journal, self.tree.live())?;
         let plan = self.plan.clone()?;
         let version = Version::new(alloc, plan, window, place.first, &mut self.spares)?;
-        let Ok(id) = self.tree.add(alloc, parent, label, version) else {
-            return Err(AllocError);
-        };
-        let label = entered;
+        let (id, label) = plant(alloc, &mut self.tree, parent, label, version)?;
         enter(&mut self.journal, Step::Spawn { parent, label }, 1);
         Ok(id)
     }

@@ -1,4 +1,4 @@
-use Rattle.std.proofs.Common.{◌≡◌, sym, subst, ◌∙◌}
+use Rattle.std.proofs.Common.{◌≡◌, sym, subst}
 use Rattle.std.specs.Prelude.{OnOk, OnErr}
 use Rattle.sp_piece.specs.Pieced.{Pieced}
 use Rattle.sp_core.specs.Returning.{CanComeHome, IsHome}

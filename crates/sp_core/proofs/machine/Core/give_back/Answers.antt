@@ -20,8 +20,8 @@ index-requires c =
     let few = place_within h.tickets c.in-Some.place at.0 at.1 in
     omega arith
 
-pub returns-in-Ok-clause-given : goal.returns-in-Ok-clause-given
-returns-in-Ok-clause-given c =
+pub returns-then-live-clause-given : goal.returns-then-live-clause-given
+returns-then-live-clause-given c =
     let h = holding c.self.inside in
     let at = subst (λ (r : Running). IsPlaceOf r.machine.tickets c.args.piece.job.ticket c.in-Some.place) (sym c.self.view_is)
     (subst (λ (job : Job). IsPlaceOf c.args.self.now.machine.tickets job.ticket c.in-Some.place) c.job.ensures c.in-Some.ensures.some) in
@@ -36,16 +36,16 @@ returns-in-Ok-clause-given c =
     differs c.args.self.now c.end_ticket.new.self c.args.piece c.in-Ok.lent d.version is (same_version c.in-Ok.lent d _ is out) new left live
     (λ carried. let yes = c.is_carried.ensures.1 (subst (IsCarried c.args.self.now) (sym c.job-2.ensures) carried) in let not = c.if-is_carried.false in cc)
 
-pub returns-in-Ok-2-clause-given : goal.returns-in-Ok-2-clause-given
-returns-in-Ok-2-clause-given c =
+pub returns-clause-given : goal.returns-clause-given
+returns-clause-given c =
     let h = holding c.self.inside in
     let at = subst (λ (r : Running). IsPlaceOf r.machine.tickets c.args.piece.job.ticket c.in-Some.place) (sym c.self.view_is)
     (subst (λ (job : Job). IsPlaceOf c.args.self.now.machine.tickets job.ticket c.in-Some.place) c.job.ensures c.in-Some.ensures.some) in
     let d = c.index.result.now in
     let out = subst (λ (r : Running). ticket_at r.machine.tickets c.args.piece.job.ticket ≡ Some (ticket_of d)) c.self.view_is
     (out_there h.tickets c.args.piece.job.ticket c.in-Some.place d at c.index.ensures) in
-    let is = subst (λ (job : Job). ticket_at c.args.self.now.machine.tickets job.ticket ≡ Some (ticket_of c.in-Ok-2.field-0)) c.job.ensures c.in-Ok-2.ensures.lent in
-    let new = subst (λ (job : Job). c.end_ticket.new.self ≡ after c.args.self.now (s.Return job.ticket)) c.job.ensures c.in-Ok-2.ensures.ok in
+    let is = subst (λ (job : Job). ticket_at c.args.self.now.machine.tickets job.ticket ≡ Some (ticket_of c.in-Ok.lent)) c.job.ensures c.in-Ok.ensures.lent in
+    let new = subst (λ (job : Job). c.end_ticket.new.self ≡ after c.args.self.now (s.Return job.ticket)) c.job.ensures c.in-Ok.ensures.ok in
     let live = subst (λ (r : Running). is_some (version_at r.machine.versions d.version) ≡ false) c.self.view_is
     (live_where_got h.tree.entries d.version c.get.result c.get.ensures ∙ sym c.is_some-live.ensures ∙ c.if-live.false) in
-    stale c.args.self.now c.retire.new.self c.args.piece c.in-Ok-2.field-0 d.version is (same_version c.in-Ok-2.field-0 d _ is out) (c.retire.ensures ∙ new) live
+    stale c.args.self.now c.retire.new.self c.args.piece c.in-Ok.lent d.version is (same_version c.in-Ok.lent d _ is out) (c.retire.ensures ∙ new) live

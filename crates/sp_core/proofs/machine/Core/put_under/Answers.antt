@@ -14,8 +14,8 @@ use Rattle.sp_core.proofs.Owed.{room_for}
 use Rattle.sp_core.proofs.Fresh.{IsFresh, passes, core_with, entry_of, opens, spawn_does, with_fresh}
 use Rattle.sp_core.proofs.machine.Core.put_under.Goals as goal
 
-pub add-requires-clause-stands : goal.add-requires-clause-stands
-add-requires-clause-stands c =
+pub plant-requires-clause-stands : goal.plant-requires-clause-stands
+plant-requires-clause-stands c =
     let h = holding c.self.inside in
     let is : refused (running h) (s.Spawn c.args.parent c.args.label) ≡ None =
     subst (λ (x : Running). refused x (s.Spawn c.args.parent c.args.label) ≡ None) (sym c.self.view_is) c.requires.passes in
@@ -66,8 +66,8 @@ invariant_of-self-2 c =
     let label : IsLabel c.args.label = subst IsLabel c.label.view_is c.label.invariant in
     let owed = room_for h.ended (entry_of h.tree.next c.args.parent c.args.label v ∷ h.tree.entries) c.live.result _ _ (let live = c.live.ensures.live in omega arith)
     c.in_ok-make_room.ensures.ok c.enter.ensures.kept in
-    subst (λ (t : Grown Version). IsCore (record h { tree = t; journal = c.enter.new.journal.items; journal_room = room c.enter.new.journal })) (sym c.in-Ok.ensures.added)
-    (core_with h c.args.parent c.args.label v c.enter.new.journal.items (room c.enter.new.journal) i (reached c.every_schedule.ensures h i) is label f c.in-Ok.ensures.room entered owed)
+    subst (λ (t : Grown Version). IsCore (record h { tree = t; journal = c.enter.new.journal.items; journal_room = room c.enter.new.journal })) (sym c.in_ok-id.ensures.added)
+    (core_with h c.args.parent c.args.label v c.enter.new.journal.items (room c.enter.new.journal) i (reached c.every_schedule.ensures h i) is label f c.in_ok-id.ensures.room entered owed)
 
 pub returns-clause-ok : goal.returns-clause-ok
 returns-clause-ok c =
@@ -101,5 +101,5 @@ returns-clause-ok c =
     let does = spawn_does h c.args.parent c.args.label v c.enter.new.journal.items (room c.enter.new.journal) pass f in
     let done : running (with_fresh h c.args.parent c.args.label v c.enter.new.journal.items (room c.enter.new.journal)) ≡ after (running h) (s.Spawn c.args.parent c.args.label) =
     λ j. record { plan = h.plan; bound = h.tree.bound; machine = does j; journal = entered j } in
-    ap (λ (t : Grown Version). running (record h { tree = t; journal = c.enter.new.journal.items; journal_room = room c.enter.new.journal })) c.in-Ok.ensures.added
+    ap (λ (t : Grown Version). running (record h { tree = t; journal = c.enter.new.journal.items; journal_room = room c.enter.new.journal })) c.in_ok-id.ensures.added
     ∙ done ∙ ap (λ (x : Running). after x (s.Spawn c.args.parent c.args.label)) c.self.view_is
