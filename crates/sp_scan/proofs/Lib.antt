@@ -1,4 +1,5 @@
 mod JoinedLists
+mod BelowAll
 mod Picked
 mod Searching
 mod NamedElements

@@ -39,6 +39,19 @@ fn have_one(pairs: &[(u8, u32)], numbers: &Numbers) -> bool
     pairs.iter().any(|pair| numbers.has(pair.1))
 }
 
+// The same of pairs whose numbers rise: those below all of the numbers aren't looked at.
+fn hold_one(pairs: &[(u8, u32)], numbers: &Numbers) -> bool
+    requires { AllPairs (λ m n. m < n) (map (λ pair. pair.1) pairs.now) }
+    ensures { result ≡ list_any (λ pair. is_among numbers.now.list pair.1) pairs.now }
+{
+    let Some(least) = numbers.list().first() else {
+        return false;
+    };
+    let below = pairs.partition_point(|pair| pair.1 < *least);
+    let (_, rest) = pairs.split_at(below);
+    have_one(rest, numbers)
+}
+
 // The numbers of the pairs of a name.
 fn under(alloc: Global, pairs: &[(u8, u32)], name: u8) -> Result<Numbers, Memory>
     requires { AllPairs (λ m n. m < n) (map (λ pair. pair.1) pairs.now) }
@@ -133,7 +146,7 @@ impl Pairs {
     pub(crate) fn hold_one(&self, numbers: &Numbers) -> bool
         ensures { result ≡ holds_one numbers.now.list self.now }
     {
-        have_one(&self.pairs, numbers)
+        hold_one(&self.pairs, numbers)
     }
 
     // The numbers of the events bound to the name.

@@ -12,4 +12,4 @@ returns c =
     let es = c.self.inside.events in
     let ns = c.args.numbers.now.list in
     let test = λ (p : ℕ × ℕ). is_among ns p.1 in
-    c.have_one.ensures ∙ ap (list_any test) c.deref.ensures.value ∙ ap (list_any test) (sym (keys_joined ps es c.self.invariant.same_names)) ∙ any_key test (joined ps es) ∙ ap (holds_one ns) c.self.view_is
+    c.hold_one.ensures ∙ ap (list_any test) c.deref.ensures.value ∙ ap (list_any test) (sym (keys_joined ps es c.self.invariant.same_names)) ∙ any_key test (joined ps es) ∙ ap (holds_one ns) c.self.view_is
